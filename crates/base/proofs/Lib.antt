@@ -1,0 +1,5 @@
+pub mod Bools
+pub mod Counts
+pub mod Smallest
+pub mod Ranks
+pub mod Puts

@@ -1,0 +1,4 @@
+pub mod Pick
+pub mod Sets
+pub mod Put
+pub mod Limits

@@ -1,0 +1,6 @@
+pub mod Walk
+pub mod Edges
+pub mod Component
+pub mod Growth
+pub mod Passes
+pub mod Path
