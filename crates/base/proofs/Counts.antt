@@ -171,3 +171,9 @@ count-full n f l i k = go (T-dec (f i))
     go : Dec (T (f i)) → T (f i)
     go (yes p) = p
     go (no d) = absurd (omega (arith, count-lt n f (λ _. true) (λ _ _ _. tt) i k tt (not-T (f i) d), count-le n (λ _. true)))
+
+-- a set that falls into two
+pub count-sum : (n : ℕ) (f g h : Set) → ((i : ℕ) → i < n → bit (h i) ≡ bit (f i) + bit (g i)) → count n h ≡ count n f + count n g
+unfolding count
+count-sum zero f g h e = refl
+count-sum (suc n) f g h e = omega (arith, e n (le-refl (suc n)), count-sum n f g h (λ i l. e i (omega arith)))

@@ -3,3 +3,4 @@ pub mod Counts
 pub mod Smallest
 pub mod Ranks
 pub mod Puts
+pub mod Parts

@@ -48,3 +48,7 @@ maxPosition = 65535
 -- "sender (0 to 15)" of a taken message's record
 abbrev pub maxSender : ℕ
 maxSender = 15
+
+-- "An agreement number (0 to 4,294,967,295)"
+abbrev pub maxNumber : ℕ
+maxNumber = 4294967295

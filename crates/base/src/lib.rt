@@ -14,6 +14,12 @@ pub const MAX_WIDTH: u32 = 65535;
 // The largest reading, in offset binary.
 pub const MAX_READING: u32 = 4294967295;
 
+// The largest position of a start's record, and the largest sender of a taken message's.
+pub const MAX_POSITION: u32 = 65535;
+
+pub const MAX_SENDER: u32 = 15;
+// The highest level at which messages are sent.
+pub const LAST_LEVEL: u32 = 14;
 // The levels that can be entered: those that send messages, and a last one.
 pub const LEVELS: usize = 16;
 // The most rules that a party applies in its life.

@@ -2,6 +2,7 @@ pub mod Walks
 pub mod Edges
 pub mod Without
 pub mod Labels
+pub mod Relabel
 pub mod Acyclic
 pub mod Components
 pub mod Whole

@@ -1,0 +1,286 @@
+// Messages: varints of agreement number, level, kind and value.
+ghost use mathlib.Core.Path.{_≡_};
+ghost use mathlib.Core.List.{_++_};
+ghost use Prim.Native.Nat.{_+_, _≤_, _<_};
+ghost use mathlib.Core.Bool.{Bool, true, false};
+ghost use lib.ListN.{length};
+ghost use Rattle.base.specs.Put.{putAt};
+ghost use Rattle.varint.specs.Varint.{varintWithin};
+ghost use Rattle.message.specs.Message.{lastLevel, bodyOf, bodyAt, withBody, withKind, withLevel, messageAt, exactMessage, kindOf, valueOf, valueLow, valueHigh, valueBytes, messageBytes, inTable, bodyInTable, writeAnswer, writeBuffer};
+
+// The largest value of a side or a port.
+pub const MAX_SIDE: u32 = 15;
+// The value that stands for none.
+pub const NONE: u32 = 16;
+
+pub enum Body {
+    FirstEcho(u8),
+    FirstProposal(u8),
+    SecondEcho(u8),
+    SecondProposal(u8),
+    Side(u8),
+    Centre,
+}
+
+pub struct Message {
+    pub number: u32,
+    pub level: u8,
+    pub body: Body,
+}
+
+// What reading a body, or a message, finds: it and the place past it; that only further bytes could make it whole; or neither.
+pub enum BodyRead {
+    Read(Body, usize),
+    Short,
+    Bad,
+}
+
+pub enum MessageRead {
+    Read(Message, usize),
+    Short,
+    Bad,
+}
+
+// Bytes that are exactly one message, or not.
+pub enum Exactly {
+    One(Message),
+    Refused,
+}
+
+// What writing a message did.
+pub enum MessageWritten {
+    Bytes(usize),
+    // A level or value outside the table: nothing was written.
+    OutsideTable,
+    // The buffer is too short: nothing was written.
+    NoRoom,
+}
+
+// The kind of a body, by the table.
+pub fn kind_of(b: Body) -> u32
+    ensures { λ r. ⌜ r ≡ kindOf b ⌝ }
+{
+    match b {
+        Body::FirstEcho(_) => 1,
+        Body::FirstProposal(_) => 2,
+        Body::SecondEcho(_) => 3,
+        Body::SecondProposal(_) => 4,
+        Body::Side(_) => 5,
+        Body::Centre => 6,
+    }
+}
+
+// The value of a body; 0 for a centre, which has none.
+pub fn value_of(b: Body) -> u8
+    ensures { λ r. ⌜ r ≡ valueOf b ⌝ }
+{
+    match b {
+        Body::FirstEcho(v) => v,
+        Body::FirstProposal(v) => v,
+        Body::SecondEcho(v) => v,
+        Body::SecondProposal(v) => v,
+        Body::Side(v) => v,
+        Body::Centre => 0,
+    }
+}
+
+fn value_low(kind: u32) -> u32
+    ensures { λ r. ⌜ r ≡ valueLow kind ⌝ }
+{
+    if kind == 5 { 1 } else { 0 }
+}
+
+fn value_high(kind: u32) -> u32
+    ensures { λ r. ⌜ r ≡ valueHigh kind ⌝ }
+{
+    if kind == 2 {
+        return MAX_SIDE;
+    }
+    if kind == 5 {
+        return MAX_SIDE;
+    }
+    NONE
+}
+
+// The body of kind 1 to 6 with value v.
+fn body_of(kind: u32, v: u8) -> Body
+    ensures { λ r. ⌜ r ≡ bodyOf kind v ⌝ }
+{
+    match kind {
+        1 => Body::FirstEcho(v),
+        2 => Body::FirstProposal(v),
+        3 => Body::SecondEcho(v),
+        4 => Body::SecondProposal(v),
+        5 => Body::Side(v),
+        _ => Body::Centre,
+    }
+}
+
+// The body that stands at `at`, after its kind.
+fn read_body(s: &[u8], at: usize, kind: u32) -> BodyRead
+    ensures { λ r. ⌜ r ≡ bodyAt (now (s .entry)) at kind ⌝ }
+{
+    if kind == 6 {
+        return BodyRead::Read(Body::Centre, at);
+    }
+    let low = value_low(kind);
+    let high = value_high(kind);
+    match varint::read_within(s, at, low, high) {
+        varint::VarintRead::Value(v, next) => BodyRead::Read(body_of(kind, v as u8), next),
+        varint::VarintRead::Short(_) => BodyRead::Short,
+        varint::VarintRead::Malformed => BodyRead::Bad,
+    }
+}
+
+// A message of this number and level with the body that was read.
+fn with_body(number: u32, level: u8, b: BodyRead) -> MessageRead
+    ensures { λ r. ⌜ r ≡ withBody number level b ⌝ }
+{
+    match b {
+        BodyRead::Read(body, next) => {
+            let m = Message {
+                number: number,
+                level: level,
+                body: body,
+            };
+            MessageRead::Read(m, next)
+        }
+        BodyRead::Short => MessageRead::Short,
+        BodyRead::Bad => MessageRead::Bad,
+    }
+}
+
+// The rest of a message, from its kind at `at` on.
+fn read_kind(s: &[u8], at: usize, number: u32, level: u8) -> MessageRead
+    ensures { λ r. ⌜ r ≡ withKind (now (s .entry)) number level (varintWithin 1 6 (now (s .entry)) at) ⌝ }
+{
+    match varint::read_within(s, at, 1, 6) {
+        varint::VarintRead::Value(kind, next) => with_body(number, level, read_body(s, next, kind)),
+        varint::VarintRead::Short(_) => MessageRead::Short,
+        varint::VarintRead::Malformed => MessageRead::Bad,
+    }
+}
+
+// The rest of a message, from its level at `at` on.
+fn read_level(s: &[u8], at: usize, number: u32) -> MessageRead
+    ensures { λ r. ⌜ r ≡ withLevel (now (s .entry)) number (varintWithin 0 lastLevel (now (s .entry)) at) ⌝ }
+{
+    match varint::read_within(s, at, 0, base::LAST_LEVEL) {
+        varint::VarintRead::Value(level, next) => read_kind(s, next, number, level as u8),
+        varint::VarintRead::Short(_) => MessageRead::Short,
+        varint::VarintRead::Malformed => MessageRead::Bad,
+    }
+}
+
+// The message that stands at `at`.
+pub fn read_at(s: &[u8], at: usize) -> MessageRead
+    ensures { λ r. ⌜ r ≡ messageAt (now (s .entry)) at ⌝ }
+{
+    match varint::read(s, at) {
+        varint::VarintRead::Value(number, next) => read_level(s, next, number),
+        varint::VarintRead::Short(_) => MessageRead::Short,
+        varint::VarintRead::Malformed => MessageRead::Bad,
+    }
+}
+
+// The bytes as exactly one message.
+pub fn read(s: &[u8]) -> Exactly
+    ensures { λ r. ⌜ r ≡ exactMessage (now (s .entry)) ⌝ }
+{
+    match read_at(s, 0) {
+        MessageRead::Read(m, next) => {
+            if next == s.len() {
+                return Exactly::One(m);
+            }
+            Exactly::Refused
+        }
+        MessageRead::Short => Exactly::Refused,
+        MessageRead::Bad => Exactly::Refused,
+    }
+}
+
+// Is the value within its kind's limits?
+fn body_in_table(b: Body) -> bool
+    ensures { λ r. ⌜ r ≡ bodyInTable b ⌝ }
+{
+    let kind = kind_of(b);
+    if kind == 6 {
+        return true;
+    }
+    let v = value_of(b) as u32;
+    if v < value_low(kind) {
+        return false;
+    }
+    v <= value_high(kind)
+}
+
+// Are level and value within the table?
+pub fn in_table(m: Message) -> bool
+    ensures { λ r. ⌜ r ≡ inTable m ⌝ }
+{
+    let level = m.level as u32;
+    if base::LAST_LEVEL < level {
+        return false;
+    }
+    let body = m.body;
+    body_in_table(body)
+}
+
+// How many bytes the value has: none for a centre.
+fn value_size(b: Body) -> usize
+    ensures { λ r. ⌜ r ≡ length (valueBytes b) ⌝ }
+{
+    if kind_of(b) == 6 {
+        return 0;
+    }
+    varint::size(value_of(b) as u32)
+}
+
+// How many bytes the message has.
+pub fn size(m: Message) -> usize
+    ensures { λ r. ⌜ r ≡ length (messageBytes m) ⌝ }
+{
+    let body = m.body;
+    let number = varint::size(m.number);
+    let level = varint::size(m.level as u32);
+    let kind = varint::size(kind_of(body));
+    number + level + kind + value_size(body)
+}
+
+// The value is written from `at` on; the place past it.
+fn put_value(out: &mut [u8], at: usize, b: Body) -> usize
+    requires { ⌜ at + length (valueBytes b) ≤ length (now out) ⌝ }
+    ensures { λ r. ⌜ (r ≡ at + length (valueBytes b)) × (now (out .exit) ≡ putAt (now (out .entry)) at (valueBytes b)) ⌝ }
+{
+    if kind_of(b) == 6 {
+        return at;
+    }
+    varint::put(out, at, value_of(b) as u32)
+}
+
+// The message is written from `at` on; the place past it.
+pub fn put(out: &mut [u8], at: usize, m: Message) -> usize
+    requires { ⌜ at + length (messageBytes m) ≤ length (now out) ⌝ }
+    ensures { λ r. ⌜ (r ≡ at + length (messageBytes m)) × (now (out .exit) ≡ putAt (now (out .entry)) at (messageBytes m)) ⌝ }
+{
+    let body = m.body;
+    let a = varint::put(out, at, m.number);
+    let b = varint::put(out, a, m.level as u32);
+    let c = varint::put(out, b, kind_of(body));
+    put_value(out, c, body)
+}
+
+// The message is written from the buffer's first byte on, if it is in the table and fits.
+pub fn write(out: &mut [u8], m: Message) -> MessageWritten
+    ensures { λ r. ⌜ (r ≡ writeAnswer (now (out .entry)) m) × (now (out .exit) ≡ writeBuffer (now (out .entry)) m) ⌝ }
+{
+    if !in_table(m) {
+        return MessageWritten::OutsideTable;
+    }
+    let k = size(m);
+    if out.len() < k {
+        return MessageWritten::NoRoom;
+    }
+    let _end = put(out, 0, m);
+    MessageWritten::Bytes(k)
+}

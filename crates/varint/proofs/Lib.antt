@@ -1,0 +1,4 @@
+pub mod Laws
+pub mod RoundTrip
+pub mod Lengths
+pub mod Further

@@ -1,0 +1,152 @@
+// Varints (document 01 calls them groups): a whole number in seven-bit pieces, low piece first, in the fewest bytes, at most 2^32 - 1.
+ghost use mathlib.Core.Path.{_≡_};
+ghost use Prim.Native.Nat.{_+_, _≤_, _<_};
+ghost use lib.ListN.{length};
+ghost use Rattle.base.specs.Put.{putAt};
+ghost use Rattle.varint.specs.Varint.{piecesAt, pieces, varintAt, varintWithin, varintBytes, prefixed, writtenOf, bufferOf};
+
+// What reading a varint finds.
+pub enum VarintRead {
+    // The value, and the place past its last byte.
+    Value(u32, usize),
+    // The bytes end inside it: the least value that further bytes could make of it.
+    Short(u32),
+    // No further bytes could make it whole, in the fewest bytes and within its limit.
+    Malformed,
+}
+
+// What writing did.
+pub enum Written {
+    // So many bytes were written.
+    Bytes(usize),
+    // The buffer is too short from the given place on: nothing was written.
+    NoRoom,
+}
+
+// A first byte of 128 or more before a rest that is read as `rest`.
+fn prefix(b: u8, rest: VarintRead) -> VarintRead
+    requires { ⌜ 128 ≤ b ⌝ }
+    ensures { λ r. ⌜ r ≡ prefixed b rest ⌝ }
+{
+    match rest {
+        VarintRead::Value(high, next) => {
+            if high == 0 {
+                return VarintRead::Malformed;
+            }
+            if 33554431 < high {
+                return VarintRead::Malformed;
+            }
+            VarintRead::Value((b - 128) as u32 + 128 * high, next)
+        }
+        VarintRead::Short(least) => {
+            let high = if least == 0 { 1 } else { least };
+            if 33554431 < high {
+                return VarintRead::Malformed;
+            }
+            VarintRead::Short((b - 128) as u32 + 128 * high)
+        }
+        VarintRead::Malformed => VarintRead::Malformed,
+    }
+}
+
+// The varint at `at`, of at most `left` bytes.
+fn read_pieces(s: &[u8], at: usize, left: u32) -> VarintRead
+    ensures { λ r. ⌜ r ≡ piecesAt left (now (s .entry)) at ⌝ }
+{
+    if left == 0 {
+        return VarintRead::Malformed;
+    }
+    if s.len() <= at {
+        return VarintRead::Short(0);
+    }
+    let b = s[at];
+    if b < 128 {
+        return VarintRead::Value(b as u32, at + 1);
+    }
+    let rest = read_pieces(s, at + 1, left - 1);
+    prefix(b, rest)
+}
+
+// The varint at `at`.
+pub fn read(s: &[u8], at: usize) -> VarintRead
+    ensures { λ r. ⌜ r ≡ varintAt (now (s .entry)) at ⌝ }
+{
+    read_pieces(s, at, 5)
+}
+
+// The varint at `at`, if its value is from `low` to `high`.
+pub fn read_within(s: &[u8], at: usize, low: u32, high: u32) -> VarintRead
+    ensures { λ r. ⌜ r ≡ varintWithin low high (now (s .entry)) at ⌝ }
+{
+    let found = read(s, at);
+    match found {
+        VarintRead::Value(v, _) => {
+            if v < low {
+                return VarintRead::Malformed;
+            }
+            if high < v {
+                return VarintRead::Malformed;
+            }
+            found
+        }
+        VarintRead::Short(least) => {
+            if high < least {
+                return VarintRead::Malformed;
+            }
+            found
+        }
+        VarintRead::Malformed => VarintRead::Malformed,
+    }
+}
+
+// How many bytes the varint of v has.
+pub fn size(v: u32) -> usize
+    ensures { λ r. ⌜ r ≡ Rattle.varint.specs.Varint.varintLength v ⌝ }
+{
+    let mut rest = v;
+    let mut k: usize = 1;
+    while 128 <= rest {
+        rest = rest / 128;
+        k += 1;
+    }
+    k
+}
+
+fn write_pieces(out: &mut [u8], v: u32, left: u32) -> usize
+    requires { ⌜ length (pieces left v) ≤ length (now out) ⌝ }
+    ensures { λ r. ⌜ (r ≡ length (pieces left v)) × (now (out .exit) ≡ putAt (now (out .entry)) 0 (pieces left v)) ⌝ }
+{
+    if left == 0 {
+        out[0] = (v % 128) as u8;
+        return 1;
+    }
+    if v < 128 {
+        out[0] = v as u8;
+        return 1;
+    }
+    out[0] = (v % 128 + 128) as u8;
+    write_pieces(&mut out[1..], v / 128, left - 1) + 1
+}
+
+// The varint of v is written from `at` on; the place past it.
+pub fn put(out: &mut [u8], at: usize, v: u32) -> usize
+    requires { ⌜ at + length (varintBytes v) ≤ length (now out) ⌝ }
+    ensures { λ r. ⌜ (r ≡ at + length (varintBytes v)) × (now (out .exit) ≡ putAt (now (out .entry)) at (varintBytes v)) ⌝ }
+{
+    at + write_pieces(&mut out[at..], v, 4)
+}
+
+// The varint of v is written from `at` on, if it fits.
+pub fn write(out: &mut [u8], at: usize, v: u32) -> Written
+    ensures { λ r. ⌜ (r ≡ writtenOf (now (out .entry)) at (varintBytes v)) × (now (out .exit) ≡ bufferOf (now (out .entry)) at (varintBytes v)) ⌝ }
+{
+    if out.len() < at {
+        return Written::NoRoom;
+    }
+    let k = size(v);
+    if out.len() - at < k {
+        return Written::NoRoom;
+    }
+    let _end = put(out, at, v);
+    Written::Bytes(k)
+}
