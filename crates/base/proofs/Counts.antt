@@ -177,3 +177,9 @@ pub count-sum : (n : ℕ) (f g h : Set) → ((i : ℕ) → i < n → bit (h i) �
 unfolding count
 count-sum zero f g h e = refl
 count-sum (suc n) f g h e = omega (arith, e n (le-refl (suc n)), count-sum n f g h (λ i l. e i (omega arith)))
+
+-- a count taken from the bottom
+pub count-low : (n : ℕ) (f : Set) → count (suc n) f ≡ bit (f 0) + count n (λ i. f (suc i))
+unfolding count
+count-low zero f = refl
+count-low (suc n) f = omega (arith, count-low n f)

@@ -4,3 +4,4 @@ pub mod Smallest
 pub mod Ranks
 pub mod Puts
 pub mod Parts
+pub mod Loops

@@ -27,15 +27,15 @@ group s at f = onward at (varintAt s at) f
 abbrev pub ask : {A : Type 0} → Bool → ℕ → ℕ → Found A → Found A
 ask test number place go = pick test go (refused number place)
 
--- "7: Are an edge's ends below V and different?"
+-- "Are an edge's ends below V and different? 7."
 abbrev pub endsApart : ℕ → ℕ → ℕ → Bool
 endsApart v a b = (ltb a v && ltb b v) && not (eqb a b)
 
--- "8: Are its ends not yet joined through earlier edges?"
+-- "Are its ends not yet joined through earlier edges? 8."
 abbrev pub notJoined : Edges → ℕ → ℕ → Bool
 notJoined E a b = not (joined all E a b)
 
--- "9: Has neither end 15 edges already?"
+-- "Has neither end 15 edges already? 9."
 abbrev pub roomAtEnds : Edges → ℕ → ℕ → Bool
 roomAtEnds E a b = ltb (edgesAt E a) maxDegree && ltb (edgesAt E b) maxDegree
 

@@ -1,0 +1,156 @@
+-- What an accepted start or take is: the record of a call that its party accepts, and what that call does.
+use mathlib.Core.Path.{_≡_, refl, sym, ap, subst}
+use mathlib.Core.Logic.{_⊎_, inl, inr}
+use mathlib.Core.Bool.{Bool, true, false, not}
+use mathlib.Core.List.{List}
+use Prim.Native.Nat.{ℕ, _+_, _-_, _^_, _≤_, _<_}
+use native.Mathlib.Omega.{arith}
+use lib.Dec.{T, leb, ltb, eqb, T-not, leb→le, ltb→lt, eqb→eq, eqb-refl}
+use lib.IntN.{ℤ, pos, negsuc}
+use lib.ListN.{length}
+use Rattle.base.specs.Pick.{pick}
+use Rattle.base.specs.Limits.{maxBoards, maxWidth, outgoingSize}
+use Rattle.base.proofs.Bools.{T→true, true→T}
+use Rattle.edges.specs.Reading.{Found, found, ask}
+use Rattle.plan.specs.declared.Plan.{Plan}
+use Rattle.plan.proofs.Listed.{asked}
+use Rattle.message.specs.declared.Message.{Message}
+use Rattle.message.specs.declared.MessageRead.{MessageRead}
+use Rattle.message.specs.declared.Exactly.{Exactly}
+use Rattle.message.specs.Message.{inTable, messageAt, exactly, exactMessage}
+use Rattle.message.proofs.RoundTrip.{message-parts, message-table}
+use Rattle.level.specs.Level.{noOutput}
+use Rattle.journal.specs.declared.Record.{Record}
+use Rattle.journal.specs.declared.Record.the-variants.{Start, Taken}
+use Rattle.journal.specs.Journal.{recordBytes}
+use Rattle.journal.specs.Records.{InLimits}
+use Rattle.party.specs.declared.Party.{Party}
+use Rattle.party.specs.Party.{started, heldBy}
+use Rattle.party.specs.Run.{Ran, starting, taking}
+use Rattle.party.specs.Valid.{partyValid}
+use Rattle.life.specs.Life.{replayed, Fits}
+use Rattle.board.specs.Answers.{onPlan, rangePosition, positionOf}
+use Rattle.board.specs.Calls.{Entry, again, fresh, atDoor, fitting, startQuestions, takeMessage, takeQuestions}
+
+-- ---- inputs
+
+-- an input is on the plan or has no position
+module _ (p : Plan) where
+  abbrev Placed : ℕ → Type 0
+  Placed x = (x ≡ noOutput) ⊎ (x < p .count)
+
+  on-plan : (x : ℕ) → Placed (onPlan p x)
+  on-plan x = go (ltb x (p .count)) refl
+    where
+      go : (b : Bool) → ltb x (p .count) ≡ b → Placed (pick b x noOutput)
+      go true e = inr (ltb→lt x (p .count) (true→T e))
+      go false e = inl refl
+
+  either : (b : Bool) (x y : ℕ) → Placed x → Placed y → Placed (pick b x y)
+  either true x y f g = f
+  either false x y f g = g
+
+  pub input-placed : (z : ℤ) → (positionOf p z ≡ noOutput) ⊎ (positionOf p z < p .count)
+  unfolding positionOf
+  input-placed (pos x) =
+      either (eqb (p .kind) 1) (onPlan p x) (rangePosition p (pos x)) (on-plan x)
+      (either (leb (p .low) (x + 2147483648)) (onPlan p (x + 2147483648 - p .low)) noOutput (on-plan (x + 2147483648 - p .low)) (inl refl))
+  input-placed (negsuc x) =
+      either (eqb (p .kind) 1) noOutput (rangePosition p (negsuc x)) (inl refl)
+      (either (leb (p .low + (x + 1)) 2147483648) (onPlan p (2147483648 - (x + 1) - p .low)) noOutput (on-plan (2147483648 - (x + 1) - p .low)) (inl refl))
+
+-- ---- messages
+
+exactly-read : (s : List ℕ) (r : MessageRead) (m : Message) → exactly s r ≡ Exactly.One m → (next : ℕ) × (r ≡ MessageRead.Read m next)
+exactly-read s (MessageRead.Read x next) m e = go (eqb next (length s)) e
+  where
+    go : (b : Bool) → pick b (Exactly.One x) Exactly.Refused ≡ Exactly.One m → (n : ℕ) × (MessageRead.Read x next ≡ MessageRead.Read m n)
+    go true e = let f : x ≡ m = cc in (next, ap (λ (y : Message). MessageRead.Read y next) f)
+    go false e = let z : _≡_ {A = ℕ} 0 1 = cc in absurd (omega arith)
+exactly-read s MessageRead.Short m e = let z : _≡_ {A = ℕ} 0 1 = cc in absurd (omega arith)
+exactly-read s MessageRead.Bad m e = let z : _≡_ {A = ℕ} 0 1 = cc in absurd (omega arith)
+
+-- what is read as one message is in the table
+pub exact-table : (s : List ℕ) (m : Message) → exactMessage s ≡ Exactly.One m → inTable m ≡ true
+unfolding exactMessage
+exact-table s m e = let r = exactly-read s (messageAt s 0) m e in message-table (message-parts s 0 m (r .0) (r .1))
+
+-- ---- accepted calls
+
+-- past the questions of every call
+past-door : {A : Type 0} (p : Party) (room used out : ℕ) (go : Found A) (x : A) → atDoor p room used out go ≡ found x → go ≡ found x
+past-door p room used out go x e =
+    let a = asked (partyValid p) 19 0 (ask (leb outgoingSize out) 18 0 (ask (leb used room) 20 0 go)) x e in
+    let b = asked (leb outgoingSize out) 18 0 (ask (leb used room) 20 0 go) x (a .1) in
+    asked (leb used room) 20 0 go x (b .1) .1
+
+-- a record that fits the journal
+fitted : (room used : ℕ) (r q : Record) (ran run : Ran) → fitting room used r ran ≡ found (fresh q run) → (used + length (recordBytes r) ≤ room) × (r ≡ q) × (ran ≡ run)
+fitted room used r q ran run e =
+    let n : ℕ = used + length (recordBytes r) in
+    let a = asked (leb n room) 17 0 (found (fresh r ran)) (fresh q run) e in
+    let f : found (fresh r ran) ≡ found (fresh q run) = a .1 in
+    (leb→le n room (a .0), cc, cc)
+
+-- what is recorded: a record of a call that the party accepts, with room for it; and what comes of it
+pub record Recorded (p : Party) (room used : ℕ) (r : Record) (ran : Ran) : Type 0 where
+  pub fits : Fits p r
+  pub inside : used + length (recordBytes r) ≤ room
+  pub does : replayed p r ≡ ran
+
+pub start-recorded : (p : Party) (input : ℤ) (room used out : ℕ) (r : Record) (ran : Ran) → startQuestions p input room used out ≡ found (fresh r ran)
+    → (x : ℕ) × (Start (p .agreement) x ≡ r) × Recorded p room used r ran
+unfolding startQuestions replayed
+start-recorded p input room used out r ran e = go (input-placed (p .plan) input)
+  where
+    x : ℕ
+    x = positionOf (p .plan) input
+
+    last : Found Entry
+    last = fitting room used (Start (p .agreement) x) (starting p x)
+
+    thirteen : T (not (started p)) × (ask (not (eqb x noOutput)) 12 0 last ≡ found (fresh r ran))
+    thirteen = asked (not (started p)) 13 0 (ask (not (eqb x noOutput)) 12 0 last) (fresh r ran) (past-door p room used out _ (fresh r ran) e)
+
+    twelve : T (not (eqb x noOutput)) × (last ≡ found (fresh r ran))
+    twelve = asked (not (eqb x noOutput)) 12 0 last (fresh r ran) (thirteen .1)
+
+    go : (x ≡ noOutput) ⊎ (x < p .plan .count) → (y : ℕ) × (Start (p .agreement) y ≡ r) × Recorded p room used r ran
+    go (inl z) = absurd (T-not (eqb x noOutput) (twelve .0) (subst (λ (y : ℕ). T (eqb x y)) z (eqb-refl x)))
+    go (inr h) =
+        let f = fitted room used (Start (p .agreement) x) r (starting p x) ran (twelve .1) in
+        (x, f .1, subst (λ (q : Record). Recorded p room used q ran) (f .1) (record { fits = (refl, T-not (started p) (thirteen .0), h); inside = f .0; does = f .2 }))
+
+pub take-recorded : (p : Party) (s : ℕ) (bytes : List ℕ) (room used out : ℕ) (r : Record) (ran : Ran) → takeQuestions p s bytes room used out ≡ found (fresh r ran)
+    → (m : Message) × (exactMessage bytes ≡ Exactly.One m) × (Taken s m ≡ r) × Recorded p room used r ran
+unfolding takeQuestions replayed
+take-recorded p s bytes room used out r ran e = go (exactMessage bytes) refl (fourteen .1)
+  where
+    fourteen : T (ltb s (p .n)) × (takeMessage p s room used (exactMessage bytes) ≡ found (fresh r ran))
+    fourteen = asked (ltb s (p .n)) 14 0 (takeMessage p s room used (exactMessage bytes)) (fresh r ran) (past-door p room used out _ (fresh r ran) e)
+
+    new : (m : Message) (b : Bool) → pick b (found again) (fitting room used (Taken s m) (taking p s m)) ≡ found (fresh r ran)
+        → (used + length (recordBytes (Taken s m)) ≤ room) × (Taken s m ≡ r) × (taking p s m ≡ ran)
+    new m true e = let z : _≡_ {A = ℕ} 0 1 = cc in absurd (omega arith)
+    new m false e = fitted room used (Taken s m) r (taking p s m) ran e
+
+    go : (x : Exactly) → exactMessage bytes ≡ x → takeMessage p s room used x ≡ found (fresh r ran)
+        → (m : Message) × (x ≡ Exactly.One m) × (Taken s m ≡ r) × Recorded p room used r ran
+    go (Exactly.One m) i f =
+        let sixteen = asked (eqb (m .number) (p .agreement)) 16 0 (pick (heldBy p s m) (found again) (fitting room used (Taken s m) (taking p s m))) (fresh r ran) f in
+        let w = new m (heldBy p s m) (sixteen .1) in (
+          m,
+          refl,
+          w .1,
+          subst (λ (q : Record). Recorded p room used q ran) (w .1) (record {
+            fits = (eqb→eq (m .number) (p .agreement) (sixteen .0), ltb→lt s (p .n) (fourteen .0), true→T (exact-table bytes m i));
+            inside = w .0;
+            does = w .2;
+          }),
+        )
+    go Exactly.Refused i f = let z : _≡_ {A = ℕ} 0 1 = cc in absurd (omega arith)
+
+-- the record of an accepted call is within its limits
+pub fits-limits : (p : Party) → p .agreement < 2 ^ 32 → p .n ≤ maxBoards → p .plan .count ≤ maxWidth + 1 → (r : Record) → Fits p r → InLimits r
+fits-limits p a n c (Start b x) f = (subst (λ (z : ℕ). z < 2 ^ 32) (sym (f .0)) a, omega (arith, f .2))
+fits-limits p a n c (Taken s m) f = (omega (arith, f .1), T→true (inTable m) (f .2), subst (λ (z : ℕ). z < 2 ^ 32) (sym (f .0)) a)

@@ -1,0 +1,9 @@
+pub mod Restored
+pub mod Entries
+pub mod Lent
+pub mod Told
+pub mod Tied
+pub mod Histories
+pub mod Boards
+pub mod Theorem
+pub mod Life

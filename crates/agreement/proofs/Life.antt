@@ -1,0 +1,88 @@
+-- Restoring what a life wrote gives that life's party.
+use mathlib.Core.Path.{_≡_, refl, sym, ap, _∙_, subst}
+use mathlib.Core.List.{List, [], _∷_}
+use Prim.Native.Nat.{ℕ, _+_, _≤_, _<_}
+use native.Mathlib.Omega.{arith}
+use lib.ListN.{length}
+use Rattle.base.specs.Put.{putAt}
+use Rattle.base.specs.Sets.{Set}
+use Rattle.base.specs.Limits.{maxWidth, outgoingSize}
+use Rattle.base.specs.declared.Verdict.{Verdict}
+use Rattle.edges.specs.Reading.{Found, found}
+use Rattle.plan.specs.declared.Plan.{Plan}
+use Rattle.plan.proofs.Shape.{shape}
+use Rattle.journal.specs.declared.Record.{Record}
+use Rattle.journal.specs.Records.{AllInLimits, journalBytes}
+use Rattle.journal.proofs.Records.{holds-used}
+use Rattle.party.specs.declared.Party.{Party}
+use Rattle.party.specs.Run.{Ran, bytesOf}
+use Rattle.life.specs.Life.{replayed, lived, Life}
+use Rattle.board.specs.declared.Called.{Called}
+use Rattle.board.specs.Restore.{Replay, restoreQuestions, restoredOf, restoreOutgoing}
+use Rattle.vote.specs.Order.{Le}
+use Rattle.vote.proofs.Laws.{le-lived}
+use Rattle.agreement.specs.History.{Vote, History, running, Board, afterRestore, boardAfter, Continues, Allowed}
+use Rattle.agreement.proofs.Restored.{restored, restored-cut, restored-found}
+use Rattle.agreement.proofs.Entries.{fits-limits}
+use Rattle.agreement.proofs.Tied.{Premises, newBoard, Running, AtStage, plan-valid, board-regular}
+use Rattle.agreement.proofs.Histories.{TiedAfter, tied}
+
+-- what a restore answers that gives what ran, and a used length
+abbrev pub calledWith : Ran → ℕ → Called
+calledWith ran used = record {
+  verdict = Verdict.Accepted;
+  party = ran .party;
+  used = used;
+  sent = length (bytesOf (ran .made));
+  rules = ran .rules;
+}
+
+-- of what ran, the rules are the sum over the records and the messages are the last record's
+pub lived-more : (p : Party) (r : Record) (rs : List Record) →
+    let q = replayed (lived p rs .party) r in
+    lived p (r ∷ rs) ≡ record { party = q .party; rules = lived p rs .rules + q .rules; made = q .made }
+unfolding lived
+lived-more p r rs = refl
+
+module _ (v : Vote) (plan : Plan) (f : Premises v plan) (i : ℕ) (seat : i < v .n) where
+  life-limits : (rs : List Record) → Life (newBoard v plan i) rs → AllInLimits rs
+  life-limits [] k = tt
+  life-limits (r ∷ rs) (fits, k) =
+      let s : Le (newBoard v plan i) (lived (newBoard v plan i) rs .party) = le-lived (newBoard v plan i) (board-regular v plan f i seat) rs k in (
+        fits-limits (lived (newBoard v plan i) rs .party) (omega (arith, f .number, s .board .agreement)) (omega (arith, f .boards, s .board .n))
+            (subst (λ (y : Plan). y .count ≤ maxWidth + 1) (sym (s .board .plan)) (shape plan (plan-valid v plan f i seat) .most)) r fits,
+        life-limits rs k,
+      )
+
+  -- Restoring what a life wrote gives that life's party, the whole length, the sum of its rules, and its last record's messages.
+  pub life-restored : (rs : List Record) → Life (newBoard v plan i) rs → (out : List ℕ) → outgoingSize ≤ length out →
+      let q = restoreQuestions (v .n) (v .t) i (v .agreement) (v .plan) (journalBytes rs) (length out) in
+      (restoredOf q ≡ calledWith (lived (newBoard v plan i) rs) (length (journalBytes rs)))
+      × (restoreOutgoing out q ≡ putAt out 0 (bytesOf (lived (newBoard v plan i) rs .made)))
+  life-restored rs k out room =
+      let e = restored (v .n) (v .t) i (v .agreement) (v .plan) plan (f .boards) (f .faults) seat (f .reads) rs k (life-limits rs k) (length out) room in
+      (ap restoredOf e, ap (restoreOutgoing out) e)
+
+  module _ (bad : Set) (h : History) (a : Allowed v bad h) where
+    abbrev w : TiedAfter v plan bad f h i
+    w = tied v plan bad f h a i seat
+
+    abbrev b : Board
+    b = boardAfter h i
+
+    -- so a running board's own journal gives its own party and used length
+    pub running-restored : boardAfter h i .stage ≡ running → (out : ℕ) → outgoingSize ≤ out →
+        let r = restoredOf (restoreQuestions (v .n) (v .t) i (v .agreement) (v .plan) (boardAfter h i .journal) out) in
+        (r .verdict ≡ Verdict.Accepted) × (r .party ≡ boardAfter h i .party) × (r .used ≡ length (boardAfter h i .journal))
+    running-restored up out room =
+        let e = restored-cut (v .n) (v .t) i (v .agreement) (v .plan) plan (f .boards) (f .faults) seat (f .reads) (w .records) (w .life) (b .journal) (w .holds) out room in
+        let u : Running v plan i (boardAfter h i) (w .records) = subst (AtStage v plan i b (w .records)) up (w .stage) in
+        (ap (λ (q : Found Replay). restoredOf q .verdict) e, ap (λ (q : Found Replay). restoredOf q .party) e ∙ sym (u .party), ap (λ (q : Found Replay). restoredOf q .used) e ∙ ap length (sym (u .journal)))
+
+    -- "each later call gets the record, journal and used length as the call before left them", after an accepted restore
+    pub restore-continues : (out : ℕ) (r : Replay) → restoreQuestions (v .n) (v .t) i (v .agreement) (v .plan) (boardAfter h i .journal) out ≡ found r
+        → Continues (afterRestore (boardAfter h i) (boardAfter h i .journal) (found r)) (restoredOf (found r) .party) (boardAfter h i .journal) (restoredOf (found r) .used)
+    restore-continues out r e =
+        let x = restored-found (v .n) (v .t) i (v .agreement) (v .plan) plan (f .boards) (f .faults) seat (f .reads) (w .records) (w .life) (b .journal) (w .holds) out r e in
+        subst (λ (y : Replay). Continues (afterRestore b (b .journal) (found y)) (restoredOf (found y) .party) (b .journal) (restoredOf (found y) .used)) (sym x)
+        (record { up = refl; same = refl; at = ap length (sym (holds-used (w .holds))); kept = refl })

@@ -1,0 +1,125 @@
+-- Restoring what a life wrote gives that life's party.
+use mathlib.Core.Path.{_≡_, refl, sym, ap, ap₂, _∙_, subst}
+use mathlib.Core.Bool.{Bool, true, false, not}
+use mathlib.Core.List.{List, [], _∷_, _++_}
+use Prim.Native.Nat.{ℕ, zero, suc, _+_, _-_, _*_, _≤_, _<_}
+use native.Mathlib.Omega.{arith}
+use lib.Dec.{T, leb, ltb, eqb, not-T, lt→ltb, le→leb, eqb-refl}
+use lib.ListN.{length, length-append}
+use borrow.Author.Tests.{lt-leb}
+use Rattle.base.specs.Pick.{pick}
+use Rattle.base.specs.Limits.{maxBoards, outgoingSize}
+use Rattle.edges.specs.Reading.{Found, found}
+use Rattle.plan.specs.declared.Plan.{Plan}
+use Rattle.plan.specs.Reading.{planOf, settledPlan}
+use Rattle.plan.proofs.Listed.{ask-yes, asked}
+use Rattle.plan.proofs.Answers.{settle-plan}
+use Rattle.journal.specs.declared.Record.{Record}
+use Rattle.journal.specs.declared.Record.the-variants.{Start, Taken}
+use Rattle.journal.specs.declared.RecordRead.{RecordRead}
+use Rattle.journal.specs.Journal.{recordBytes, recordAt}
+use Rattle.journal.specs.Records.{AllInLimits, journalBytes}
+use Rattle.journal.proofs.Records.{Holds, holds-whole, holds-end, journal-none, journal-before, journal-record, journal-length, record-pos, records-fewer}
+use Rattle.party.specs.declared.Party.{Party}
+use Rattle.party.specs.Party.{newParty, started}
+use Rattle.party.specs.Run.{Ran, resting}
+use Rattle.life.specs.Life.{replayed, following, lived, Fits, Life}
+use Rattle.board.specs.Restore.{recordFits, Replay, replayFrom, onPlanRead, restoreQuestions}
+
+-- ---- one record
+
+-- a record that an accepted call may have written passes questions 12 to 14 and 16
+pub fits-pass : {A : Type 0} (p : Party) (at : ℕ) (r : Record) (go : Found A) → Fits p r → recordFits p at r go ≡ go
+fits-pass p at (Start a x) go f =
+    ask-yes (eqb a (p .agreement)) 16 at _ (subst (λ (z : ℕ). T (eqb a z)) (f .0) (eqb-refl a))
+    ∙ ask-yes (not (started p)) 13 at _ (not-T (started p) (f .1))
+    ∙ ask-yes (ltb x (p .plan .count)) 12 at go (lt→ltb x (p .plan .count) (f .2))
+fits-pass p at (Taken s m) go f =
+    ask-yes (eqb (m .number) (p .agreement)) 16 at _ (subst (λ (z : ℕ). T (eqb (m .number) z)) (f .0) (eqb-refl (m .number)))
+    ∙ ask-yes (ltb s (p .n)) 14 at go (lt→ltb s (p .n) (f .1))
+
+module _ (f : ℕ) (j : List ℕ) (at : ℕ) (r : Ran) where
+  -- a whole record
+  replay-read : (rec : Record) (next : ℕ) → at < length j → recordAt j at ≡ RecordRead.Read rec next
+      → replayFrom (suc f) j at r ≡ recordFits (r .party) at rec (replayFrom f j next (following r (replayed (r .party) rec)))
+  unfolding replayFrom
+  replay-read rec next l e = rw (lt-leb (length j) at l, e)
+
+  -- a torn one, at which the records end
+  replay-torn : recordAt j at ≡ RecordRead.Torn → replayFrom f j at r ≡ found (record { ran = r; used = at })
+  unfolding replayFrom
+  replay-torn e = go f
+    where
+      same : (b : Bool) (x : Found Replay) → pick b x x ≡ x
+      same true x = refl
+      same false x = refl
+
+      go : (f : ℕ) → replayFrom f j at r ≡ found (record { ran = r; used = at })
+      go zero = refl
+      go (suc f) = rw e (same (leb (length j) at) (found (record { ran = r; used = at })))
+
+-- ---- whole journals
+
+-- the records rs, before q, one after the other
+replay-through : (p : Party) (rs : List Record) (q : List ℕ) (f : ℕ) → AllInLimits rs → Life p rs
+    → replayFrom (length rs + f) (journalBytes rs ++ q) 0 (resting p) ≡ replayFrom f (journalBytes rs ++ q) (length (journalBytes rs)) (lived p rs)
+unfolding lived
+replay-through p [] q f h l = ap₂ (λ (n : ℕ) (x : List ℕ). replayFrom n (journalBytes [] ++ q) (length x) (resting p)) (omega arith) (sym journal-none)
+replay-through p (r ∷ rs) q f (h, hs) (l, ls) =
+    let b : List ℕ = journalBytes rs in
+    let j : List ℕ = journalBytes (r ∷ rs) ++ q in
+    let e = journal-before r rs q in
+    let n : suc (length rs) + f ≡ length rs + suc f = omega arith in
+    let k : length b < length j = omega (arith, length-append (journalBytes (r ∷ rs)) q, journal-length r rs, record-pos r) in
+    ap₂ (λ (m : ℕ) (x : List ℕ). replayFrom m x 0 (resting p)) n e
+    ∙ replay-through p rs (recordBytes r ++ q) (suc f) hs ls
+    ∙ ap (λ (x : List ℕ). replayFrom (suc f) x (length b) (lived p rs)) (sym e)
+    ∙ replay-read f j (length b) (lived p rs) r (length (journalBytes (r ∷ rs))) k (journal-record r rs q h)
+    ∙ fits-pass (lived p rs .party) (length b) r _ l
+
+-- what the records of a life give: their party, rules and last messages, and where they end
+abbrev pub livedReplay : Party → List Record → Replay
+livedReplay p rs = record { ran = lived p rs; used = length (journalBytes rs) }
+
+-- a journal that holds a life's records, and perhaps a torn one
+pub replay-life : (p : Party) (rs : List Record) (j : List ℕ) → Holds j rs → Life p rs → replayFrom (length j) j 0 (resting p) ≡ found (livedReplay p rs)
+replay-life p rs j h l =
+    let b : List ℕ = journalBytes rs ++ h .tail in
+    let f : ℕ = length b - length rs in
+    let n : length b ≡ length rs + f = omega (arith, records-fewer rs, length-append (journalBytes rs) (h .tail)) in
+    ap (λ (x : List ℕ). replayFrom (length x) x 0 (resting p)) (h .bytes)
+    ∙ ap (λ (m : ℕ). replayFrom m b 0 (resting p)) n
+    ∙ replay-through p rs (h .tail) f (h .limits) l
+    ∙ replay-torn f b (length (journalBytes rs)) (lived p rs) (ap (λ (x : List ℕ). recordAt x (length (journalBytes rs))) (sym (h .bytes)) ∙ holds-end h)
+
+-- ---- the call
+
+module _ (n t own agreement : ℕ) (bytes : List ℕ) (plan : Plan) (most : n ≤ maxBoards) (faults : 3 * t < n) (seat : own < n) (reads : planOf bytes ≡ found plan) where
+  -- questions 1 to 11 are passed
+  pub settled : settledPlan n t own bytes ≡ found plan
+  settled = settle-plan n t own bytes (omega arith) most faults seat ∙ reads
+
+  module _ (rs : List Record) (life : Life (newParty n t own agreement plan) rs) where
+    -- "Restore gives the party of the whole records, in order, their length in bytes, and the messages of the last whole record again", also after a cut
+    pub restored-cut : (j : List ℕ) → Holds j rs → (out : ℕ) → outgoingSize ≤ out
+        → restoreQuestions n t own agreement bytes j out ≡ found (livedReplay (newParty n t own agreement plan) rs)
+    unfolding restoreQuestions
+    restored-cut j h out room =
+        ask-yes (leb outgoingSize out) 18 0 _ (le→leb outgoingSize out room)
+        ∙ ap (onPlanRead n t own agreement j) settled
+        ∙ replay-life (newParty n t own agreement plan) rs j h life
+
+    -- Restoring what a life wrote gives that life's party.
+    pub restored : AllInLimits rs → (out : ℕ) → outgoingSize ≤ out
+        → restoreQuestions n t own agreement bytes (journalBytes rs) out ≡ found (livedReplay (newParty n t own agreement plan) rs)
+    restored h = restored-cut (journalBytes rs) (holds-whole rs (journalBytes rs) h refl)
+
+    -- whatever an accepted restore gives is that
+    pub restored-found : (j : List ℕ) → Holds j rs → (out : ℕ) (r : Replay) → restoreQuestions n t own agreement bytes j out ≡ found r
+        → r ≡ livedReplay (newParty n t own agreement plan) rs
+    unfolding restoreQuestions
+    restored-found j h out r e =
+        let x = asked (leb outgoingSize out) 18 0 (onPlanRead n t own agreement j (settledPlan n t own bytes)) r e in
+        let y : found r ≡ found (livedReplay (newParty n t own agreement plan) rs)
+        = sym (x .1) ∙ ap (onPlanRead n t own agreement j) settled ∙ replay-life (newParty n t own agreement plan) rs j h life in
+        cc

@@ -1,0 +1,103 @@
+-- Demand 3, sentence by sentence.
+use mathlib.Core.Path.{_≡_}
+use mathlib.Core.Logic.{_⊎_}
+use mathlib.Core.List.{List, [], List·Memᴰ}
+use Prim.Native.Nat.{ℕ, _*_, _≤_, _<_}
+use lib.IntN.{ℤ}
+use lib.ListN.{length}
+use Rattle.base.specs.Sets.{Set, count}
+use Rattle.base.specs.Limits.{maxBoards, maxNumber, outgoingSize}
+use Rattle.tree.specs.Walk.{OnPath}
+use Rattle.tree.specs.Edges.{Adjacent}
+use Rattle.edges.specs.Reading.{found}
+use Rattle.plan.specs.declared.Plan.{Plan}
+use Rattle.plan.specs.Positions.{edgesOf, readingOf}
+use Rattle.plan.specs.Reading.{planOf}
+use Rattle.message.specs.declared.Message.{Message}
+use Rattle.message.specs.declared.Exactly.{Exactly}
+use Rattle.message.specs.Message.{messageBytes, exactMessage}
+use Rattle.journal.specs.declared.Record.{Record}
+use Rattle.journal.specs.declared.Record.the-variants.{Start, Taken}
+use Rattle.journal.specs.Records.{recordsFrom}
+use Rattle.party.specs.declared.Party.{Party}
+use Rattle.party.specs.Party.{newParty}
+use Rattle.life.specs.Life.{madeAlong}
+use Rattle.board.specs.declared.Answer.{Answer}
+use Rattle.board.specs.Calls.{answeredOf, noParty}
+use Rattle.board.specs.Restore.{restoreQuestions, restoredOf}
+use Rattle.agreement.specs.History.{Vote, read-answer, calls, History, Stage, waiting, running, down, Board, boardAfter, Sound, Handed, Allowed}
+
+-- ---- a board's journal
+
+-- the records of board i's calls that are not lost: "a start or message whose record is lost counts as not made or taken"
+abbrev pub recordsOf : History → ℕ → List Record
+recordsOf h i = recordsFrom (length (boardAfter h i .journal)) (boardAfter h i .journal) 0 []
+
+-- "Started and taken mean in an accepted call not lost": board i started at position x; it took message m from board s
+abbrev pub StartedAt : History → ℕ → ℕ → Type 0
+StartedAt h i x = (a : ℕ) × List·Memᴰ (Start a x) (recordsOf h i)
+
+abbrev pub TookFrom : History → ℕ → ℕ → Message → Type 0
+TookFrom h i s m = List·Memᴰ (Taken s m) (recordsOf h i)
+
+-- a call of board i that is not lost made the message m: "what a board's calls made leaves lost calls out"
+abbrev pub Makes : Vote → Plan → History → ℕ → Message → Type 0
+Makes v plan h i m = List·Memᴰ m (madeAlong (newParty (v .n) (v .t) i (v .agreement) plan) (recordsOf h i))
+
+-- ---- answers
+
+-- the party that reading would be asked of
+abbrev pub partyBy : Vote → ℕ → Board → Stage → Party
+partyBy v i b waiting = noParty
+partyBy v i b running = b .party
+partyBy v i b down = restoredOf (restoreQuestions (v .n) (v .t) i (v .agreement) (v .plan) (b .journal) outgoingSize) .party
+
+-- "A board's answer is what reading gives or, after a cut, would give once restored."
+abbrev pub answerNow : Vote → History → ℕ → Answer
+answerNow v h i = answeredOf (partyBy v i (boardAfter h i) (boardAfter h i .stage)) .answer
+
+-- "held then or read earlier"
+abbrev pub Answers : Vote → History → ℕ → ℤ → Type 0
+Answers v h i z =
+    (answerNow v h i ≡ Answer.At z) ⊎ ((p : Party) × List·Memᴰ (calls i (read-answer p)) h × (answeredOf p .answer ≡ Answer.At z))
+
+-- ---- the demand
+
+-- "at most one edge apart": the same, or joined by an edge of the plan
+abbrev pub Near : Plan → ℕ → ℕ → Type 0
+Near p x y = (x ≡ y) ⊎ Adjacent (edgesOf p) x y
+
+-- position x of the plan is what the caller knows as z
+abbrev pub Stands : Plan → ℕ → ℤ → Type 0
+Stands p x z = (x < p .count) × (readingOf p x ≡ z)
+
+-- "each lies on the path between two started inputs of sound boards, which may be the same one"
+abbrev pub BetweenInputs : Vote → Plan → Set → History → ℕ → Type 0
+BetweenInputs v plan bad h y =
+    (i : ℕ) × (j : ℕ) × (a : ℕ) × (b : ℕ) × Sound v bad i × Sound v bad j × StartedAt h i a × StartedAt h j b
+    × (a < plan .count) × (b < plan .count) × OnPath (Adjacent (edgesOf plan)) a b y
+
+-- "If every sound board has started, has handed over all that its calls made, and has taken every message that sound boards handed over"
+-- What was handed over are bytes; the message taken is the one that they read as.
+pub record Complete (v : Vote) (plan : Plan) (bad : Set) (h : History) : Type 0 where
+  pub started : (i : ℕ) → Sound v bad i → (x : ℕ) × StartedAt h i x
+  pub handed : (i : ℕ) (m : Message) → Sound v bad i → Makes v plan h i m → Handed i (messageBytes m) h
+  pub taken : (i j : ℕ) (bytes : List ℕ) → Sound v bad i → Sound v bad j → Handed j bytes h
+      → (m : Message) × (exactMessage bytes ≡ Exactly.One m) × TookFrom h i j m
+
+-- what holds after a list of steps
+pub record Holds (v : Vote) (plan : Plan) (bad : Set) (h : History) : Type 0 where
+  -- "Any two answers of sound boards, held then or read earlier, are at most one edge apart"
+  pub near : (i j : ℕ) (y z : ℤ) → Sound v bad i → Sound v bad j → Answers v h i y → Answers v h j z
+      → (x : ℕ) × (w : ℕ) × Stands plan x y × Stands plan w z × Near plan x w
+  -- "and each lies on the path between two started inputs of sound boards"
+  pub validity : (i : ℕ) (y : ℤ) → Sound v bad i → Answers v h i y → (x : ℕ) × Stands plan x y × BetweenInputs v plan bad h x
+  -- "each has an answer"
+  pub ending : Complete v plan bad h → (i : ℕ) → Sound v bad i → (z : ℤ) × (answerNow v h i ≡ Answer.At z)
+
+-- "Whichever boards, at most t of the n, are faulty, whatever they say, in whatever order and however often the wire delivers, and wherever
+-- power is cut: for every list of steps that 01 allows the sound boards (set-up, start, take, reading the answer, restore, handing over, cut;
+-- refused calls included), from boards not yet set up, this holds after it."
+abbrev pub Demand3 : Type 0
+Demand3 = (v : Vote) (plan : Plan) (bad : Set) → v .n ≤ maxBoards → 3 * v .t < v .n → v .agreement ≤ maxNumber → planOf (v .plan) ≡ found plan → count (v .n) bad ≤ v .t
+    → (h : History) → Allowed v bad h → Holds v plan bad h

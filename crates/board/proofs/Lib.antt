@@ -1,0 +1,9 @@
+pub mod Signs
+pub mod Inputs
+pub mod Questions
+pub mod Replays
+pub mod Scans
+pub mod Faults
+pub mod Redone
+pub mod Befores
+pub mod Restores

@@ -1,0 +1,5 @@
+pub mod Answers
+pub mod Calls
+pub mod Restore
+pub mod Results
+pub mod Inner

@@ -1,0 +1,33 @@
+-- Components of a tree given by its rows, and ports in an interval: for the functions inside this crate.
+use mathlib.Core.List.{List}
+use Prim.Native.Nat.{ℕ, _-_, _≤_, _<_}
+use lib.Dec.{T, ltb}
+use Rattle.base.specs.Pick.{pick}
+use Rattle.base.specs.Sets.{Set, count}
+use Rattle.base.specs.Limits.{maxVertices}
+use Rattle.tree.specs.Walk.{Walk}
+use Rattle.tree.specs.Edges.{Edges, Adjacent, In}
+use Rattle.tree.specs.Component.{centre, degree, port}
+use Rattle.edges.specs.Rows.{rows}
+use Rattle.treepass.specs.Steps.{Rows}
+use Rattle.component.specs.declared.Survey.{Survey}
+
+-- the edges of a tree of n positions
+abbrev pub tree : List ℕ → List ℕ → ℕ → Edges
+tree ps cs n = rows ps cs (n - 1)
+
+-- rows in growth order, and a set of their positions that is joined in itself and not empty
+pub record OfTree (ps cs : List ℕ) (n : ℕ) (S : Set) : Type 0 where
+  pub grows : Rows ps cs n (n - 1)
+  pub most : n ≤ maxVertices
+  pub below : (x : ℕ) → T (S x) → x < n
+  pub joins : (x y : ℕ) → T (S x) → T (S y) → Walk (Adjacent (tree ps cs n)) (In S) x y
+  pub some : 0 < count n S
+
+-- the survey of the component S of the tree E, with the board at x
+unfoldable pub surveyIn : Edges → ℕ → Set → ℕ → Survey
+surveyIn E n S x = record { centre = centre E n S; degree = degree E n S; port = port E n S x }
+
+-- the port of x in an interval whose centre is m
+unfoldable pub portAt : ℕ → ℕ → ℕ
+portAt m x = pick (ltb x m) 1 (pick (ltb m x) 2 0)

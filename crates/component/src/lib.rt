@@ -1,0 +1,267 @@
+// Components of a plan: size, centre, neighbours, sides. A range takes a constant time for each, a tree one or two passes over its rows.
+ghost use mathlib.Core.Path.{_≡_};
+ghost use Prim.Native.Nat.{_+_, _≤_, _<_};
+ghost use lib.Dec.{T};
+ghost use lib.ListN.{length};
+ghost use Rattle.base.specs.Limits.{maxVertices};
+ghost use Rattle.tree.specs.Component.{upto, without, centre, neighbours, degree, neighbour, side, port};
+ghost use Rattle.tree.specs.Path.{middle};
+ghost use Rattle.plan.specs.Valid.{planValid};
+ghost use Rattle.marks.specs.Marks.{marked};
+ghost use Rattle.component.specs.Component.{members, OfPlan, sizeOf, centreOf, degreeOf, neighbourOf, sideOf, surveyOf};
+ghost use Rattle.component.specs.Inner.{tree, OfTree, surveyIn, portAt};
+
+// Some positions of a plan.
+pub struct Component {
+    // the first and the last position, for a range
+    pub low: u32,
+    pub high: u32,
+    // 1 for each position in it, for a tree
+    pub inside: [u8; base::MAX_VERTICES],
+}
+
+// What the rules ask of a component of three or more positions, and of the board's position in it.
+pub struct Survey {
+    pub centre: u32,
+    pub degree: u32,
+    pub port: u8,
+}
+
+// All positions of a plan.
+pub fn whole(p: plan::Plan) -> Component
+    requires { ⌜ T (planValid p) ⌝ }
+    ensures { λ r. ⌜ members p r ≡ upto (p .count) ⌝ }
+{
+    let mut inside = [0u8; base::MAX_VERTICES];
+    if p.kind == 1 {
+        marks::fill(&mut inside, p.count as usize);
+        return Component {
+            low: 0,
+            high: 0,
+            inside: inside,
+        };
+    }
+    Component {
+        low: 0,
+        high: p.count - 1,
+        inside: inside,
+    }
+}
+
+// Is x a position of the component?
+pub fn contains(p: plan::Plan, c: Component, x: u32) -> bool
+    ensures { λ r. ⌜ r ≡ members p c x ⌝ }
+{
+    if p.kind == 1 {
+        let at = x as usize;
+        if at < base::MAX_VERTICES {
+            let inside = c.inside;
+            return inside[at] == 1;
+        }
+        return false;
+    }
+    c.low <= x && x <= c.high
+}
+
+// How many positions it has.
+pub fn size(p: plan::Plan, c: Component) -> u32
+    requires { ⌜ OfPlan p (members p c) ⌝ }
+    ensures { λ r. ⌜ r ≡ sizeOf p (members p c) ⌝ }
+{
+    if p.kind == 1 {
+        let inside = c.inside;
+        return marks::count(&inside, p.count as usize) as u32;
+    }
+    c.high - c.low + 1
+}
+
+// The centre of a component of a range.
+fn midpoint(low: u32, high: u32) -> u32
+    requires { ⌜ low ≤ high ⌝ }
+    ensures { λ r. ⌜ r ≡ middle low high ⌝ }
+{
+    low + (high - low) / 2
+}
+
+// The port of x in a component of a range whose centre is m.
+fn range_port(m: u32, x: u32) -> u8
+    ensures { λ r. ⌜ r ≡ portAt m x ⌝ }
+{
+    if x < m {
+        return 1;
+    }
+    if m < x {
+        return 2;
+    }
+    0
+}
+
+// The marks without c's.
+fn leave_out(inside: [u8; base::MAX_VERTICES], c: usize) -> [u8; base::MAX_VERTICES]
+    requires { ⌜ c < maxVertices ⌝ }
+    ensures { λ r. ⌜ marked r ≡ without (marked inside) c ⌝ }
+{
+    let mut rest = inside;
+    rest[c] = 0;
+    rest
+}
+
+// The port of x in a component of a tree; `near` marks the neighbours of its centre c.
+fn tree_port(
+    ps: &[u16],
+    cs: &[u16],
+    inside: [u8; base::MAX_VERTICES],
+    near: &[u8],
+    n: usize,
+    c: usize,
+    x: usize,
+) -> usize
+    requires { ⌜ OfTree (now ps) (now cs) n (marked inside) × T (marked inside x) × (c ≡ centre (tree (now ps) (now cs) n) n (marked inside)) × (marked (now near) ≡ neighbours (tree (now ps) (now cs) n) n (marked inside)) × (n ≤ length (now near)) ⌝ }
+    ensures { λ r. ⌜ (r ≡ port (tree (now (ps .entry)) (now (cs .entry)) n) n (marked inside) x) × (r ≤ n) ⌝ }
+{
+    if x == c {
+        return 0;
+    }
+    let rest = leave_out(inside, c);
+    let mut labels = [0u16; base::MAX_VERTICES];
+    treepass::labels(ps, cs, &rest, &mut labels, n, n - 1);
+    let a = labels[x];
+    let w = marks::first_labelled(near, &labels, a, n);
+    marks::count(near, w + 1)
+}
+
+// The survey of a component of a tree.
+fn tree_survey(
+    ps: &[u16],
+    cs: &[u16],
+    inside: [u8; base::MAX_VERTICES],
+    n: usize,
+    x: usize,
+) -> Survey
+    requires { ⌜ OfTree (now ps) (now cs) n (marked inside) × T (marked inside x) ⌝ }
+    ensures { λ r. ⌜ r ≡ surveyIn (tree (now (ps .entry)) (now (cs .entry)) n) n (marked inside) x ⌝ }
+{
+    let c = treepass::centre(ps, cs, inside, n, n - 1);
+    let mut near = [0u8; base::MAX_VERTICES];
+    treepass::neighbours(ps, cs, &inside, &mut near, c, n, n - 1);
+    let d = marks::count(&near, n);
+    let k = tree_port(ps, cs, inside, &near, n, c, x);
+    Survey {
+        centre: c as u32,
+        degree: d as u32,
+        port: k as u8,
+    }
+}
+
+// The survey with the board at x.
+pub fn survey_at(p: plan::Plan, c: Component, x: u32) -> Survey
+    requires { ⌜ OfPlan p (members p c) × (3 ≤ sizeOf p (members p c)) × T (members p c x) ⌝ }
+    ensures { λ r. ⌜ r ≡ surveyOf p (members p c) x ⌝ }
+{
+    if p.kind == 1 {
+        let parent = p.parent;
+        let child = p.child;
+        let inside = c.inside;
+        return tree_survey(&parent, &child, inside, p.count as usize, x as usize);
+    }
+    let m = midpoint(c.low, c.high);
+    let k = range_port(m, x);
+    Survey {
+        centre: m,
+        degree: 2,
+        port: k,
+    }
+}
+
+// Neighbour k of the centre of a component of a tree.
+fn tree_neighbour(ps: &[u16], cs: &[u16], inside: &[u8], n: usize, c: usize, k: usize) -> usize
+    requires { ⌜ OfTree (now ps) (now cs) n (marked (now inside)) × (n ≤ length (now inside)) × (c ≡ centre (tree (now ps) (now cs) n) n (marked (now inside))) × (1 ≤ k) ⌝ }
+    ensures { λ r. ⌜ r ≡ neighbour (tree (now (ps .entry)) (now (cs .entry)) n) n (marked (now (inside .entry))) k ⌝ }
+{
+    let mut near = [0u8; base::MAX_VERTICES];
+    treepass::neighbours(ps, cs, inside, &mut near, c, n, n - 1);
+    marks::nth(&near, n, k)
+}
+
+// Neighbour k of the centre.
+pub fn neighbour(p: plan::Plan, c: Component, centre: u32, k: u32) -> u32
+    requires { ⌜ OfPlan p (members p c) × (3 ≤ sizeOf p (members p c)) × (centre ≡ centreOf p (members p c)) × (1 ≤ k) × (k ≤ degreeOf p (members p c)) ⌝ }
+    ensures { λ r. ⌜ r ≡ neighbourOf p (members p c) k ⌝ }
+{
+    if p.kind == 1 {
+        let parent = p.parent;
+        let child = p.child;
+        let inside = c.inside;
+        return tree_neighbour(
+            &parent,
+            &child,
+            &inside,
+            p.count as usize,
+            centre as usize,
+            k as usize,
+        ) as u32;
+    }
+    if k == 1 {
+        return centre - 1;
+    }
+    centre + 1
+}
+
+// Side k of a component of a tree.
+fn tree_side(
+    ps: &[u16],
+    cs: &[u16],
+    inside: [u8; base::MAX_VERTICES],
+    n: usize,
+    c: usize,
+    k: usize,
+) -> [u8; base::MAX_VERTICES]
+    requires { ⌜ OfTree (now ps) (now cs) n (marked inside) × (c ≡ centre (tree (now ps) (now cs) n) n (marked inside)) × (1 ≤ k) × (k ≤ degree (tree (now ps) (now cs) n) n (marked inside)) ⌝ }
+    ensures { λ r. ⌜ marked r ≡ side (tree (now (ps .entry)) (now (cs .entry)) n) n (marked inside) k ⌝ }
+{
+    let w = tree_neighbour(ps, cs, &inside, n, c, k);
+    let mut rest = leave_out(inside, c);
+    let mut labels = [0u16; base::MAX_VERTICES];
+    treepass::labels(ps, cs, &rest, &mut labels, n, n - 1);
+    let a = labels[w];
+    marks::keep(&mut rest, &labels, a, n);
+    rest
+}
+
+// Side k.
+pub fn side(p: plan::Plan, c: Component, centre: u32, k: u32) -> Component
+    requires { ⌜ OfPlan p (members p c) × (3 ≤ sizeOf p (members p c)) × (centre ≡ centreOf p (members p c)) × (1 ≤ k) × (k ≤ degreeOf p (members p c)) ⌝ }
+    ensures { λ r. ⌜ members p r ≡ sideOf p (members p c) k ⌝ }
+{
+    if p.kind == 1 {
+        let parent = p.parent;
+        let child = p.child;
+        let inside = c.inside;
+        let part = tree_side(
+            &parent,
+            &child,
+            inside,
+            p.count as usize,
+            centre as usize,
+            k as usize,
+        );
+        return Component {
+            low: 0,
+            high: 0,
+            inside: part,
+        };
+    }
+    let none = [0u8; base::MAX_VERTICES];
+    if k == 1 {
+        return Component {
+            low: c.low,
+            high: centre - 1,
+            inside: none,
+        };
+    }
+    Component {
+        low: centre + 1,
+        high: c.high,
+        inside: none,
+    }
+}

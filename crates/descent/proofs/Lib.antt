@@ -1,0 +1,3 @@
+pub mod Descent
+pub mod Ending
+pub mod Trees

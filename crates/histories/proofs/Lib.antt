@@ -1,0 +1,9 @@
+pub mod Worlds
+pub mod Delivery
+pub mod Computing
+pub mod Alone
+pub mod Cuts
+pub mod Liar
+pub mod Neighbours
+pub mod Grades
+pub mod Modes

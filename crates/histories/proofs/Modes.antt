@@ -1,0 +1,27 @@
+-- Two boards on a tree: their answers differ by an edge.
+use mathlib.Core.Path.{_≡_, refl}
+use mathlib.Core.Bool.{true}
+use mathlib.Core.List.{[], _∷_}
+use lib.IntN.{pos}
+use Rattle.board.specs.declared.Answer.{Answer}
+use Rattle.histories.specs.Scripts.{historyOf, Concludes}
+use Rattle.histories.specs.Modes.{vote, plan, bad, script}
+use Rattle.histories.proofs.Worlds.{passes, listed, answerIn, ending}
+use Rattle.histories.proofs.Delivery.{full, concludes}
+use Rattle.histories.proofs.Computing.{computing}
+
+passing : passes vote bad script ≡ true
+unfolding computing script
+passing = refl
+
+delivered : full vote plan bad (ending vote script) ≡ true
+unfolding computing script
+delivered = refl
+
+answering : listed 0 2 (answerIn vote (ending vote script)) ≡ Answer.At (pos 0) ∷ Answer.At (pos 3) ∷ []
+unfolding computing script
+answering = refl
+
+pub conclusion : Concludes vote plan bad (historyOf vote script) (Answer.At (pos 0) ∷ Answer.At (pos 3) ∷ [])
+unfolding computing
+conclusion = concludes vote bad script passing plan (Answer.At (pos 0) ∷ Answer.At (pos 3) ∷ []) refl refl delivered answering

@@ -1,0 +1,7 @@
+pub mod Scripts
+pub mod Alone
+pub mod Cuts
+pub mod Liar
+pub mod Neighbours
+pub mod Grades
+pub mod Modes

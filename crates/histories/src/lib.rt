@@ -1,0 +1,1 @@
+// Histories that meet demand 3's premises. Definitions and laws, no code.

@@ -1,0 +1,40 @@
+-- Whole journals: the bytes of a list of records, and the records of given bytes.
+use mathlib.Core.Path.{_≡_}
+use mathlib.Core.Bool.{true}
+use mathlib.Core.List.{List, [], _∷_, _++_}
+use Prim.Native.Nat.{ℕ, zero, suc, _^_, _<_, _≤_}
+use lib.ListN.{length}
+use Rattle.base.specs.Limits.{maxPosition, maxSender}
+use Rattle.message.specs.Message.{inTable}
+use Rattle.journal.specs.declared.Record.{Record}
+use Rattle.journal.specs.declared.Record.the-variants.{Start, Taken}
+use Rattle.journal.specs.declared.RecordRead.{RecordRead}
+use Rattle.journal.specs.Journal.{recordBytes, recordAt}
+
+-- "A whole record has every value in the limits just given and in the message table."
+abbrev pub InLimits : Record → Type 0
+InLimits (Start agreement x) = (agreement < 2 ^ 32) × (x ≤ maxPosition)
+InLimits (Taken sender m) = (sender ≤ maxSender) × (inTable m ≡ true) × (m .number < 2 ^ 32)
+
+abbrev pub AllInLimits : List Record → Type 0
+AllInLimits [] = Unit
+AllInLimits (r ∷ rs) = InLimits r × AllInLimits rs
+
+-- tail is a beginning of the record's bytes, perhaps empty, and not all of them
+abbrev pub ProperBeginning : Record → List ℕ → Type 0
+ProperBeginning r tail = (rest : List ℕ) × (0 < length rest) × (tail ++ rest ≡ recordBytes r)
+
+-- the bytes of the records, the latest first in the list and last in the bytes
+unfoldable pub journalBytes : List Record → List ℕ
+journalBytes [] = []
+journalBytes (r ∷ rs) = journalBytes rs ++ recordBytes r
+
+abbrev pub withRecord : RecordRead → List Record → (Record → ℕ → List Record) → List Record
+withRecord (RecordRead.Read r next) rs more = more r next
+withRecord RecordRead.Torn rs more = rs
+withRecord RecordRead.Bad rs more = rs
+
+-- the whole records from `at` on, at most f, after rs; the latest first
+unfoldable pub recordsFrom : ℕ → List ℕ → ℕ → List Record → List Record
+recordsFrom zero j at rs = rs
+recordsFrom (suc f) j at rs = withRecord (recordAt j at) rs (λ r next. recordsFrom f j next (r ∷ rs))

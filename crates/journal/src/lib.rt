@@ -1,0 +1,133 @@
+// Journal records: a start, or a taken message.
+ghost use mathlib.Core.Path.{_≡_};
+ghost use Prim.Native.Nat.{_+_, _≤_};
+ghost use lib.ListN.{length};
+ghost use Rattle.base.specs.Put.{putAt};
+ghost use Rattle.base.specs.Limits.{maxPosition, maxSender};
+ghost use Rattle.varint.specs.Varint.{varintAt, varintWithin};
+ghost use Rattle.message.specs.Message.{messageAt};
+ghost use Rattle.journal.specs.declared.Record.the-variants.{Start, Taken};
+ghost use Rattle.journal.specs.Journal.{recordBytes, recordAt, withPosition, withAgreement, withMessage, withSender};
+
+pub enum Record {
+    // agreement number and position
+    Start(u32, u32),
+    // sender and message
+    Taken(u8, message::Message),
+}
+
+// What reading a record finds: it and the place past it; a beginning of one, which only further bytes could make whole; or neither.
+pub enum RecordRead {
+    Read(Record, usize),
+    Torn,
+    Bad,
+}
+
+// The position at `at` of a start's record with this agreement number.
+fn read_position(s: &[u8], at: usize, agreement: u32) -> RecordRead
+    ensures { λ r. ⌜ r ≡ withPosition agreement (varintWithin 0 maxPosition (now (s .entry)) at) ⌝ }
+{
+    match varint::read_within(s, at, 0, base::MAX_POSITION) {
+        varint::VarintRead::Value(x, end) => RecordRead::Read(Record::Start(agreement, x), end),
+        varint::VarintRead::Short(_) => RecordRead::Torn,
+        varint::VarintRead::Malformed => RecordRead::Bad,
+    }
+}
+
+// A start's record after its tag.
+fn read_start(s: &[u8], at: usize) -> RecordRead
+    ensures { λ r. ⌜ r ≡ withAgreement (now (s .entry)) (varintAt (now (s .entry)) at) ⌝ }
+{
+    match varint::read(s, at) {
+        varint::VarintRead::Value(agreement, next) => read_position(s, next, agreement),
+        varint::VarintRead::Short(_) => RecordRead::Torn,
+        varint::VarintRead::Malformed => RecordRead::Bad,
+    }
+}
+
+// The message at `at` of a record with this sender.
+fn read_message(s: &[u8], at: usize, sender: u8) -> RecordRead
+    ensures { λ r. ⌜ r ≡ withMessage sender (messageAt (now (s .entry)) at) ⌝ }
+{
+    match message::read_at(s, at) {
+        message::MessageRead::Read(m, end) => RecordRead::Read(Record::Taken(sender, m), end),
+        message::MessageRead::Short => RecordRead::Torn,
+        message::MessageRead::Bad => RecordRead::Bad,
+    }
+}
+
+// The record of a taken message after its tag.
+fn read_taken(s: &[u8], at: usize) -> RecordRead
+    ensures { λ r. ⌜ r ≡ withSender (now (s .entry)) (varintWithin 0 maxSender (now (s .entry)) at) ⌝ }
+{
+    match varint::read_within(s, at, 0, base::MAX_SENDER) {
+        varint::VarintRead::Value(sender, next) => read_message(s, next, sender as u8),
+        varint::VarintRead::Short(_) => RecordRead::Torn,
+        varint::VarintRead::Malformed => RecordRead::Bad,
+    }
+}
+
+// The record that stands at `at`.
+pub fn read_at(s: &[u8], at: usize) -> RecordRead
+    ensures { λ r. ⌜ r ≡ recordAt (now (s .entry)) at ⌝ }
+{
+    match varint::read_within(s, at, 1, 2) {
+        varint::VarintRead::Value(k, next) => {
+            if k == 1 {
+                return read_start(s, next);
+            }
+            read_taken(s, next)
+        }
+        varint::VarintRead::Short(_) => RecordRead::Torn,
+        varint::VarintRead::Malformed => RecordRead::Bad,
+    }
+}
+
+// How many bytes a record has.
+pub fn size(r: Record) -> usize
+    ensures { λ k. ⌜ k ≡ length (recordBytes r) ⌝ }
+{
+    match r {
+        Record::Start(agreement, x) => 1 + varint::size(agreement) + varint::size(x),
+        Record::Taken(sender, m) => 1 + varint::size(sender as u32) + message::size(m),
+    }
+}
+
+// A start's record is written from the slice's first byte on; its length.
+fn put_start(out: &mut [u8], agreement: u32, x: u32) -> usize
+    requires { ⌜ length (recordBytes (Start agreement x)) ≤ length (now out) ⌝ }
+    ensures { λ k. ⌜ (k ≡ length (recordBytes (Start agreement x))) × (now (out .exit) ≡ putAt (now (out .entry)) 0 (recordBytes (Start agreement x))) ⌝ }
+{
+    let i = varint::put(out, 0, 1);
+    let j = varint::put(out, i, agreement);
+    varint::put(out, j, x)
+}
+
+// The same of a taken message's record.
+fn put_taken(out: &mut [u8], sender: u8, m: message::Message) -> usize
+    requires { ⌜ length (recordBytes (Taken sender m)) ≤ length (now out) ⌝ }
+    ensures { λ k. ⌜ (k ≡ length (recordBytes (Taken sender m))) × (now (out .exit) ≡ putAt (now (out .entry)) 0 (recordBytes (Taken sender m))) ⌝ }
+{
+    let i = varint::put(out, 0, 2);
+    let j = varint::put(out, i, sender as u32);
+    message::put(out, j, m)
+}
+
+// The same of any record.
+fn put(out: &mut [u8], r: Record) -> usize
+    requires { ⌜ length (recordBytes r) ≤ length (now out) ⌝ }
+    ensures { λ k. ⌜ (k ≡ length (recordBytes r)) × (now (out .exit) ≡ putAt (now (out .entry)) 0 (recordBytes r)) ⌝ }
+{
+    match r {
+        Record::Start(agreement, x) => put_start(out, agreement, x),
+        Record::Taken(sender, m) => put_taken(out, sender, m),
+    }
+}
+
+// The record is written into the journal's unused part; the new used length.
+pub fn append(journal: &mut [u8], used: usize, r: Record) -> usize
+    requires { ⌜ used + length (recordBytes r) ≤ length (now journal) ⌝ }
+    ensures { λ k. ⌜ (k ≡ used + length (recordBytes r)) × (now (journal .exit) ≡ putAt (now (journal .entry)) used (recordBytes r)) ⌝ }
+{
+    used + put(&mut journal[used..], r)
+}

@@ -1,0 +1,24 @@
+-- Rule 11.
+use borrow.Author.Tests.{eq-eqb, ne-eqb}
+use Rattle.level.specs.Rules.{rule11}
+use Rattle.level.proofs.Level.rule11.Statement.{statement}
+use Rattle.level.proofs.Level.rule11.Tie as tie
+
+returns : tie.Need-returns
+unfolding rule11
+returns c = rw (ne-eqb _ _ (c .if1 .taken))
+
+returns-2 : tie.Need-returns-2
+unfolding rule11
+returns-2 c = rw (eq-eqb _ _ (c .before .if1 .left), c .if2 .taken)
+
+returns-3 : tie.Need-returns-3
+unfolding rule11
+returns-3 c = rw (eq-eqb _ _ (c .before .before .before .if1 .left), c .before .before .if2 .left, eq-eqb _ _ (c .if3 .taken))
+
+returns-4 : tie.Need-returns-4
+unfolding rule11
+returns-4 c = rw (eq-eqb _ _ (c .before .before .before .if1 .left), c .before .before .if2 .left, ne-eqb _ _ (c .if3 .left))
+
+pub rule11-spec : {M : Type 1} → statement M
+rule11-spec = tie.close (tie.spec returns returns-2 returns-3 returns-4)

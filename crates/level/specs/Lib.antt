@@ -1,0 +1,3 @@
+pub mod Level
+pub mod Counts
+pub mod Rules

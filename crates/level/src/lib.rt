@@ -1,0 +1,155 @@
+// One level of a party: what was heard at it, what was made at it, and the fourteen rules.
+ghost use mathlib.Core.Path.{_≡_};
+ghost use mathlib.Core.Bool.{true};
+ghost use Prim.Native.Nat.{_<_};
+ghost use Rattle.message.specs.Message.{bodyInTable};
+ghost use Rattle.level.specs.Level.{blankLevel, withHeard, held};
+ghost use Rattle.level.specs.Rules;
+
+mod counts;
+mod rules;
+
+// How many messages differ at a level: one set of senders for each.
+pub const SLOTS: usize = 83;
+// A value that is not there yet.
+pub const NOT_YET: u8 = 17;
+// An output that is not there yet.
+pub const NO_OUTPUT: u32 = 65536;
+
+pub struct Level {
+    // the senders of each message of this level, by its slot
+    pub sets: [u16; SLOTS],
+    // has the board entered the level, by which side of the level above (0 at level 0), and at which position?
+    pub entered: bool,
+    pub side: u8,
+    pub position: u32,
+    // first echoes made: of the port, of none
+    pub echoed_port: bool,
+    pub echoed_none: bool,
+    // the first proposal made, or NOT_YET
+    pub proposal: u8,
+    // the first result, none, or NOT_YET
+    pub first: u8,
+    // second echoes made, by value
+    pub echoed: [bool; 17],
+    // the second proposal made, or NOT_YET
+    pub second_proposal: u8,
+    // the (second) result's value, none, or NOT_YET; a value's grade is 2 if sure, else 1
+    pub result: u8,
+    pub sure: bool,
+    // has rule 11 been applied?
+    pub told_centre: bool,
+    // the output, or NO_OUTPUT
+    pub output: u32,
+}
+
+// What the rules at a level ask of the settings, the plan and the level below.
+pub struct Context {
+    pub n: u32,
+    pub t: u32,
+    // d, the number of the centre's neighbours
+    pub degree: u32,
+    pub port: u8,
+    pub centre: u32,
+    pub next_entered: bool,
+    pub next_output: u32,
+}
+
+// What a rule does besides changing its level's record.
+pub enum Effect {
+    // the rule does not apply
+    Nothing,
+    // it applies and makes no message
+    Quiet,
+    // it applies and makes this message
+    Send(message::Body),
+    // it applies and enters this side of the next level, at the old position if so said, else at the side's neighbour
+    Enter(u8, bool),
+    // it applies, sends this side, and enters it at its neighbour
+    SendEnter(u8),
+}
+
+pub struct Applied {
+    pub level: Level,
+    pub effect: Effect,
+}
+
+// Does a rule with this effect apply?
+pub fn applies(e: Effect) -> bool
+    ensures { λ r. ⌜ r ≡ Rules.applies e ⌝ }
+{
+    match e {
+        Effect::Nothing => false,
+        Effect::Quiet => true,
+        Effect::Send(_) => true,
+        Effect::Enter(_, _) => true,
+        Effect::SendEnter(_) => true,
+    }
+}
+
+// The place of a message's set of senders.
+pub fn slot(b: message::Body) -> usize
+    ensures { λ r. ⌜ r ≡ Rattle.level.specs.Level.slot b ⌝ }
+{
+    match b {
+        message::Body::FirstEcho(v) => v as usize,
+        message::Body::FirstProposal(v) => 17 + v as usize,
+        message::Body::SecondEcho(v) => 33 + v as usize,
+        message::Body::SecondProposal(v) => 50 + v as usize,
+        message::Body::Side(v) => 66 + v as usize,
+        message::Body::Centre => 82,
+    }
+}
+
+impl Level {
+    // A level that was not entered and at which nothing was heard.
+    pub fn blank() -> Level
+        ensures { λ r. ⌜ r ≡ blankLevel ⌝ }
+    {
+        Level {
+            sets: [0; SLOTS],
+            entered: false,
+            side: 0,
+            position: 0,
+            echoed_port: false,
+            echoed_none: false,
+            proposal: NOT_YET,
+            first: NOT_YET,
+            echoed: [false; 17],
+            second_proposal: NOT_YET,
+            result: NOT_YET,
+            sure: false,
+            told_centre: false,
+            output: NO_OUTPUT,
+        }
+    }
+
+    // The senders of a message.
+    pub fn senders(self, b: message::Body) -> u16
+        requires { ⌜ bodyInTable b ≡ true ⌝ }
+        ensures { λ r. ⌜ r ≡ Rattle.level.specs.Level.senders self b ⌝ }
+    {
+        let i = slot(b);
+        self.sets[i]
+    }
+
+    // The level with a message taken from sender s.
+    pub fn hear(self, b: message::Body, s: u8) -> Level
+        requires { ⌜ (bodyInTable b ≡ true) × (s < 16) ⌝ }
+        ensures { λ r. ⌜ r ≡ withHeard self b s ⌝ }
+    {
+        let i = slot(b);
+        let mut l = self;
+        let m = l.sets[i];
+        l.sets[i] = senders::add(m, s);
+        l
+    }
+
+    // Was the message taken from s already?
+    pub fn holds(self, b: message::Body, s: u8) -> bool
+        requires { ⌜ (bodyInTable b ≡ true) × (s < 16) ⌝ }
+        ensures { λ r. ⌜ r ≡ held self b s ⌝ }
+    {
+        senders::contains(self.senders(b), s)
+    }
+}

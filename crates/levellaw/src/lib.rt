@@ -1,0 +1,1 @@
+// What level records rest on that came about by the rules. Laws, no code.

@@ -1,0 +1,4 @@
+pub mod Party
+pub mod Run
+pub mod Valid
+pub mod Chart

@@ -1,0 +1,11 @@
+pub mod Levels
+pub mod Valid
+pub mod Components
+pub mod Updates
+pub mod Moves
+pub mod Calls
+pub mod Runs
+pub mod Kept
+pub mod Grown
+pub mod Formed
+pub mod Laws

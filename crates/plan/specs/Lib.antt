@@ -1,0 +1,4 @@
+pub mod Positions
+pub mod Reading
+pub mod Columns
+pub mod Valid

@@ -1,0 +1,57 @@
+-- Document 01, "Questions at the door", 1 to 11: the settings, then "the plan, left to right, both groups of an edge or a range read before 7 or 10 is asked".
+use mathlib.Core.Bool.{_&&_}
+use mathlib.Core.List.{List, []}
+use Prim.Native.Nat.{ℕ, _+_, _-_, _*_}
+use lib.Dec.{ltb, leb, eqb}
+use lib.ListN.{length}
+use Rattle.base.specs.Pick.{pick}
+use Rattle.signed.specs.Signed.{offsetOfZigzag}
+use Rattle.tree.specs.Growth.{sweeps}
+use Rattle.edges.specs.Reading.{Found, found, refused, group, ask, edgesFrom}
+use Rattle.plan.specs.declared.Plan.{Plan}
+use Rattle.plan.specs.declared.PlanRead.{PlanRead}
+use Rattle.base.specs.declared.Verdict.{Verdict}
+use Rattle.base.specs.Limits.{maxBoards, maxVertices, maxWidth, maxReading}
+use Rattle.plan.specs.Positions.{treePlan, rangePlan, noPlan}
+
+-- "Does the plan end with its bytes? 11."
+abbrev pub ended : {A : Type 0} → List ℕ → ℕ → A → Found A
+ended s at a = ask (eqb at (length s)) 11 at (found a)
+
+-- kind 1: vertex count V, then V - 1 edges; they are kept in an order in which the tree grows from vertex 0
+abbrev pub treeFrom : List ℕ → ℕ → Found Plan
+treeFrom s at =
+    group s at (λ v next.
+    ask (leb 1 v && leb v maxVertices) 6 at
+    (edgesFrom v (v - 1) s next [] (λ E end. ended s end (treePlan v (sweeps (v - 1) E)))))
+
+-- kind 2: signed low reading, then the width; "Are low, width and high in their limits? 10." (every signed low is)
+abbrev pub rangeFrom : List ℕ → ℕ → Found Plan
+rangeFrom s at =
+    group s at (λ z second. group s second (λ width next.
+    ask (leb width maxWidth && leb (offsetOfZigzag z + width) maxReading) 10 second
+    (ended s next (rangePlan (offsetOfZigzag z) width))))
+
+-- "Is the kind 1 or 2? 5."
+unfoldable pub planFrom : List ℕ → ℕ → Found Plan
+planFrom s at =
+    group s at (λ kind next.
+    pick (eqb kind 1) (treeFrom s next)
+    (pick (eqb kind 2) (rangeFrom s next) (refused 5 at)))
+
+-- the plan that the lent bytes are
+abbrev pub planOf : List ℕ → Found Plan
+planOf s = planFrom s 0
+
+-- "Is n 1 to 16? 1. Is 3t below n? 2. Is the own number below n? 3. Then the plan"
+unfoldable pub settledPlan : ℕ → ℕ → ℕ → List ℕ → Found Plan
+settledPlan n t own s =
+    ask (leb 1 n && leb n maxBoards) 1 0
+    (ask (ltb (3 * t) n) 2 0
+    (ask (ltb own n) 3 0
+    (planOf s)))
+
+-- the answer as the call gives it: no plan comes with a refusal
+abbrev pub answered : Found Plan → PlanRead
+answered (found p) = record { verdict = Verdict.Accepted; plan = p }
+answered (refused number place) = record { verdict = Verdict.Refused number place; plan = noPlan }

@@ -1,0 +1,5 @@
+pub mod Rows
+pub mod LabelPass
+pub mod SizePass
+pub mod LightPass
+pub mod NearPass

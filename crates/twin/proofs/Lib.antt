@@ -1,0 +1,11 @@
+pub mod Geometry
+pub mod Numbering
+pub mod Parties
+pub mod Valid
+pub mod Twins
+pub mod Positions
+pub mod Calls
+pub mod Restores
+pub mod Scripts
+pub mod Bytes
+pub mod Laws

@@ -1,0 +1,2 @@
+pub mod Twin
+pub mod Script

@@ -1,0 +1,13 @@
+pub mod Order
+pub mod Entries
+pub mod Changes
+pub mod Calls
+pub mod Steps
+pub mod Kept
+pub mod Quiet
+pub mod Heard
+pub mod Lawful
+pub mod Made
+pub mod Lives
+pub mod Records
+pub mod Laws
