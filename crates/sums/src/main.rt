@@ -1,0 +1,78 @@
+// Runs sums of document 01 ("Sums to check by hand") through the code and prints what comes of them.
+use libc::STDOUT_FILENO;
+
+fn number(n: u64) {
+    io::print_decimal(STDOUT_FILENO, n);
+    io::write_all(STDOUT_FILENO, b" ");
+}
+
+fn line() {
+    io::write_all(STDOUT_FILENO, b"\n");
+}
+
+// The refusal's number and place, or 0.
+fn verdict(r: plan::PlanRead) {
+    let v = r.verdict;
+    match v {
+        base::Verdict::Accepted => number(0),
+        base::Verdict::Refused(k, place) => {
+            number(k as u64);
+            number(place as u64);
+        }
+    }
+    line();
+}
+
+// The first bytes of a buffer.
+fn bytes(b: [u8; 8]) {
+    number(b[0] as u64);
+    number(b[1] as u64);
+    number(b[2] as u64);
+    number(b[3] as u64);
+    line();
+}
+
+fn varint_of(v: u32) -> [u8; 8] {
+    let mut b = [0u8; 8];
+    let _w = varint::write(&mut b, 0, v);
+    b
+}
+
+fn signed_of(z: i32) -> [u8; 8] {
+    let mut b = [0u8; 8];
+    let _w = signed::write(&mut b, 0, z);
+    b
+}
+
+fn message_of(m: message::Message) -> [u8; 8] {
+    let mut b = [0u8; 8];
+    let _w = message::write(&mut b, m);
+    b
+}
+
+fn main() {
+    bytes(varint_of(300));
+    verdict(plan::read(&[128, 0]));
+    bytes(signed_of(-5));
+    let echo = message::Body::SecondEcho(16);
+    let m = message::Message {
+        number: 7,
+        level: 2,
+        body: echo,
+    };
+    bytes(message_of(m));
+    verdict(plan::read(&[2, 9, 8]));
+    verdict(plan::settle(3, 1, 0, &[2, 9, 8]));
+    verdict(plan::settle(16, 5, 15, &[2, 9, 8]));
+    verdict(plan::settle(16, 6, 0, &[2, 9, 8]));
+    verdict(plan::settle(17, 5, 0, &[2, 9, 8]));
+    verdict(plan::settle(4, 1, 4, &[2, 9, 8]));
+    verdict(plan::read(&[2, 0, 255, 255, 3]));
+    verdict(plan::read(&[2, 0, 128, 128, 4]));
+    verdict(plan::read(&[1, 3, 0, 1, 1, 2]));
+    verdict(plan::read(&[1, 3, 0, 1, 1, 0]));
+    verdict(plan::read(&[1, 3, 0, 1, 1, 3]));
+    verdict(plan::read(&[1, 128, 2]));
+    verdict(plan::read(&[3]));
+    verdict(plan::read(&[1, 1, 0]));
+}
