@@ -10,7 +10,7 @@ use borrow.Author.Tests.{ne-eqb}
 use Rattle.base.specs.Sets.{Set}
 use Rattle.base.specs.Limits.{outgoingSize}
 use Rattle.base.proofs.Bools.{T→true}
-use Rattle.edges.specs.Reading.{Found}
+use Rattle.base.specs.Found.{Found}
 use Rattle.plan.specs.declared.Plan.{Plan}
 use Rattle.plan.specs.Positions.{readingOf}
 use Rattle.message.specs.declared.Message.{Message}

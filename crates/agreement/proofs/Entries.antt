@@ -11,7 +11,7 @@ use lib.ListN.{length}
 use Rattle.base.specs.Pick.{pick}
 use Rattle.base.specs.Limits.{maxBoards, maxWidth, outgoingSize}
 use Rattle.base.proofs.Bools.{T→true, true→T}
-use Rattle.edges.specs.Reading.{Found, found, ask}
+use Rattle.base.specs.Found.{Found, found, ask}
 use Rattle.plan.specs.declared.Plan.{Plan}
 use Rattle.plan.proofs.Listed.{asked}
 use Rattle.message.specs.declared.Message.{Message}

@@ -11,7 +11,7 @@ use Rattle.base.specs.Pick.{pick}
 use Rattle.base.specs.Sets.{Set}
 use Rattle.base.specs.declared.Verdict.{Verdict}
 use Rattle.base.proofs.Bools.{true→T}
-use Rattle.edges.specs.Reading.{Found, found, refused}
+use Rattle.base.specs.Found.{Found, found, refused}
 use Rattle.plan.specs.declared.Plan.{Plan}
 use Rattle.message.specs.declared.Message.{Message}
 use Rattle.message.specs.declared.Exactly.{Exactly}

@@ -8,7 +8,7 @@ use Rattle.base.specs.Put.{putAt}
 use Rattle.base.specs.Sets.{Set}
 use Rattle.base.specs.Limits.{maxWidth, outgoingSize}
 use Rattle.base.specs.declared.Verdict.{Verdict}
-use Rattle.edges.specs.Reading.{Found, found}
+use Rattle.base.specs.Found.{Found, found}
 use Rattle.plan.specs.declared.Plan.{Plan}
 use Rattle.plan.proofs.Shape.{shape}
 use Rattle.journal.specs.declared.Record.{Record}

@@ -9,7 +9,7 @@ use lib.ListN.{length, length-append}
 use borrow.Author.Tests.{lt-leb}
 use Rattle.base.specs.Pick.{pick}
 use Rattle.base.specs.Limits.{maxBoards, outgoingSize}
-use Rattle.edges.specs.Reading.{Found, found}
+use Rattle.base.specs.Found.{Found, found}
 use Rattle.plan.specs.declared.Plan.{Plan}
 use Rattle.plan.specs.Reading.{planOf, settledPlan}
 use Rattle.plan.proofs.Listed.{ask-yes, asked}

@@ -10,7 +10,7 @@ use lib.Seq.{drop-drop}
 use Rattle.base.specs.Limits.{maxBoards, maxNumber, maxWidth}
 use Rattle.base.specs.declared.Verdict.{Verdict}
 use Rattle.base.proofs.Bools.{T→true}
-use Rattle.edges.specs.Reading.{found}
+use Rattle.base.specs.Found.{found}
 use Rattle.plan.specs.declared.Plan.{Plan}
 use Rattle.plan.specs.Reading.{planOf}
 use Rattle.plan.specs.Valid.{planValid}

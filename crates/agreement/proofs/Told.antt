@@ -8,7 +8,7 @@ use lib.Dec.{eqb}
 use lib.ListN.{length, take, drop}
 use Rattle.base.specs.Pick.{pick}
 use Rattle.base.specs.Sets.{Set}
-use Rattle.edges.specs.Reading.{Found, found, refused}
+use Rattle.base.specs.Found.{Found, found, refused}
 use Rattle.plan.specs.declared.Plan.{Plan}
 use Rattle.message.specs.declared.Message.{Message}
 use Rattle.message.specs.declared.Exactly.{Exactly}

@@ -9,7 +9,7 @@ use Rattle.base.specs.Sets.{Set, count}
 use Rattle.base.specs.Limits.{maxBoards, maxNumber, outgoingSize}
 use Rattle.tree.specs.Walk.{OnPath}
 use Rattle.tree.specs.Edges.{Adjacent}
-use Rattle.edges.specs.Reading.{found}
+use Rattle.base.specs.Found.{found}
 use Rattle.plan.specs.declared.Plan.{Plan}
 use Rattle.plan.specs.Positions.{edgesOf, readingOf}
 use Rattle.plan.specs.Reading.{planOf}

@@ -10,7 +10,7 @@ use lib.ListN.{length, take}
 use Rattle.base.specs.Pick.{pick}
 use Rattle.base.specs.Sets.{Set}
 use Rattle.base.specs.declared.Verdict.{Verdict}
-use Rattle.edges.specs.Reading.{Found, found, refused}
+use Rattle.base.specs.Found.{Found, found, refused}
 use Rattle.message.specs.declared.Message.{Message}
 use Rattle.message.specs.Message.{messageBytes}
 use Rattle.party.specs.declared.Party.{Party}

@@ -2,3 +2,4 @@ pub mod Pick
 pub mod Sets
 pub mod Put
 pub mod Limits
+pub mod Found

@@ -7,3 +7,4 @@ pub mod Faults
 pub mod Redone
 pub mod Befores
 pub mod Restores
+pub mod Given

@@ -13,7 +13,7 @@ use Rattle.base.specs.Put.{putAt}
 use Rattle.base.specs.Limits.{maxBoards, outgoingSize}
 use Rattle.base.specs.declared.Verdict.{Verdict}
 use Rattle.base.proofs.Bools.{true→T, false→not-T}
-use Rattle.edges.specs.Reading.{Found, found, refused, ask}
+use Rattle.base.specs.Found.{Found, found, refused, ask}
 use Rattle.plan.specs.declared.Plan.{Plan}
 use Rattle.plan.specs.declared.PlanRead.{PlanRead}
 use Rattle.plan.specs.Reading.{settledPlan, answered}

@@ -11,7 +11,7 @@ use borrow.Author.Tests.{lt-ltb, le-ltb, le-leb, lt-leb, eq-eqb, ne-eqb, eqb-tru
 use Rattle.base.specs.Pick.{pick}
 use Rattle.base.specs.Limits.{levelCount, lastLevel, maxRules}
 use Rattle.base.proofs.Bools.{T→true, true→T, not-T→false, false→not-T}
-use Rattle.edges.specs.Reading.{Found, found, refused, ask}
+use Rattle.base.specs.Found.{Found, found, refused, ask}
 use Rattle.message.specs.declared.Message.{Message}
 use Rattle.message.specs.Message.{inTable}
 use Rattle.level.specs.declared.Level.{Level}

@@ -14,7 +14,7 @@ use Rattle.base.specs.Limits.{maxBoards, maxRules, outgoingSize}
 use Rattle.base.specs.declared.Verdict.{Verdict}
 use Rattle.base.proofs.Bools.{T-and}
 use Rattle.base.proofs.Puts.{put-none}
-use Rattle.edges.specs.Reading.{Found, found, refused, ask}
+use Rattle.base.specs.Found.{Found, found, refused, ask}
 use Rattle.message.specs.declared.Message.{Message}
 use Rattle.plan.specs.declared.Plan.{Plan}
 use Rattle.plan.specs.declared.PlanRead.{PlanRead}

@@ -6,7 +6,7 @@ use mathlib.Core.List.{List}
 use Prim.Native.Nat.{ℕ, _≤_, _<_}
 use native.Mathlib.Omega.{arith}
 use lib.ListN.{length}
-use Rattle.edges.specs.Reading.{found, refused}
+use Rattle.base.specs.Found.{found, refused}
 use Rattle.varint.specs.Varint.{AllBytes}
 use Rattle.journal.specs.declared.Record.{Record}
 use Rattle.journal.specs.declared.RecordRead.{RecordRead}

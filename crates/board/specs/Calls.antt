@@ -9,7 +9,7 @@ use Rattle.base.specs.Pick.{pick}
 use Rattle.base.specs.Put.{putAt}
 use Rattle.base.specs.Limits.{outgoingSize}
 use Rattle.base.specs.declared.Verdict.{Verdict}
-use Rattle.edges.specs.Reading.{Found, found, refused, ask}
+use Rattle.base.specs.Found.{Found, found, refused, ask}
 use Rattle.plan.specs.declared.Plan.{Plan}
 use Rattle.plan.specs.Positions.{noPlan}
 use Rattle.plan.specs.Reading.{settledPlan}

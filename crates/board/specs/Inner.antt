@@ -8,7 +8,7 @@ use lib.Dec.{T, eqb, ltb}
 use lib.ListN.{length, replicate}
 use Rattle.base.specs.Pick.{pick}
 use Rattle.base.specs.Limits.{levelCount, outgoingSize}
-use Rattle.edges.specs.Reading.{Found, found, refused}
+use Rattle.base.specs.Found.{Found, found, refused}
 use Rattle.plan.specs.Valid.{planValid}
 use Rattle.level.specs.Level.{blankLevel}
 use Rattle.journal.specs.declared.Record.{Record}

@@ -3,3 +3,4 @@ pub mod Calls
 pub mod Restore
 pub mod Results
 pub mod Inner
+pub mod Given

@@ -2,7 +2,7 @@
 use mathlib.Core.Path.{_≡_}
 use mathlib.Core.List.{List}
 use Prim.Native.Nat.{ℕ}
-use Rattle.edges.specs.Reading.{Found}
+use Rattle.base.specs.Found.{Found}
 use Rattle.party.specs.declared.Party.{Party}
 use Rattle.board.specs.declared.Called.{Called}
 use Rattle.board.specs.Calls.{Entry, calledOf, journalAfter, outgoingAfter}

@@ -2,14 +2,14 @@
 ghost use mathlib.Core.Path.{_≡_};
 ghost use lib.ListN.{length};
 ghost use Rattle.base.specs.declared.Verdict.{Verdict};
-ghost use Rattle.edges.specs.Reading.{refused};
+ghost use Rattle.base.specs.Found.{refused};
 ghost use Rattle.board.specs.Calls.{noParty, setUpOf, startQuestions, takeQuestions, calledOf, answeredOf};
 ghost use Rattle.board.specs.Results.{CallGives, RestoreGives};
 ghost use Rattle.board.specs.Restore.{restoreQuestions};
 ghost use Rattle.board.specs.Inner.{AtDoor};
 
 mod positions;
-pub mod restoring;
+mod restoring;
 
 // A party, or a refusal and a record that fails question 19.
 pub struct SetUp {
@@ -48,13 +48,7 @@ struct Door {
 fn no_party() -> party::Party
     ensures { λ r. ⌜ r ≡ noParty ⌝ }
 {
-    let plan = plan::Plan {
-        kind: 0,
-        count: 0,
-        low: 0,
-        parent: [0u16; base::MAX_ROWS],
-        child: [0u16; base::MAX_ROWS],
-    };
+    let plan = plan::no_plan();
     party::Party::new(0, 0, 0, 0, plan)
 }
 
@@ -62,7 +56,7 @@ fn no_party() -> party::Party
 pub fn set_up(n: u32, t: u32, own: u32, agreement: u32, bytes: &[u8]) -> SetUp
     ensures { λ r. ⌜ r ≡ setUpOf n t own agreement (now (bytes .entry)) ⌝ }
 {
-    let r = plan::settle(n, t, own, bytes);
+    let r = planreader::settle(n, t, own, bytes);
     let v = r.verdict;
     let plan = r.plan;
     match v {
@@ -211,7 +205,7 @@ pub fn restore(
     if out.len() < base::OUTGOING {
         return restoring::unrestored(18, 0);
     }
-    let r = plan::settle(n, t, own, bytes);
+    let r = planreader::settle(n, t, own, bytes);
     let v = r.verdict;
     let plan = r.plan;
     match v {

@@ -13,7 +13,7 @@ ghost use Rattle.party.specs.Valid.{partyValid};
 ghost use Rattle.party.specs.Chart.{Charts};
 ghost use Rattle.life.specs.Life.{replayed, Fits};
 ghost use Rattle.run.specs.Gives.{Gives};
-ghost use Rattle.edges.specs.Reading.{refused};
+ghost use Rattle.base.specs.Found.{refused};
 ghost use Rattle.party.specs.Run.{resting};
 ghost use Rattle.party.specs.Run as Rules;
 ghost use Rattle.board.specs.Restore.{replayFrom, restoredOf};
@@ -68,7 +68,7 @@ fn started_by(r: journal::Record, started: bool) -> bool
 
 // "Restore, each record: A whole record, or the torn last one? 21. Our number? 16. Sender below n? 14. Not a second start? 13. Position on the
 // plan? 12."
-pub fn scan_journal(p: party::Party, journal: &[u8]) -> Scan
+pub(crate) fn scan_journal(p: party::Party, journal: &[u8]) -> Scan
     requires { ⌜ New p ⌝ }
     ensures { λ s. ⌜ Scanned p (now (journal .entry)) s ⌝ }
 {
@@ -178,7 +178,7 @@ fn replay_before(
     }
 }
 
-pub fn unrestored(number: u8, place: usize) -> Called
+pub(crate) fn unrestored(number: u8, place: usize) -> Called
     ensures { λ r. ⌜ r ≡ restoredOf (refused number place) ⌝ }
 {
     let v = base::Verdict::Refused(number, place);
@@ -193,7 +193,7 @@ pub fn unrestored(number: u8, place: usize) -> Called
 }
 
 // The party of the journal's whole records, from p on, with the messages of the last.
-pub fn restore_on(p: party::Party, journal: &[u8], out: &mut [u8]) -> Called
+pub(crate) fn restore_on(p: party::Party, journal: &[u8], out: &mut [u8]) -> Called
     requires { ⌜ New p × (outgoingSize ≤ length (now out)) ⌝ }
     ensures { λ r. ⌜ RestoreGives (replayFrom (length (now (journal .entry))) (now (journal .entry)) 0 (resting p)) (now (out .entry)) r (now (out .exit)) ⌝ }
 {

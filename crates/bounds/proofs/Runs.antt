@@ -17,7 +17,7 @@ use Rattle.message.specs.Message.{inTable, messageBytes}
 use Rattle.level.specs.declared.Effect.{Effect}
 use Rattle.level.specs.declared.Effect.the-variants.{Nothing, Quiet, Send, Enter, SendEnter}
 use Rattle.level.specs.Rules.{applies}
-use Rattle.levellaw.proofs.Moves.{AtRest, lowest-rest}
+use Rattle.level.proofs.Moves.{AtRest, lowest-rest}
 use Rattle.party.specs.declared.Party.{Party}
 use Rattle.party.specs.Party.{levelAt, sending, contextOf}
 use Rattle.party.specs.Run.{Ran, ruleAt, openAt, openLevel, madeBy, stepAt, resting, oneMore, runUpTo, bytesOf}
@@ -30,7 +30,7 @@ use Rattle.bounds.proofs.Steps.{rulesLeft, messagesLeft, Proper, open-l
 -- a run is nothing, or one rule and a run
 pub runs-all : (Q : Party → Type 0) → ((p : Party) (i : ℕ) → Q p → T (openAt p i) → Q (stepAt p i))
     → (P : Party → Ran → Type 0) → ((p : Party) → Q p → P p (resting p))
-    → ((p : Party) (i : ℕ) → Q p → T (openAt p i) → (r : Ran) → P (stepAt p i) r → P p (oneMore (madeBy p i (ruleAt p i .effect)) r))
+    → ((p : Party) (i : ℕ) → Q p → T (openAt p i) → (r : Ran) → P (stepAt p i) r → P p (oneMore (madeBy (p .agreement) i (ruleAt p i .effect)) r))
     → (f : ℕ) (p : Party) → Q p → P p (runUpTo f p)
 unfolding runUpTo
 runs-all Q step P rest more zero p q = rest p q
@@ -40,7 +40,7 @@ runs-all Q step P rest more (suc f) p q = go (ltb (openLevel p) levelCount) refl
     next = runUpTo f (stepAt p (openLevel p))
 
     go : (b : Bool) → ltb (openLevel p) levelCount ≡ b → (Q (stepAt p (openLevel p)) → P (stepAt p (openLevel p)) next)
-        → P p (pick b (oneMore (madeBy p (openLevel p) (ruleAt p (openLevel p) .effect)) next) (resting p))
+        → P p (pick b (oneMore (madeBy (p .agreement) (openLevel p) (ruleAt p (openLevel p) .effect)) next) (resting p))
     go true e ih =
         let o : T (openAt p (openLevel p)) = open-level p (ltb→lt (openLevel p) levelCount (subst T (sym e) tt)) in
         more p (openLevel p) q o next (ih (step p (openLevel p) q o))
@@ -98,7 +98,7 @@ bytes-most b (m ∷ ms) h =
 -- a party to which no rule applies stays as it is
 stopped : (p : Party) → Quiescent p → (f : ℕ) → runUpTo (suc f) p ≡ resting p
 unfolding runUpTo
-stopped p q f = ap (λ (b : Bool). pick b (oneMore (madeBy p (openLevel p) (ruleAt p (openLevel p) .effect)) (runUpTo f (stepAt p (openLevel p)))) (resting p))
+stopped p q f = ap (λ (b : Bool). pick b (oneMore (madeBy (p .agreement) (openLevel p) (ruleAt p (openLevel p) .effect)) (runUpTo f (stepAt p (openLevel p)))) (resting p))
     (ap (λ (x : ℕ). ltb x levelCount) q)
 
 -- ---- the bounds
@@ -115,9 +115,9 @@ within-resting L p = record { rules = omega arith; messages = omega arith; prope
 
 -- the first L levels hold every level that sends
 module _ (L : ℕ) (all : lastLevel < L) where
-  within-more : (p : Party) (i : ℕ) → Sized p → T (openAt p i) → (r : Ran) → Within L (stepAt p i) r → Within L p (oneMore (madeBy p i (ruleAt p i .effect)) r)
+  within-more : (p : Party) (i : ℕ) → Sized p → T (openAt p i) → (r : Ran) → Within L (stepAt p i) r → Within L p (oneMore (madeBy (p .agreement) i (ruleAt p i .effect)) r)
   within-more p i z o r w =
-      let ms : List Message = madeBy p i (ruleAt p i .effect) in
+      let ms : List Message = madeBy (p .agreement) i (ruleAt p i .effect) in
       let l : i < L = omega (arith, open-last p z i o) in
       record {
         rules = omega (arith, w .rules, step-rules p z i o L l);
@@ -126,7 +126,7 @@ module _ (L : ℕ) (all : lastLevel < L) where
         agreement = w .agreement ∙ step-kept p i o .0 .board .agreement;
       }
     where
-      either : (m : Message) → List·Memᴰ m (madeBy p i (ruleAt p i .effect)) ⊎ List·Memᴰ m (r .made) → Proper p m
+      either : (m : Message) → List·Memᴰ m (madeBy (p .agreement) i (ruleAt p i .effect)) ⊎ List·Memᴰ m (r .made) → Proper p m
       either m (inl h) = step-proper p z i o m h
       either m (inr h) = let x = w .proper m h in (x .0, x .1 ∙ step-kept p i o .0 .board .agreement)
 
@@ -144,7 +144,7 @@ module _ (L : ℕ) (all : lastLevel < L) where
 
       go : (b : Bool) → ltb (openLevel p) levelCount ≡ b
           → (Sized (stepAt p (openLevel p)) → rulesLeft L (stepAt p (openLevel p)) ≤ f → Quiescent (next .party))
-          → Quiescent (pick b (oneMore (madeBy p (openLevel p) (ruleAt p (openLevel p) .effect)) next) (resting p) .party)
+          → Quiescent (pick b (oneMore (madeBy (p .agreement) (openLevel p) (ruleAt p (openLevel p) .effect)) next) (resting p) .party)
       go true e ih =
           let o : T (openAt p (openLevel p)) = open-level p (ltb→lt (openLevel p) levelCount (subst T (sym e) tt)) in
           ih (sized-step p z (openLevel p) o) (omega (arith, step-rules p z (openLevel p) o L (omega (arith, open-last p z (openLevel p) o))))
@@ -159,7 +159,7 @@ module _ (L : ℕ) (all : lastLevel < L) where
   runs-same (suc f) (suc g) p z h k = go (ltb (openLevel p) levelCount) refl (runs-same f g (stepAt p (openLevel p)))
     where
       next : ℕ → Ran
-      next x = oneMore (madeBy p (openLevel p) (ruleAt p (openLevel p) .effect)) (runUpTo x (stepAt p (openLevel p)))
+      next x = oneMore (madeBy (p .agreement) (openLevel p) (ruleAt p (openLevel p) .effect)) (runUpTo x (stepAt p (openLevel p)))
 
       go : (b : Bool) → ltb (openLevel p) levelCount ≡ b
           → (Sized (stepAt p (openLevel p)) → rulesLeft L (stepAt p (openLevel p)) ≤ f → rulesLeft L (stepAt p (openLevel p)) ≤ g
@@ -168,7 +168,7 @@ module _ (L : ℕ) (all : lastLevel < L) where
       go true e ih =
           let o : T (openAt p (openLevel p)) = open-level p (ltb→lt (openLevel p) levelCount (subst T (sym e) tt)) in
           let l = step-rules p z (openLevel p) o L (omega (arith, open-last p z (openLevel p) o)) in
-          ap (oneMore (madeBy p (openLevel p) (ruleAt p (openLevel p) .effect))) (ih (sized-step p z (openLevel p) o) (omega arith) (omega arith))
+          ap (oneMore (madeBy (p .agreement) (openLevel p) (ruleAt p (openLevel p) .effect))) (ih (sized-step p z (openLevel p) o) (omega arith) (omega arith))
       go false e ih = refl
 
 -- ---- bytes, where a message of the table has at most b
@@ -181,9 +181,9 @@ module _ (b : ℕ) (short : (m : Message) → T (inTable m) → length (messageB
 
   -- one rule's message, and all that may come after it
   pub step-bytes : (L : ℕ) (p : Party) → Sized p → (i : ℕ) → T (openAt p i) → i < L
-      → length (bytesOf (madeBy p i (ruleAt p i .effect))) + b * messagesLeft L (stepAt p i) ≤ b * messagesLeft L p
+      → length (bytesOf (madeBy (p .agreement) i (ruleAt p i .effect))) + b * messagesLeft L (stepAt p i) ≤ b * messagesLeft L p
   step-bytes L p z i o l =
-      room (madeBy p i (ruleAt p i .effect)) (messagesLeft L (stepAt p i)) (messagesLeft L p) (λ m h. step-proper p z i o m h .0) (step-messages p z i o L l)
+      room (madeBy (p .agreement) i (ruleAt p i .effect)) (messagesLeft L (stepAt p i)) (messagesLeft L p) (λ m h. step-proper p z i o m h .0) (step-messages p z i o L l)
 
   -- the messages of a run, and all that may come after it
   pub within-bytes : (L : ℕ) (p : Party) (r : Ran) → Within L p r

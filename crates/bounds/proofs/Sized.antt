@@ -24,8 +24,8 @@ use Rattle.level.specs.declared.Effect.the-variants.{Nothing, Quiet, Send, Ente
 use Rattle.level.specs.Level.{noOutput, withHeard, withEntry}
 use Rattle.level.specs.Rules.{applies}
 use Rattle.level.proofs.Bounds as Bounds
-use Rattle.levellaw.proofs.Moves.{Move}
-use Rattle.levellaw.proofs.Moves.{port-echo, none-echo, first-proposal, first-value, first-none, own-echo, relay, second-proposal, sure-result, none-result, unsure-result, centre-output, sure-entry, unsure-entry, centre-message, sided-entry, told-output, next-output}
+use Rattle.level.proofs.Moves.{Move}
+use Rattle.level.proofs.Moves.{port-echo, none-echo, first-proposal, first-value, first-none, own-echo, relay, second-proposal, sure-result, none-result, unsure-result, centre-output, sure-entry, unsure-entry, centre-message, sided-entry, told-output, next-output}
 use Rattle.levellaw.proofs.Grows.{move-unmoved}
 use Rattle.party.specs.declared.Party.{Party}
 use Rattle.party.specs.Party.{newParty, levelAt, withLevel, componentOf, contextOf, sending, entering, entered, started, hearing}

@@ -19,8 +19,8 @@ use Rattle.level.specs.declared.Effect.the-variants.{Nothing, Quiet, Send, Ente
 use Rattle.level.specs.Level.{notYet}
 use Rattle.level.specs.Rules.{applies}
 use Rattle.level.proofs.Bounds as Bounds
-use Rattle.levellaw.proofs.Moves.{Move, Candidate}
-use Rattle.levellaw.proofs.Moves.{port-echo, none-echo, first-proposal, first-value, first-none, own-echo, relay, second-proposal, sure-result, none-result, unsure-result, centre-output, sure-entry, unsure-entry, centre-message, sided-entry, told-output, next-output}
+use Rattle.level.proofs.Moves.{Move, Candidate}
+use Rattle.level.proofs.Moves.{port-echo, none-echo, first-proposal, first-value, first-none, own-echo, relay, second-proposal, sure-result, none-result, unsure-result, centre-output, sure-entry, unsure-entry, centre-message, sided-entry, told-output, next-output}
 use Rattle.party.specs.declared.Party.{Party}
 use Rattle.party.specs.Party.{levelAt, contextOf}
 use Rattle.party.specs.Run.{ruleAt, openAt, madeBy, stepAt}
@@ -91,14 +91,14 @@ move-table c l m e d o f (told-output a b) = tt
 move-table c l m e d o f (next-output a b q) = tt
 
 -- at most one message, if the effect says so
-made-count : (p : Party) (i : ℕ) (e : Effect) → length (madeBy p i e) ≡ bit (Bounds.sends e)
+made-count : (p : Party) (i : ℕ) (e : Effect) → length (madeBy (p .agreement) i e) ≡ bit (Bounds.sends e)
 made-count p i Nothing = refl
 made-count p i Quiet = refl
 made-count p i (Send b) = refl
 made-count p i (Enter k keep) = refl
 made-count p i (SendEnter k) = refl
 
-made-proper : (p : Party) (i : ℕ) (e : Effect) → i ≤ lastLevel → Tabled e → (m : Message) → List·Memᴰ m (madeBy p i e) → Proper p m
+made-proper : (p : Party) (i : ℕ) (e : Effect) → i ≤ lastLevel → Tabled e → (m : Message) → List·Memᴰ m (madeBy (p .agreement) i e) → Proper p m
 made-proper p i Nothing l t m h = absurd (List·Memᴰ·not-nil h)
 made-proper p i Quiet l t m h = absurd (List·Memᴰ·not-nil h)
 made-proper p i (Send b) l t m h =
@@ -137,7 +137,7 @@ module _ (p : Party) (z : Sized p) (i : ℕ) (h : T (openAt p i)) where
       omega arith
 
   -- and one message less, if it makes one
-  pub step-messages : (L : ℕ) → i < L → length (madeBy p i (ruleAt p i .effect)) + messagesLeft L (stepAt p i) ≤ messagesLeft L p
+  pub step-messages : (L : ℕ) → i < L → length (madeBy (p .agreement) i (ruleAt p i .effect)) + messagesLeft L (stepAt p i) ≤ messagesLeft L p
   unfolding contextOf
   step-messages L l =
       let t = total-ruled Bounds.messagesLeft messages-fair L p i (ruleAt p i .level) (Bounds.enters (ruleAt p i .effect)) (stepAt p i) (open-ruled p (z .formed) i h) l
@@ -145,7 +145,7 @@ module _ (p : Party) (z : Sized p) (i : ℕ) (h : T (openAt p i)) where
       omega (arith, made-count p i (ruleAt p i .effect))
 
   -- which is of the table and of the vote
-  pub step-proper : (m : Message) → List·Memᴰ m (madeBy p i (ruleAt p i .effect)) → Proper p m
+  pub step-proper : (m : Message) → List·Memᴰ m (madeBy (p .agreement) i (ruleAt p i .effect)) → Proper p m
   unfolding contextOf
   step-proper =
       let s = sending-level p (z .formed) i (open-sending p i h) in

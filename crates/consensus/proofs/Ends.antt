@@ -15,7 +15,7 @@ use Rattle.component.specs.Component.{sizeOf, degreeOf}
 use Rattle.message.specs.declared.Body.{Body}
 use Rattle.message.specs.declared.Body.the-variants.{Side, Centre}
 use Rattle.message.specs.declared.Message.{Message}
-use Rattle.levellaw.proofs.Moves.{Answered, Aside, AtRest}
+use Rattle.level.proofs.Moves.{Answered, Aside, AtRest}
 use Rattle.levellaw.proofs.Counted.{heardFrom, sided-reached, centre-reached}
 use Rattle.levellaw.proofs.Output.{rest-none}
 use Rattle.party.specs.declared.Party.{Party}

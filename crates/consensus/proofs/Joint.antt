@@ -9,7 +9,7 @@ use Rattle.base.proofs.Counts.{sound-member}
 use Rattle.plan.specs.declared.Plan.{Plan}
 use Rattle.message.specs.declared.Body.the-variants.{SecondEcho}
 use Rattle.message.specs.declared.Message.{Message}
-use Rattle.levellaw.proofs.Moves.{Present, Echoed}
+use Rattle.level.proofs.Moves.{Present, Echoed}
 use Rattle.levellaw.proofs.Messages.{SentIn}
 use Rattle.levellaw.proofs.Counted.{heardFrom}
 use Rattle.levellaw.proofs.Board.{law-own}

@@ -16,7 +16,7 @@ use Rattle.component.specs.Component.{sizeOf, centreOf, portOf, sideOf}
 use Rattle.message.specs.declared.Body.{Body}
 use Rattle.message.specs.declared.Body.the-variants.{Side, Centre}
 use Rattle.message.specs.Message.{noneValue}
-use Rattle.levellaw.proofs.Moves.{Aside}
+use Rattle.level.proofs.Moves.{Aside}
 use Rattle.levellaw.proofs.Counted.{heardFrom, centre-reached}
 use Rattle.levellaw.proofs.Output.{CentreBy}
 use Rattle.levellaw.proofs.Output as output

@@ -14,7 +14,8 @@ use Rattle.varint.specs.Varint.{varintAt}
 use Rattle.tree.specs.Edges.{Edge, Edges}
 use Rattle.forest.specs.Forest.{together, Unions}
 use Rattle.edges.specs.declared.EdgeStep.{EdgeStep}
-use Rattle.edges.specs.Reading.{Found, refused, onward, endsApart, notJoined, roomAtEnds, edgesFrom}
+use Rattle.base.specs.Found.{Found, refused}
+use Rattle.edges.specs.Reading.{onward, endsApart, notJoined, roomAtEnds, edgesFrom}
 use Rattle.edges.specs.Steps.{faultBy, faultOf, secondOf, firstOf, stepAt, Degrees}
 
 -- questions 7 to 9, asked of the edges before

@@ -15,7 +15,8 @@ use Rattle.tree.specs.Edges.{Edge, Edges, edgesAt}
 use Rattle.forest.specs.Forest.{Unions}
 use Rattle.edges.specs.declared.EdgesRead.{EdgesRead}
 use Rattle.edges.specs.declared.EdgeStep.{EdgeStep}
-use Rattle.edges.specs.Reading.{Found, found, edgesFrom, Listed, edgesOfTree}
+use Rattle.base.specs.Found.{Found, found}
+use Rattle.edges.specs.Reading.{edgesFrom, Listed, edgesOfTree}
 use Rattle.edges.specs.Rows.{rows}
 use Rattle.edges.specs.Kept.{Kept}
 use Rattle.edges.specs.Steps.{faultOf, stepAt, Degrees}

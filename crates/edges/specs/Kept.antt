@@ -3,7 +3,8 @@ use mathlib.Core.Path.{_≡_}
 use mathlib.Core.List.{List}
 use Prim.Native.Nat.{ℕ, _-_}
 use Rattle.edges.specs.declared.EdgesRead.{EdgesRead}
-use Rattle.edges.specs.Reading.{Found, found, refused, Listed}
+use Rattle.base.specs.Found.{Found, found, refused}
+use Rattle.edges.specs.Reading.{Listed}
 use Rattle.edges.specs.Rows.{rows}
 
 -- the answer, and the columns hold the edges where there is no refusal

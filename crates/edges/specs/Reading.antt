@@ -4,15 +4,11 @@ use mathlib.Core.List.{List, [], _∷_}
 use Prim.Native.Nat.{ℕ, zero, suc, _-_}
 use lib.Dec.{ltb, eqb}
 use Rattle.base.specs.Pick.{pick}
+use Rattle.base.specs.Found.{Found, found, refused, ask}
 use Rattle.base.specs.Limits.{maxDegree}
 use Rattle.varint.specs.declared.VarintRead.{VarintRead}
 use Rattle.varint.specs.Varint.{varintAt}
 use Rattle.tree.specs.Edges.{Edge, Edges, all, joined, edgesAt}
-
--- what is found: a value, or a refusal's number and place
-pub data Found (A : Type 0) : Type 0 where
-  found : A → Found A
-  refused : ℕ → ℕ → Found A
 
 -- "Is each group whole and well formed? 4": what is read at `at`, and then what follows it
 abbrev pub onward : {A : Type 0} → ℕ → VarintRead → (ℕ → ℕ → Found A) → Found A
@@ -20,12 +16,8 @@ onward at (VarintRead.Value v next) f = f v next
 onward at (VarintRead.Short least) f = refused 4 at
 onward at VarintRead.Malformed f = refused 4 at
 
-abbrev pub group : {A : Type 0} → List ℕ → ℕ → (ℕ → ℕ → Found A) → Found A
-group s at f = onward at (varintAt s at) f
-
--- where the test holds go on, else refuse
-abbrev pub ask : {A : Type 0} → Bool → ℕ → ℕ → Found A → Found A
-ask test number place go = pick test go (refused number place)
+abbrev pub varintThen : {A : Type 0} → List ℕ → ℕ → (ℕ → ℕ → Found A) → Found A
+varintThen s at f = onward at (varintAt s at) f
 
 -- "Are an edge's ends below V and different? 7."
 abbrev pub endsApart : ℕ → ℕ → ℕ → Bool
@@ -43,7 +35,7 @@ roomAtEnds E a b = ltb (edgesAt E a) maxDegree && ltb (edgesAt E b) maxDegree
 unfoldable pub edgesFrom : {A : Type 0} → ℕ → ℕ → List ℕ → ℕ → Edges → (Edges → ℕ → Found A) → Found A
 edgesFrom v zero s at E done = done E at
 edgesFrom v (suc k) s at E done =
-    group s at (λ a second. group s second (λ b next.
+    varintThen s at (λ a second. varintThen s second (λ b next.
     ask (endsApart v a b) 7 second
     (ask (notJoined E a b) 8 second
     (ask (roomAtEnds E a b) 9 second

@@ -11,7 +11,7 @@ use Rattle.base.specs.Sets.{Set, count}
 use Rattle.base.specs.Limits.{maxNumber}
 use Rattle.base.proofs.Bools.{T-left, T-right, or-split, T→true, true→T}
 use Rattle.base.proofs.Counts.{count-full}
-use Rattle.edges.specs.Reading.{found}
+use Rattle.base.specs.Found.{found}
 use Rattle.plan.specs.declared.Plan.{Plan}
 use Rattle.plan.specs.Reading.{planOf}
 use Rattle.message.specs.declared.Message.{Message}

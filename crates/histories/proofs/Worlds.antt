@@ -13,7 +13,7 @@ use Rattle.base.specs.Pick.{pick}
 use Rattle.base.specs.Sets.{Set, count}
 use Rattle.base.specs.Limits.{maxBoards, maxNumber}
 use Rattle.base.proofs.Bools.{T-and, T-left, T-right, or-split, not-T→false, T→true, true→T}
-use Rattle.edges.specs.Reading.{found}
+use Rattle.base.specs.Found.{found}
 use Rattle.plan.specs.declared.Plan.{Plan}
 use Rattle.plan.specs.Reading.{planOf}
 use Rattle.message.specs.declared.Body.{Body}

@@ -6,7 +6,7 @@ use lib.IntN.{ℤ}
 use lib.ListN.{length, getD, replicate}
 use Rattle.base.specs.Sets.{Set, count}
 use Rattle.base.specs.Limits.{maxBoards, maxNumber, outgoingSize}
-use Rattle.edges.specs.Reading.{found}
+use Rattle.base.specs.Found.{found}
 use Rattle.plan.specs.declared.Plan.{Plan}
 use Rattle.plan.specs.Reading.{planOf}
 use Rattle.message.specs.declared.Body.{Body}

@@ -3,18 +3,18 @@
 -- rules 9, 13 and 14 the output; rule 11 that the centre was told; rules 10 and 12 the entry of the next level.
 use mathlib.Core.Path.{_≡_, refl, sym, subst}
 use mathlib.Core.List.{List}
-use mathlib.Core.Logic.{inl, inr}
 use mathlib.Core.Bool.{Bool, true, false, not, _||_}
 use Prim.Native.Nat.{ℕ, _+_, _≤_, _<_}
+use native.Mathlib.Nat.{le-refl}
 use native.Mathlib.Decide.{ℕ-discrete}
 use native.Mathlib.Omega.{arith}
-use lib.Dec.{T, leb, ltb, eqb, eqb→eq, ltb→lt}
+use borrow.Author.Tests.{ne-eqb}
+use lib.Dec.{T, eqb, eqb→eq}
 use lib.ListN.{length, getD, set}
 use lib.Seq.{getD-set-same, getD-set-other}
 use Rattle.base.specs.Pick.{pick}
 use Rattle.base.specs.Sets.{bit, count}
-use Rattle.base.specs.Limits.{maxDegree}
-use Rattle.base.proofs.Bools.{T-right, T→true, not-T→false}
+use Rattle.base.proofs.Bools.{T→true}
 use Rattle.base.proofs.Counts.{count-lt, count-le}
 use Rattle.message.specs.Message.{noneValue}
 use Rattle.message.specs.declared.Body.{Body}
@@ -27,7 +27,10 @@ use Rattle.level.specs.declared.Effect.the-variants.{Nothing, Quiet, Sen
 use Rattle.level.specs.Level.{notYet, noOutput, withHeard, withEntry, withSecondEcho, withResult, withOutput, withCentreTold}
 use Rattle.level.specs.Counts.{InLimits}
 use Rattle.level.specs.Rules.{applies, does, missing, unanswered, aside, resultNone, lowestRule}
-use Rattle.level.proofs.Steps.{Candidate, echoedYet, Step, rests, echoesPort, echoesNone, proposes, findsFirst, findsNone, echoesFirst, echoes, seconds, endsSure, endsNone, endsUnsure, stays, entersSure, entersTelling, tells, entersTold, believes, takesOver, step, not-here}
+use Rattle.level.proofs.Searches.{eq→eqb, candidate-small}
+use Rattle.level.proofs.Moves.{Aside, Move, →aside, told-cases, lowest-all}
+use Rattle.level.proofs.Moves.{port-echo, none-echo, first-proposal, first-value, first-none, own-echo, relay, second-proposal, sure-result, none-result, unsure-result, centre-output, sure-entry, unsure-entry, centre-message, sided-entry, told-output, next-output}
+pub use Rattle.level.proofs.Moves.{enters}
 
 -- the second echoes not made yet
 unfoldable pub unechoed : List Bool → ℕ
@@ -49,20 +52,13 @@ messagesLeft next l =
     bit (not (l .«echoed_port»)) + bit (not (l .«echoed_none»)) + bit (missing (l .proposal)) + unechoed (l .echoed)
     + bit (missing (l .«second_proposal»)) + lastMessage next l
 
--- a rule with this effect makes a message, enters the next level
+-- a rule with this effect makes a message
 abbrev pub sends : Effect → Bool
 sends Nothing = false
 sends Quiet = false
 sends (Send b) = true
 sends (Enter k keep) = false
 sends (SendEnter k) = true
-
-abbrev pub enters : Effect → Bool
-enters Nothing = false
-enters Quiet = false
-enters (Send b) = false
-enters (Enter k keep) = true
-enters (SendEnter k) = true
 
 -- what the bounds ask of a level and its context besides the limits: the centre is a position, and there are 17 second echoes
 pub record Bounded (c : Context) (l : Level) : Type 0 where
@@ -89,8 +85,17 @@ bit-le : (b : Bool) → bit b ≤ 1
 bit-le true = omega arith
 bit-le false = omega arith
 
+-- a number that is not set counts 1
+bit-equal : (a b : ℕ) → a ≡ b → bit (eqb a b) ≡ 1
+bit-equal a b e = bit-on (eqb a b) (eq→eqb a b e)
+
+-- one that is set counts 0
+bit-differ : (a b : ℕ) → (a ≡ b → ⊥) → bit (eqb a b) ≡ 0
+bit-differ a b d = bit-off (eqb a b) (λ p. d (eqb→eq a b p))
+
+-- a value or none is set
 there : (v : ℕ) → v ≤ noneValue → bit (missing v) ≡ 0
-there v h = bit-off (missing v) (λ p. let e : v ≡ notYet = eqb→eq v notYet p in omega arith)
+there v h = bit-differ v notYet (λ e. omega arith)
 
 -- ---- the measures of any level
 
@@ -169,15 +174,13 @@ fewer l w k n p =
 
 -- ---- the last message, by the result
 
-last-missing : (next : Bool) (l : Level) → T (missing (l .result)) → lastMessage next l ≡ 1
+last-missing : (next : Bool) (l : Level) → l .result ≡ notYet → lastMessage next l ≡ 1
 unfolding lastMessage
-last-missing next l p = rw (T→true (missing (l .result)) p)
+last-missing next l e = rw e
 
-last-aside : (next : Bool) (l : Level) → T (aside l) → lastMessage next l ≡ bit (not next)
+last-aside : (next : Bool) (l : Level) → Aside l → lastMessage next l ≡ bit (not next)
 unfolding lastMessage
-last-aside next l p =
-    let k : l .result < noneValue = ltb→lt (l .result) noneValue (T-right (leb 1 (l .result)) (ltb (l .result) noneValue) p) in
-    rw (not-T→false (missing (l .result)) (λ q. let e : l .result ≡ notYet = eqb→eq (l .result) notYet q in omega arith), T→true (aside l) p)
+last-aside next l p = rw (ne-eqb (l .result) notYet (λ e. omega (arith, p .1)), T→true (aside l) (→aside l p))
 
 last-none : (next : Bool) (l : Level) → l .result ≡ noneValue → lastMessage next l ≡ bit (not (l .«told_centre»))
 unfolding lastMessage
@@ -185,92 +188,84 @@ last-none next l e = rw e
 
 -- ---- every rule is paid for
 
-candidate-small : (c : Context) (w : ℕ) → c .degree ≤ maxDegree → Candidate c w → w ≤ noneValue
-candidate-small c w h (inl k) = omega arith
-candidate-small c w h (inr e) = omega arith
-
 module _ (c : Context) (l : Level) (h : Bounded c l) where
   -- a value 0 to d is there
   value-there : (v : ℕ) → v ≤ c .degree → bit (missing v) ≡ 0
   value-there v k = there v (omega (arith, h .limits .degree))
 
   centre-there : bit (eqb (c .centre) noOutput) ≡ 0
-  centre-there = bit-off (eqb (c .centre) noOutput) (λ p. let e : c .centre ≡ noOutput = eqb→eq (c .centre) noOutput p in omega (arith, h .centre))
+  centre-there = bit-differ (c .centre) noOutput (λ e. omega (arith, h .centre))
 
   -- a second echo
-  echo-paid : (w : ℕ) → w ≤ noneValue → T (not (echoedYet l w)) → Paid c l (does (withSecondEcho l w) (Send (SecondEcho w)))
+  echo-paid : (w : ℕ) → w ≤ noneValue → T (not (getD (l .echoed) w false)) → Paid c l (does (withSecondEcho l w) (Send (SecondEcho w)))
   unfolding rulesLeft messagesLeft lastMessage
   echo-paid w k p = let f = fewer (l .echoed) w (omega arith) (h .echoes) p in record { rules = omega arith; messages = omega arith }
 
   -- the result
-  result-paid : (w : ℕ) (two : Bool) → T (missing (l .result)) → w ≤ noneValue → Paid c l (does (withResult l w two) Quiet)
+  result-paid : (w : ℕ) (two : Bool) → l .result ≡ notYet → w ≤ noneValue → Paid c l (does (withResult l w two) Quiet)
   unfolding rulesLeft messagesLeft
-  result-paid w two t k =
-      let u = bit-on (missing (l .result)) t in
+  result-paid w two e k =
+      let u = bit-equal (l .result) notYet e in
       let v = there w k in
       record {
         rules = omega arith;
-        messages = omega (arith, last-missing (c .«next_entered») l t, last-most (c .«next_entered») (withResult l w two));
+        messages = omega (arith, last-missing (c .«next_entered») l e, last-most (c .«next_entered») (withResult l w two));
       }
 
   -- the output
-  output-paid : (x : ℕ) → T (unanswered l) → bit (eqb x noOutput) ≡ 0 → Paid c l (does (withOutput l x) Quiet)
+  output-paid : (x : ℕ) → l .output ≡ noOutput → bit (eqb x noOutput) ≡ 0 → Paid c l (does (withOutput l x) Quiet)
   unfolding rulesLeft messagesLeft lastMessage
-  output-paid x t e = record { rules = omega (arith, bit-on (unanswered l) t); messages = omega arith }
+  output-paid x o e = record { rules = omega (arith, bit-equal (l .output) noOutput o); messages = omega arith }
 
-  told : (b : Bool) → unanswered l ≡ b → bit (eqb (pick b (c .centre) (l .output)) noOutput) ≤ bit b
-  told true e = omega (arith, centre-there)
-  told false e = rw e (omega arith)
-
-  pub paid-step : {a : Applied} → Step c l a → Paid c l a
+  -- every move
+  pub paid-move : (m : Level) (e : Effect) → Move c l m e → Paid c l (does m e)
   unfolding rulesLeft messagesLeft lastMessage
-  paid-step rests = record { rules = omega arith; messages = omega arith }
-  paid-step (echoesPort t) = let u = bit-on (not (l .«echoed_port»)) t in record { rules = omega arith; messages = omega arith }
-  paid-step (echoesNone t _) = let u = bit-on (not (l .«echoed_none»)) t in record { rules = omega arith; messages = omega arith }
-  paid-step (proposes v t k _) =
-      let u = bit-on (missing (l .proposal)) t in
+  paid-move m e (port-echo p) = let u = bit-on (not (l .«echoed_port»)) p in record { rules = omega arith; messages = omega arith }
+  paid-move m e (none-echo p _) = let u = bit-on (not (l .«echoed_none»)) p in record { rules = omega arith; messages = omega arith }
+  paid-move m e (first-proposal v p k _) =
+      let u = bit-equal (l .proposal) notYet p in
       let w = value-there v k in
       record { rules = omega arith; messages = omega arith }
-  paid-step (findsFirst v t k _) =
-      let u = bit-on (missing (l .first)) t in
+  paid-move m e (first-value v p k _) =
+      let u = bit-equal (l .first) notYet p in
       let w = value-there v k in
       record { rules = omega arith; messages = omega arith }
-  paid-step (findsNone t _) = let u = bit-on (missing (l .first)) t in record { rules = omega arith; messages = omega arith }
-  paid-step (echoesFirst t n) =
-      let k : l .first ≤ noneValue = omega (arith, h .limits .first, not-here (l .first) t) in
-      echo-paid (l .first) k n
-  paid-step (echoes w k _ _ n) = echo-paid w (candidate-small c w (h .limits .degree) k) n
-  paid-step (seconds w k _ t _) =
-      let u = bit-on (missing (l .«second_proposal»)) t in
-      let v = there w (candidate-small c w (h .limits .degree) k) in
+  paid-move m e (first-none p _) = let u = bit-equal (l .first) notYet p in record { rules = omega arith; messages = omega arith }
+  paid-move m e (own-echo p q) =
+      let k : l .first ≤ noneValue = omega (arith, h .limits .first, p) in
+      echo-paid (l .first) k q
+  paid-move m e (relay w _ k _ q) = echo-paid w (candidate-small c w (omega (arith, h .limits .degree)) k) q
+  paid-move m e (second-proposal w _ p k _) =
+      let u = bit-equal (l .«second_proposal») notYet p in
+      let v = there w (candidate-small c w (omega (arith, h .limits .degree)) k) in
       record { rules = omega arith; messages = omega arith }
-  paid-step (endsSure v k _ t _) = result-paid v true t (omega (arith, h .limits .degree))
-  paid-step (endsNone _ t _) = result-paid noneValue false t (omega arith)
-  paid-step (endsUnsure v k _ t _ _ _) = result-paid v false t (omega (arith, h .limits .degree))
-  paid-step (stays _ t) = output-paid (c .centre) t centre-there
-  paid-step (entersSure s t _) =
+  paid-move m e (sure-result v _ r k _) = result-paid v true r (omega (arith, h .limits .degree))
+  paid-move m e (none-result _ r _) = result-paid noneValue false r (omega arith)
+  paid-move m e (unsure-result v _ r k _ _) = result-paid v false r (omega (arith, h .limits .degree))
+  paid-move m e (centre-output _ o) = output-paid (c .centre) o centre-there
+  paid-move m e (sure-entry r t _) =
       let n = bit-on (not (c .«next_entered»)) t in
-      record { rules = omega arith; messages = omega (arith, last-aside true l s, last-aside (c .«next_entered») l s) }
-  paid-step (entersTelling s t _) =
+      record { rules = omega arith; messages = omega (arith, last-aside true l r, last-aside (c .«next_entered») l r) }
+  paid-move m e (unsure-entry r t _) =
       let n = bit-on (not (c .«next_entered»)) t in
-      record { rules = omega arith; messages = omega (arith, last-aside true l s, last-aside (c .«next_entered») l s) }
-  paid-step (tells s t) =
+      record { rules = omega arith; messages = omega (arith, last-aside true l r, last-aside (c .«next_entered») l r) }
+  paid-move m e (centre-message r t) =
       let n = bit-on (not (l .«told_centre»)) t in
-      let o = told (unanswered l) refl in
+      let o = told-cases l (c .centre) (λ x. bit (eqb x noOutput) ≤ bit (unanswered l)) (λ _. omega (arith, centre-there)) (λ _. le-refl (bit (unanswered l))) in
       record {
         rules = omega arith;
-        messages = omega (arith, last-none (c .«next_entered») l s, last-none (c .«next_entered») (withCentreTold l (pick (unanswered l) (c .centre) (l .output))) s);
+        messages = omega (arith, last-none (c .«next_entered») l r, last-none (c .«next_entered») (withCentreTold l (pick (unanswered l) (c .centre) (l .output))) r);
       }
-  paid-step (entersTold k _ _ s t _) =
+  paid-move m e (sided-entry k r t _ _ _) =
       let n = bit-on (not (c .«next_entered»)) t in
-      record { rules = omega arith; messages = omega (arith, last-none true l s, last-none (c .«next_entered») l s) }
-  paid-step (believes _ t) = output-paid (c .centre) t centre-there
-  paid-step (takesOver _ t d) =
-      output-paid (c .«next_output») t (bit-off (eqb (c .«next_output») noOutput) (λ p. d (eqb→eq (c .«next_output») noOutput p)))
+      record { rules = omega arith; messages = omega (arith, last-none true l r, last-none (c .«next_entered») l r) }
+  paid-move m e (told-output _ o) = output-paid (c .centre) o centre-there
+  paid-move m e (next-output _ o x) = output-paid (c .«next_output») o (bit-differ (c .«next_output») noOutput x)
 
   -- the lowest rule is paid for
   pub paid : Paid c l (lowestRule c l)
-  paid = paid-step (step c l)
+  unfolding rulesLeft messagesLeft lastMessage
+  paid = lowest-all c l (λ m e. Paid c l (does m e)) (λ _. record { rules = omega arith; messages = omega arith }) paid-move
 
 -- an applied rule lowers the first measure, a message made the second
 pub rules-fall : (c : Context) (l : Level) → Bounded c l → T (applies (lowestRule c l .effect))

@@ -1,6 +1,8 @@
 // What the rules count at a level: searches through its sets of senders, and unions of them.
 use crate::Context;
 use crate::Level;
+use crate::NONE_PLACE;
+use crate::SECOND_ECHOES;
 ghost use mathlib.Core.Path.{_≡_};
 ghost use mathlib.Core.Bool.{false, not, _&&_};
 ghost use Prim.Native.Nat.{_+_, _*_, _≤_, _<_};
@@ -18,7 +20,7 @@ ghost use Rattle.level.specs.Rules.{smallestValue, firstCandidate};
 pub(crate) fn candidate(degree: usize, i: usize) -> usize
     ensures { λ r. ⌜ r ≡ pick (leb i degree) i noneValue ⌝ }
 {
-    if i <= degree { i } else { 16 }
+    if i <= degree { i } else { NONE_PLACE }
 }
 
 // The union of a and b where the test holds, else a.
@@ -88,7 +90,7 @@ impl Level {
         if i <= degree {
             return i;
         }
-        if senders::reaches(self.sets[from + 16], k) {
+        if senders::reaches(self.sets[from + NONE_PLACE], k) {
             return degree + 1;
         }
         degree + 2
@@ -117,7 +119,7 @@ impl Level {
     {
         let d = c.degree as usize;
         let t = c.t;
-        let none = self.sets[16];
+        let none = self.sets[NONE_PLACE];
         let mut v = 0;
         while v <= d {
             if may_propose(self.sets[v], none, t) {
@@ -140,7 +142,7 @@ impl Level {
             m = either_if((v >> place) % 2 == digit, m, self.sets[v]);
             v += 1;
         }
-        senders::either(m, self.sets[16])
+        senders::either(m, self.sets[NONE_PLACE])
     }
 
     // Rule 4: at this place both digits have t+1 senders.
@@ -179,7 +181,7 @@ impl Level {
         let mut i = 0;
         while i < d + 2 {
             let w = candidate(d, i);
-            if due(self.sets[33 + w], k, self.echoed[w]) {
+            if due(self.sets[SECOND_ECHOES + w], k, self.echoed[w]) {
                 return i;
             }
             i += 1;

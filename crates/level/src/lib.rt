@@ -9,8 +9,28 @@ ghost use Rattle.level.specs.Rules;
 mod counts;
 mod rules;
 
+// Where the sets of senders of each kind of message begin: that of value v is v places on.
+const FIRST_PROPOSALS: usize = 17;
+
+const SECOND_ECHOES: usize = 33;
+
+const SECOND_PROPOSALS: usize = 50;
+
+const SIDES: usize = 66;
+
+const CENTRES: usize = 82;
 // How many messages differ at a level: one set of senders for each.
 pub const SLOTS: usize = 83;
+// The values of an echo: 0 to 15, and none.
+const VALUES: usize = 17;
+// The sets of senders of none among the second echoes, and of side 1.
+const NONE_SECOND_ECHO: usize = 49;
+
+const FIRST_SIDE: usize = 67;
+// None, as a value of a level's fields.
+const NONE: u8 = 16;
+// The place of none among the values.
+const NONE_PLACE: usize = 16;
 // A value that is not there yet.
 pub const NOT_YET: u8 = 17;
 // An output that is not there yet.
@@ -31,7 +51,7 @@ pub struct Level {
     // the first result, none, or NOT_YET
     pub first: u8,
     // second echoes made, by value
-    pub echoed: [bool; 17],
+    pub echoed: [bool; VALUES],
     // the second proposal made, or NOT_YET
     pub second_proposal: u8,
     // the (second) result's value, none, or NOT_YET; a value's grade is 2 if sure, else 1
@@ -93,11 +113,11 @@ pub fn slot(b: message::Body) -> usize
 {
     match b {
         message::Body::FirstEcho(v) => v as usize,
-        message::Body::FirstProposal(v) => 17 + v as usize,
-        message::Body::SecondEcho(v) => 33 + v as usize,
-        message::Body::SecondProposal(v) => 50 + v as usize,
-        message::Body::Side(v) => 66 + v as usize,
-        message::Body::Centre => 82,
+        message::Body::FirstProposal(v) => FIRST_PROPOSALS + v as usize,
+        message::Body::SecondEcho(v) => SECOND_ECHOES + v as usize,
+        message::Body::SecondProposal(v) => SECOND_PROPOSALS + v as usize,
+        message::Body::Side(v) => SIDES + v as usize,
+        message::Body::Centre => CENTRES,
     }
 }
 
@@ -115,7 +135,7 @@ impl Level {
             echoed_none: false,
             proposal: NOT_YET,
             first: NOT_YET,
-            echoed: [false; 17],
+            echoed: [false; VALUES],
             second_proposal: NOT_YET,
             result: NOT_YET,
             sure: false,

@@ -1,10 +1,17 @@
 // The fourteen rules of document 01, each a method that hands the record and the effect back, and the lowest of them that applies.
 use crate::Applied;
+use crate::CENTRES;
 use crate::Context;
 use crate::Effect;
+use crate::FIRST_PROPOSALS;
+use crate::FIRST_SIDE;
 use crate::Level;
 use crate::NO_OUTPUT;
+use crate::NONE;
+use crate::NONE_SECOND_ECHO;
 use crate::NOT_YET;
+use crate::SECOND_ECHOES;
+use crate::SECOND_PROPOSALS;
 use crate::applies;
 use crate::counts::candidate;
 use message::Body;
@@ -17,12 +24,9 @@ ghost use Rattle.level.specs.Level.{withResult};
 ghost use Rattle.level.specs.Counts.{InLimits, weak, echoedBy, echoedValues};
 ghost use Rattle.level.specs.Rules;
 
-// None, as a value of a level's fields.
-const NONE: u8 = 16;
-
 impl Level {
     // First echo of the port.
-    pub fn rule1(self, c: Context) -> Applied
+    pub(crate) fn rule1(self, c: Context) -> Applied
         ensures { λ r. ⌜ r ≡ Rules.rule1 c self ⌝ }
     {
         if self.echoed_port {
@@ -41,7 +45,7 @@ impl Level {
     }
 
     // First echo of none.
-    pub fn rule2(self, c: Context) -> Applied
+    pub(crate) fn rule2(self, c: Context) -> Applied
         requires { ⌜ InLimits c self ⌝ }
         ensures { λ r. ⌜ r ≡ Rules.rule2 c self ⌝ }
     {
@@ -67,7 +71,7 @@ impl Level {
     }
 
     // First proposal.
-    pub fn rule3(self, c: Context) -> Applied
+    pub(crate) fn rule3(self, c: Context) -> Applied
         requires { ⌜ InLimits c self ⌝ }
         ensures { λ r. ⌜ r ≡ Rules.rule3 c self ⌝ }
     {
@@ -95,7 +99,7 @@ impl Level {
     }
 
     // First result.
-    pub fn rule4(self, c: Context) -> Applied
+    pub(crate) fn rule4(self, c: Context) -> Applied
         requires { ⌜ InLimits c self ⌝ }
         ensures { λ r. ⌜ r ≡ Rules.rule4 c self ⌝ }
     {
@@ -106,7 +110,7 @@ impl Level {
             };
         }
         let d = c.degree as usize;
-        let v = self.first_reaching(17, d + 1, c.n - c.t);
+        let v = self.first_reaching(FIRST_PROPOSALS, d + 1, c.n - c.t);
         let mut l = self;
         if v <= d {
             l.first = v as u8;
@@ -129,7 +133,7 @@ impl Level {
     }
 
     // Second echo of the first result.
-    pub fn rule5(self, c: Context) -> Applied
+    pub(crate) fn rule5(self, c: Context) -> Applied
         requires { ⌜ InLimits c self ⌝ }
         ensures { λ r. ⌜ r ≡ Rules.rule5 c self ⌝ }
     {
@@ -157,7 +161,7 @@ impl Level {
     }
 
     // Second echo of what t+1 boards echoed.
-    pub fn rule6(self, c: Context) -> Applied
+    pub(crate) fn rule6(self, c: Context) -> Applied
         requires { ⌜ InLimits c self ⌝ }
         ensures { λ r. ⌜ r ≡ Rules.rule6 c self ⌝ }
     {
@@ -186,7 +190,7 @@ impl Level {
     }
 
     // Second proposal.
-    pub fn rule7(self, c: Context) -> Applied
+    pub(crate) fn rule7(self, c: Context) -> Applied
         requires { ⌜ InLimits c self ⌝ }
         ensures { λ r. ⌜ r ≡ Rules.rule7 c self ⌝ }
     {
@@ -203,7 +207,7 @@ impl Level {
             };
         }
         let d = c.degree as usize;
-        let i = self.first_candidate(33, d, 2 * c.t + 1);
+        let i = self.first_candidate(SECOND_ECHOES, d, 2 * c.t + 1);
         if d + 2 <= i {
             return Applied {
                 level: self,
@@ -221,7 +225,7 @@ impl Level {
     }
 
     // The result, by n-t second proposals.
-    pub fn rule8(self, c: Context) -> Applied
+    pub(crate) fn rule8(self, c: Context) -> Applied
         requires { ⌜ InLimits c self ⌝ }
         ensures { λ r. ⌜ r ≡ Rules.rule8 c self ⌝ }
     {
@@ -238,7 +242,7 @@ impl Level {
             };
         }
         let d = c.degree as usize;
-        let i = self.first_candidate(50, d, c.n - c.t);
+        let i = self.first_candidate(SECOND_PROPOSALS, d, c.n - c.t);
         if d + 2 <= i {
             return self.rule8_grade1(c);
         }
@@ -256,21 +260,21 @@ impl Level {
         requires { ⌜ InLimits c self ⌝ }
         ensures { λ r. ⌜ r ≡ Rules.when (echoedBy (weak c) self noneValue && eqb (echoedValues c self) 1) self (Rules.does (withResult self (Rules.smallestValue c (echoedBy (weak c) self)) false) Quiet) ⌝ }
     {
-        if !senders::reaches(self.sets[49], c.t + 1) {
+        if !senders::reaches(self.sets[NONE_SECOND_ECHO], c.t + 1) {
             return Applied {
                 level: self,
                 effect: Effect::Nothing,
             };
         }
         let d = c.degree as usize;
-        if self.count_reaching(33, d + 1, c.t + 1) != 1 {
+        if self.count_reaching(SECOND_ECHOES, d + 1, c.t + 1) != 1 {
             return Applied {
                 level: self,
                 effect: Effect::Nothing,
             };
         }
         let mut l = self;
-        l.result = self.first_reaching(33, d + 1, c.t + 1) as u8;
+        l.result = self.first_reaching(SECOND_ECHOES, d + 1, c.t + 1) as u8;
         l.sure = false;
         Applied {
             level: l,
@@ -279,7 +283,7 @@ impl Level {
     }
 
     // The centre as output, after result 0.
-    pub fn rule9(self, c: Context) -> Applied
+    pub(crate) fn rule9(self, c: Context) -> Applied
         ensures { λ r. ⌜ r ≡ Rules.rule9 c self ⌝ }
     {
         if self.result != 0 {
@@ -303,7 +307,7 @@ impl Level {
     }
 
     // The next level entered, after a result of 1 or more.
-    pub fn rule10(self, c: Context) -> Applied
+    pub(crate) fn rule10(self, c: Context) -> Applied
         ensures { λ r. ⌜ r ≡ Rules.rule10 c self ⌝ }
     {
         let k = self.result;
@@ -338,7 +342,7 @@ impl Level {
     }
 
     // The centre as output and told, after result none.
-    pub fn rule11(self, c: Context) -> Applied
+    pub(crate) fn rule11(self, c: Context) -> Applied
         ensures { λ r. ⌜ r ≡ Rules.rule11 c self ⌝ }
     {
         if self.result != NONE {
@@ -366,7 +370,7 @@ impl Level {
     }
 
     // The next level entered, by t+1 side messages.
-    pub fn rule12(self, c: Context) -> Applied
+    pub(crate) fn rule12(self, c: Context) -> Applied
         requires { ⌜ InLimits c self ⌝ }
         ensures { λ r. ⌜ r ≡ Rules.rule12 c self ⌝ }
     {
@@ -383,7 +387,7 @@ impl Level {
             };
         }
         let d = c.degree as usize;
-        let i = self.first_reaching(67, d, c.t + 1);
+        let i = self.first_reaching(FIRST_SIDE, d, c.t + 1);
         if d <= i {
             return Applied {
                 level: self,
@@ -397,11 +401,11 @@ impl Level {
     }
 
     // The centre as output, by t+1 centre messages.
-    pub fn rule13(self, c: Context) -> Applied
+    pub(crate) fn rule13(self, c: Context) -> Applied
         requires { ⌜ InLimits c self ⌝ }
         ensures { λ r. ⌜ r ≡ Rules.rule13 c self ⌝ }
     {
-        if !senders::reaches(self.sets[82], c.t + 1) {
+        if !senders::reaches(self.sets[CENTRES], c.t + 1) {
             return Applied {
                 level: self,
                 effect: Effect::Nothing,
@@ -422,7 +426,7 @@ impl Level {
     }
 
     // The next level's output.
-    pub fn rule14(self, c: Context) -> Applied
+    pub(crate) fn rule14(self, c: Context) -> Applied
         ensures { λ r. ⌜ r ≡ Rules.rule14 c self ⌝ }
     {
         let value = self.result;

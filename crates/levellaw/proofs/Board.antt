@@ -17,7 +17,7 @@ use Rattle.level.specs.declared.Context.{Context}
 use Rattle.level.specs.Level.{notYet}
 use Rattle.level.specs.Counts.{weak, strong, mayPropose, echoedBy}
 use Rattle.graded.specs.View.{anyBelow, Setting, Sound, View, Justified, Settled, Origin}
-use Rattle.levellaw.proofs.Moves.{Present, Candidate, AtRest}
+use Rattle.level.proofs.Moves.{Present, Candidate, AtRest}
 use Rattle.levellaw.proofs.Law.{Law, FirstBy, ResultBy, law-first-value}
 use Rattle.levellaw.proofs.Messages.{SentIn, Valued, candidate-low}
 use Rattle.levellaw.proofs.Counted.{heardFrom, others-reached, propose-reached, proposed-reached, digit-reached, split→, →split, weak-reached, strong-reached, second-reached}

@@ -1,25 +1,24 @@
 -- A level's record only grows: what is there stays as it is.
 use mathlib.Core.Path.{_≡_, refl, sym, ap, _∙_, subst}
+use mathlib.Core.Logic.{_⊎_, inl, inr}
 use mathlib.Core.Bool.{Bool, true, false}
 use mathlib.Core.List.{List}
 use Prim.Native.Nat.{ℕ, _<_}
 use native.Mathlib.Decide.{ℕ-discrete, decLt}
 use native.Mathlib.Omega.{arith}
-use lib.Dec.{T, eqb, eqb→eq}
+use lib.Dec.{T}
 use lib.ListN.{length, getD, set}
 use lib.Seq.{getD-set-same, getD-set-other, set-out}
-use Rattle.base.specs.Pick.{pick}
-use Rattle.message.specs.Message.{noneValue}
 use Rattle.message.specs.declared.Body.{Body}
 use Rattle.senders.specs.Senders.{isIn, withSender}
 use Rattle.senders.proofs.Laws.{with-keeps}
 use Rattle.level.specs.declared.Level.{Level}
 use Rattle.level.specs.declared.Context.{Context}
 use Rattle.level.specs.declared.Effect.{Effect}
-use Rattle.level.specs.Level.{senders, slot, notYet, noOutput, withHeard, withEntry, withPortEcho, withNoneEcho, withProposal, withFirst, withSecondEcho, withSecondProposal, withResult, withOutput, withCentreTold}
-use Rattle.level.specs.Rules.{unanswered, lowestRule}
-use Rattle.levellaw.proofs.Moves.{Present, Answered, Echoed, Move, lowest-all}
-use Rattle.levellaw.proofs.Moves.{port-echo, none-echo, first-proposal, first-value, first-none, own-echo, relay, second-proposal, sure-result, none-result, unsure-result, centre-output, sure-entry, unsure-entry, centre-message, sided-entry, told-output, next-output}
+use Rattle.level.specs.Level.{senders, slot, notYet, noOutput, withHeard, withEntry}
+use Rattle.level.specs.Rules.{lowestRule}
+use Rattle.level.proofs.Moves.{Present, Answered, Echoed, Move, told-cases, lowest-all}
+use Rattle.level.proofs.Moves.{port-echo, none-echo, first-proposal, first-value, first-none, own-echo, relay, second-proposal, sure-result, none-result, unsure-result, centre-output, sure-entry, unsure-entry, centre-message, sided-entry, told-output, next-output}
 
 -- what is there in the record l is so in m
 pub record Grows (l m : Level) : Type 0 where
@@ -72,13 +71,16 @@ grows-trans l m k f g = record {
 -- ---- what a message taken changes
 
 -- a place of a list after a store: the stored value, or what was there
-pub store-cases : (s : List ℕ) (i j a : ℕ) (P : ℕ → Type 0) → P (getD s j 0) → (i ≡ j → P a) → P (getD (set s i a) j 0)
-store-cases s i j a P p q = go (ℕ-discrete j i) (decLt i (length s))
+set-cases : {A : Type 0} (s : List A) (i j : ℕ) (a z : A) (P : A → Type 0) → P (getD s j z) → (i ≡ j → P a) → P (getD (set s i a) j z)
+set-cases {A} s i j a z P p q = go (ℕ-discrete j i) (decLt i (length s))
   where
-    go : Dec (j ≡ i) → Dec (i < length s) → P (getD (set s i a) j 0)
-    go (no d) x = subst P (sym (getD-set-other s i j a 0 d)) p
-    go (yes e) (yes k) = subst P (sym (ap (λ (z : ℕ). getD (set s i a) z 0) e ∙ getD-set-same s i a 0 k)) (q (sym e))
-    go (yes e) (no k) = subst P (sym (ap (λ (z : List ℕ). getD z j 0) (set-out s i a (omega arith)))) p
+    go : Dec (j ≡ i) → Dec (i < length s) → P (getD (set s i a) j z)
+    go (no d) x = subst P (sym (getD-set-other s i j a z d)) p
+    go (yes e) (yes k) = subst P (sym (ap (λ (n : ℕ). getD (set s i a) n z) e ∙ getD-set-same s i a z k)) (q (sym e))
+    go (yes e) (no k) = subst P (sym (ap (λ (x : List A). getD x j z) (set-out s i a (omega arith)))) p
+
+pub store-cases : (s : List ℕ) (i j a : ℕ) (P : ℕ → Type 0) → P (getD s j 0) → (i ≡ j → P a) → P (getD (set s i a) j 0)
+store-cases s i j a = set-cases s i j a 0
 
 pub grows-heard : (l : Level) (b : Body) (s : ℕ) → Grows l (withHeard l b s)
 unfolding senders withHeard
@@ -122,206 +124,11 @@ grows-entry l a x out d e =
 
 -- a flag that is set stays so
 flag-keeps : (f : List Bool) (w x : ℕ) → T (getD f x false) → T (getD (set f w true) x false)
-flag-keeps f w x h = go (ℕ-discrete x w) (decLt w (length f))
-  where
-    go : Dec (x ≡ w) → Dec (w < length f) → T (getD (set f w true) x false)
-    go (no d) k = subst T (sym (getD-set-other f w x true false d)) h
-    go (yes e) (yes k) = subst (λ (z : ℕ). T (getD (set f w true) z false)) (sym e) (subst T (sym (getD-set-same f w true false k)) tt)
-    go (yes e) (no k) = subst (λ (z : List Bool). T (getD z x false)) (sym (set-out f w true (omega arith))) h
+flag-keeps f w x h = set-cases f w x true false T h (λ _. tt)
 
-grows-port-echo : (l : Level) → Grows l (withPortEcho l)
-unfolding senders
-grows-port-echo l =
-    let k = grows-refl l in
-    record {
-      entered = k .entered;
-      echoed-port = λ _. tt;
-      echoed-none = k .echoed-none;
-      proposal = k .proposal;
-      first = k .first;
-      echoed = k .echoed;
-      second-proposal = k .second-proposal;
-      result = k .result;
-      told = k .told;
-      output = k .output;
-      heard = k .heard;
-    }
-
-grows-none-echo : (l : Level) → Grows l (withNoneEcho l)
-unfolding senders
-grows-none-echo l =
-    let k = grows-refl l in
-    record {
-      entered = k .entered;
-      echoed-port = k .echoed-port;
-      echoed-none = λ _. tt;
-      proposal = k .proposal;
-      first = k .first;
-      echoed = k .echoed;
-      second-proposal = k .second-proposal;
-      result = k .result;
-      told = k .told;
-      output = k .output;
-      heard = k .heard;
-    }
-
-grows-proposal : (l : Level) → (v : ℕ) → l .proposal ≡ notYet → Grows l (withProposal l v)
-unfolding senders
-grows-proposal l v e =
-    let k = grows-refl l in
-    record {
-      entered = k .entered;
-      echoed-port = k .echoed-port;
-      echoed-none = k .echoed-none;
-      proposal = λ p. absurd (p e);
-      first = k .first;
-      echoed = k .echoed;
-      second-proposal = k .second-proposal;
-      result = k .result;
-      told = k .told;
-      output = k .output;
-      heard = k .heard;
-    }
-
-grows-first : (l : Level) → (v : ℕ) → l .first ≡ notYet → Grows l (withFirst l v)
-unfolding senders
-grows-first l v e =
-    let k = grows-refl l in
-    record {
-      entered = k .entered;
-      echoed-port = k .echoed-port;
-      echoed-none = k .echoed-none;
-      proposal = k .proposal;
-      first = λ p. absurd (p e);
-      echoed = k .echoed;
-      second-proposal = k .second-proposal;
-      result = k .result;
-      told = k .told;
-      output = k .output;
-      heard = k .heard;
-    }
-
-grows-second-echo : (l : Level) → (w : ℕ) → Grows l (withSecondEcho l w)
-unfolding senders
-grows-second-echo l w =
-    let k = grows-refl l in
-    record {
-      entered = k .entered;
-      echoed-port = k .echoed-port;
-      echoed-none = k .echoed-none;
-      proposal = k .proposal;
-      first = k .first;
-      echoed = flag-keeps (l .echoed) w;
-      second-proposal = k .second-proposal;
-      result = k .result;
-      told = k .told;
-      output = k .output;
-      heard = k .heard;
-    }
-
-grows-second-proposal : (l : Level) → (w : ℕ) → l .«second_proposal» ≡ notYet → Grows l (withSecondProposal l w)
-unfolding senders
-grows-second-proposal l w e =
-    let k = grows-refl l in
-    record {
-      entered = k .entered;
-      echoed-port = k .echoed-port;
-      echoed-none = k .echoed-none;
-      proposal = k .proposal;
-      first = k .first;
-      echoed = k .echoed;
-      second-proposal = λ p. absurd (p e);
-      result = k .result;
-      told = k .told;
-      output = k .output;
-      heard = k .heard;
-    }
-
-grows-result : (l : Level) → (w : ℕ) (sure : Bool) → l .result ≡ notYet → Grows l (withResult l w sure)
-unfolding senders
-grows-result l w sure e =
-    let k = grows-refl l in
-    record {
-      entered = k .entered;
-      echoed-port = k .echoed-port;
-      echoed-none = k .echoed-none;
-      proposal = k .proposal;
-      first = k .first;
-      echoed = k .echoed;
-      second-proposal = k .second-proposal;
-      result = λ p. absurd (p e);
-      told = k .told;
-      output = k .output;
-      heard = k .heard;
-    }
-
-grows-output : (l : Level) → (x : ℕ) → l .output ≡ noOutput → Grows l (withOutput l x)
-unfolding senders
-grows-output l x e =
-    let k = grows-refl l in
-    record {
-      entered = k .entered;
-      echoed-port = k .echoed-port;
-      echoed-none = k .echoed-none;
-      proposal = k .proposal;
-      first = k .first;
-      echoed = k .echoed;
-      second-proposal = k .second-proposal;
-      result = k .result;
-      told = k .told;
-      output = λ p. absurd (p e);
-      heard = k .heard;
-    }
-
-grows-centre-told : (l : Level) → (x : ℕ) → (Answered l → x ≡ l .output) → Grows l (withCentreTold l x)
-unfolding senders
-grows-centre-told l x e =
-    let k = grows-refl l in
-    record {
-      entered = k .entered;
-      echoed-port = k .echoed-port;
-      echoed-none = k .echoed-none;
-      proposal = k .proposal;
-      first = k .first;
-      echoed = k .echoed;
-      second-proposal = k .second-proposal;
-      result = k .result;
-      told = λ _. tt;
-      output = e;
-      heard = k .heard;
-    }
-
--- the output that rule 11 leaves
-told-output-kept : (l : Level) (x : ℕ) → Answered l → pick (unanswered l) x (l .output) ≡ l .output
-told-output-kept l x d = go (unanswered l) refl
-  where
-    go : (b : Bool) → eqb (l .output) noOutput ≡ b → pick b x (l .output) ≡ l .output
-    go true e = absurd (d (eqb→eq (l .output) noOutput (subst T (sym e) tt)))
-    go false e = refl
-
-pub move-grows : (c : Context) (l m : Level) (e : Effect) → Move c l m e → Grows l m
-move-grows c l m e (port-echo p) = grows-port-echo l
-move-grows c l m e (none-echo p q) = grows-none-echo l
-move-grows c l m e (first-proposal v p k q) = grows-proposal l v p
-move-grows c l m e (first-value v p k q) = grows-first l v p
-move-grows c l m e (first-none p q) = grows-first l noneValue p
-move-grows c l m e (own-echo p q) = grows-second-echo l (l .first)
-move-grows c l m e (relay w p k q r) = grows-second-echo l w
-move-grows c l m e (second-proposal w p r k q) = grows-second-proposal l w r
-move-grows c l m e (sure-result v p r k q) = grows-result l v true r
-move-grows c l m e (none-result p r q) = grows-result l noneValue false r
-move-grows c l m e (unsure-result v p r k q q′) = grows-result l v false r
-move-grows c l m e (centre-output r o) = grows-output l (c .centre) o
-move-grows c l m e (sure-entry r n s) = grows-refl l
-move-grows c l m e (unsure-entry r n s) = grows-refl l
-move-grows c l m e (centre-message r t) = grows-centre-told l (pick (unanswered l) (c .centre) (l .output)) (told-output-kept l (c .centre))
-move-grows c l m e (sided-entry k r n a b q) = grows-refl l
-move-grows c l m e (told-output q o) = grows-output l (c .centre) o
-move-grows c l m e (next-output r o x) = grows-output l (c .«next_output») o
-
--- the lowest rule's record has grown
-pub lowest-grows : (c : Context) (l : Level) → Grows l (lowestRule c l .level)
-lowest-grows c l = lowest-all c l (λ m e. Grows l m) (λ _. grows-refl l) (move-grows c l)
+-- a flag that is set after one more was set is that one, or was set before
+pub flag-set : (f : List Bool) (w x : ℕ) → T (getD (set f w true) x false) → (x ≡ w) ⊎ T (getD f x false)
+flag-set f w x = set-cases f w x true false (λ b. T b → (x ≡ w) ⊎ T (getD f x false)) inr (λ e _. inl (sym e))
 
 -- what no rule changes: what was heard, and where the level was entered
 pub record Unmoved (l m : Level) : Type 0 where
@@ -349,6 +156,61 @@ move-unmoved c l m e (centre-message r t) = record { sets = refl; entered = refl
 move-unmoved c l m e (sided-entry k r n a b q) = record { sets = refl; entered = refl; side = refl; position = refl }
 move-unmoved c l m e (told-output q o) = record { sets = refl; entered = refl; side = refl; position = refl }
 move-unmoved c l m e (next-output r o x) = record { sets = refl; entered = refl; side = refl; position = refl }
+
+-- what a rule can change, clause by clause
+grows-by : (l m : Level)
+    → (T (l .«echoed_port») → T (m .«echoed_port»))
+    → (T (l .«echoed_none») → T (m .«echoed_none»))
+    → (Present (l .proposal) → m .proposal ≡ l .proposal)
+    → (Present (l .first) → m .first ≡ l .first)
+    → ((w : ℕ) → Echoed l w → Echoed m w)
+    → (Present (l .«second_proposal») → m .«second_proposal» ≡ l .«second_proposal»)
+    → (Present (l .result) → (m .result ≡ l .result) × (m .sure ≡ l .sure))
+    → (T (l .«told_centre») → T (m .«told_centre»))
+    → (Answered l → m .output ≡ l .output)
+    → Unmoved l m → Grows l m
+unfolding senders
+grows-by l m port none proposal first echoed second result told output u = record {
+  entered = λ h. (subst T (sym (u .entered)) h, u .side, u .position);
+  echoed-port = port;
+  echoed-none = none;
+  proposal = proposal;
+  first = first;
+  echoed = echoed;
+  second-proposal = second;
+  result = result;
+  told = told;
+  output = output;
+  heard = λ b s h. subst (λ (z : List ℕ). T (isIn (getD z (slot b) 0) s)) (sym (u .sets)) h;
+}
+
+-- each rule sets what was not set before
+move-sets : (c : Context) (l m : Level) (e : Effect) → Move c l m e → Unmoved l m → Grows l m
+move-sets c l m e (port-echo p) = let k = grows-refl l in grows-by l m (λ _. tt) (k .echoed-none) (k .proposal) (k .first) (k .echoed) (k .second-proposal) (k .result) (k .told) (k .output)
+move-sets c l m e (none-echo p q) = let k = grows-refl l in grows-by l m (k .echoed-port) (λ _. tt) (k .proposal) (k .first) (k .echoed) (k .second-proposal) (k .result) (k .told) (k .output)
+move-sets c l m e (first-proposal v p x q) = let k = grows-refl l in grows-by l m (k .echoed-port) (k .echoed-none) (λ i. absurd (i p)) (k .first) (k .echoed) (k .second-proposal) (k .result) (k .told) (k .output)
+move-sets c l m e (first-value v p x q) = let k = grows-refl l in grows-by l m (k .echoed-port) (k .echoed-none) (k .proposal) (λ i. absurd (i p)) (k .echoed) (k .second-proposal) (k .result) (k .told) (k .output)
+move-sets c l m e (first-none p q) = let k = grows-refl l in grows-by l m (k .echoed-port) (k .echoed-none) (k .proposal) (λ i. absurd (i p)) (k .echoed) (k .second-proposal) (k .result) (k .told) (k .output)
+move-sets c l m e (own-echo p q) = let k = grows-refl l in grows-by l m (k .echoed-port) (k .echoed-none) (k .proposal) (k .first) (flag-keeps (l .echoed) (l .first)) (k .second-proposal) (k .result) (k .told) (k .output)
+move-sets c l m e (relay w p x q r) = let k = grows-refl l in grows-by l m (k .echoed-port) (k .echoed-none) (k .proposal) (k .first) (flag-keeps (l .echoed) w) (k .second-proposal) (k .result) (k .told) (k .output)
+move-sets c l m e (second-proposal w p r x q) = let k = grows-refl l in grows-by l m (k .echoed-port) (k .echoed-none) (k .proposal) (k .first) (k .echoed) (λ i. absurd (i r)) (k .result) (k .told) (k .output)
+move-sets c l m e (sure-result v p r x q) = let k = grows-refl l in grows-by l m (k .echoed-port) (k .echoed-none) (k .proposal) (k .first) (k .echoed) (k .second-proposal) (λ i. absurd (i r)) (k .told) (k .output)
+move-sets c l m e (none-result p r q) = let k = grows-refl l in grows-by l m (k .echoed-port) (k .echoed-none) (k .proposal) (k .first) (k .echoed) (k .second-proposal) (λ i. absurd (i r)) (k .told) (k .output)
+move-sets c l m e (unsure-result v p r x q q′) = let k = grows-refl l in grows-by l m (k .echoed-port) (k .echoed-none) (k .proposal) (k .first) (k .echoed) (k .second-proposal) (λ i. absurd (i r)) (k .told) (k .output)
+move-sets c l m e (centre-output r o) = let k = grows-refl l in grows-by l m (k .echoed-port) (k .echoed-none) (k .proposal) (k .first) (k .echoed) (k .second-proposal) (k .result) (k .told) (λ i. absurd (i o))
+move-sets c l m e (sure-entry r n s) = λ _. grows-refl l
+move-sets c l m e (unsure-entry r n s) = λ _. grows-refl l
+move-sets c l m e (centre-message r t) = let k = grows-refl l in grows-by l m (k .echoed-port) (k .echoed-none) (k .proposal) (k .first) (k .echoed) (k .second-proposal) (k .result) (λ _. tt) (λ d. told-cases l (c .centre) (λ x. x ≡ l .output) (λ o. absurd (d o)) (λ _. refl))
+move-sets c l m e (sided-entry x r n a b q) = λ _. grows-refl l
+move-sets c l m e (told-output q o) = let k = grows-refl l in grows-by l m (k .echoed-port) (k .echoed-none) (k .proposal) (k .first) (k .echoed) (k .second-proposal) (k .result) (k .told) (λ i. absurd (i o))
+move-sets c l m e (next-output r o x) = let k = grows-refl l in grows-by l m (k .echoed-port) (k .echoed-none) (k .proposal) (k .first) (k .echoed) (k .second-proposal) (k .result) (k .told) (λ i. absurd (i o))
+
+pub move-grows : (c : Context) (l m : Level) (e : Effect) → Move c l m e → Grows l m
+move-grows c l m e x = move-sets c l m e x (move-unmoved c l m e x)
+
+-- the lowest rule's record has grown
+pub lowest-grows : (c : Context) (l : Level) → Grows l (lowestRule c l .level)
+lowest-grows c l = lowest-all c l (λ m e. Grows l m) (λ _. grows-refl l) (move-grows c l)
 
 pub lowest-unmoved : (c : Context) (l : Level) → Unmoved l (lowestRule c l .level)
 lowest-unmoved c l = lowest-all c l (λ m e. Unmoved l m) (λ _. record { sets = refl; entered = refl; side = refl; position = refl }) (move-unmoved c l)

@@ -4,12 +4,10 @@ use mathlib.Core.Logic.{_⊎_, inl, inr}
 use mathlib.Core.Bool.{Bool, true, false, not}
 use mathlib.Core.List.{List}
 use Prim.Native.Nat.{ℕ, zero, suc, _^_, _≤_, _<_}
-use native.Mathlib.Decide.{ℕ-discrete}
 use native.Mathlib.Omega.{arith}
-use lib.Dec.{T, eqb, T-not, eqb-refl}
+use lib.Dec.{T, T-not}
 use lib.Pow.{pow-pos}
-use lib.ListN.{length, getD, set, replicate, length-set}
-use lib.Seq.{getD-set-other}
+use lib.ListN.{length, getD, replicate, length-set}
 use Rattle.base.specs.Pick.{pick}
 use Rattle.message.specs.Message.{noneValue}
 use Rattle.level.specs.declared.Level.{Level}
@@ -18,8 +16,9 @@ use Rattle.level.specs.declared.Effect.{Effect}
 use Rattle.level.specs.Level.{senders, notYet, noOutput, blankLevel, withEntry, withPortEcho, withNoneEcho, withProposal, withFirst, withSecondEcho, withSecondProposal, withResult, withOutput, withCentreTold}
 use Rattle.level.specs.Counts.{weak, strong, otherEchoes, atLeast, mayPropose, proposed, split, splitAt, digitEchoes, echoedBy, secondProposed}
 use Rattle.level.specs.Rules.{unanswered, lowestRule}
-use Rattle.levellaw.proofs.Moves.{Present, Answered, Candidate, Echoed, Move, lowest-all}
-use Rattle.levellaw.proofs.Moves.{port-echo, none-echo, first-proposal, first-value, first-none, own-echo, relay, second-proposal, sure-result, none-result, unsure-result, centre-output, sure-entry, unsure-entry, centre-message, sided-entry, told-output, next-output}
+use Rattle.level.proofs.Moves.{Present, Answered, Candidate, Echoed, Move, told-cases, lowest-all}
+use Rattle.level.proofs.Moves.{port-echo, none-echo, first-proposal, first-value, first-none, own-echo, relay, second-proposal, sure-result, none-result, unsure-result, centre-output, sure-entry, unsure-entry, centre-message, sided-entry, told-output, next-output}
+use Rattle.levellaw.proofs.Grows.{flag-set}
 
 -- ---- the law
 
@@ -130,30 +129,25 @@ pub record Same (c c′ : Context) : Type 0 where
 pub same-refl : (c : Context) → Same c c
 same-refl c = record { n = refl; t = refl; degree = refl; port = refl; centre = refl }
 
--- a context without the next level
-bare : Context → Context
-bare c = record { n = c .n; t = c .t; degree = c .degree; port = c .port; centre = c .centre; «next_entered» = false; «next_output» = noOutput }
+-- a context with another state of the next level
+next : Context → Bool → ℕ → Context
+next c entered out = record { n = c .n; t = c .t; degree = c .degree; port = c .port; centre = c .centre; «next_entered» = entered; «next_output» = out }
 
-bare-same : (c c′ : Context) → Same c c′ → bare c ≡ bare c′
-unfolding bare
-bare-same c c′ e i = record { n = e .n i; t = e .t i; degree = e .degree i; port = e .port i; centre = e .centre i; «next_entered» = false; «next_output» = noOutput }
-
-law-bare : (c : Context) (l : Level) → Law c l → Law (bare c) l
-unfolding bare otherEchoes mayPropose proposed split splitAt digitEchoes echoedBy secondProposed
-law-bare c l h = record {
-  heard = h .heard;
-  echoed-none = h .echoed-none;
-  proposal = h .proposal;
-  first = h .first;
-  echoed = h .echoed;
-  second-proposal = h .second-proposal;
-  result = h .result;
-  told = h .told;
+next-same : (c c′ : Context) → Same c c′ → next c (c′ .«next_entered») (c′ .«next_output») ≡ c′
+unfolding next
+next-same c c′ e i = record {
+  n = e .n i;
+  t = e .t i;
+  degree = e .degree i;
+  port = e .port i;
+  centre = e .centre i;
+  «next_entered» = c′ .«next_entered»;
+  «next_output» = c′ .«next_output»;
 }
 
-bare-law : (c : Context) (l : Level) → Law (bare c) l → Law c l
-unfolding bare otherEchoes mayPropose proposed split splitAt digitEchoes echoedBy secondProposed
-bare-law c l h = record {
+law-next : (c : Context) (l : Level) (entered : Bool) (out : ℕ) → Law c l → Law (next c entered out) l
+unfolding next otherEchoes mayPropose proposed split splitAt digitEchoes echoedBy secondProposed
+law-next c l entered out h = record {
   heard = h .heard;
   echoed-none = h .echoed-none;
   proposal = h .proposal;
@@ -166,7 +160,7 @@ bare-law c l h = record {
 
 -- the law asks nothing of the next level
 pub law-same : (c c′ : Context) (l : Level) → Same c c′ → Law c l → Law c′ l
-law-same c c′ l e h = bare-law c′ l (subst (λ (x : Context). Law x l) (bare-same c c′ e) (law-bare c l h))
+law-same c c′ l e h = subst (λ (x : Context). Law x l) (next-same c c′ e) (law-next c l (c′ .«next_entered») (c′ .«next_output») h)
 
 -- ---- each change keeps the law
 
@@ -176,14 +170,6 @@ heard-as n l m e k h = record {
   values = k;
   below = λ i. subst (λ (s : List ℕ). getD s i 0 < 2 ^ n) (sym e) (h .below i);
 }
-
--- a flag that is set after one more was set is that one, or was set before
-pub flag-set : (f : List Bool) (w x : ℕ) → T (getD (set f w true) x false) → (x ≡ w) ⊎ T (getD f x false)
-flag-set f w x h = go (ℕ-discrete x w)
-  where
-    go : Dec (x ≡ w) → (x ≡ w) ⊎ T (getD f x false)
-    go (yes e) = inl e
-    go (no d) = inr (subst T (getD-set-other f w x true false d) h)
 
 module _ (c : Context) (l : Level) (h : Law c l) where
   law-port-echo : Law c (withPortEcho l)
@@ -331,13 +317,6 @@ law-first-value c l h p = go (h .first p)
     go (inl x) = inl (x .0)
     go (inr x) = inr (x .0)
 
-told-answer : (l : Level) (centre : ℕ) → (centre ≡ noOutput → ⊥) → pick (unanswered l) centre (l .output) ≡ noOutput → ⊥
-told-answer l centre d = go (unanswered l) refl
-  where
-    go : (b : Bool) → eqb (l .output) noOutput ≡ b → pick b centre (l .output) ≡ noOutput → ⊥
-    go true e q = d q
-    go false e q = subst T e (subst (λ (x : ℕ). T (eqb (l .output) x)) q (eqb-refl (l .output)))
-
 -- one move keeps the law, where the centre is a position
 pub move-law : (c : Context) (l : Level) → Law c l → (c .centre ≡ noOutput → ⊥) → (m : Level) (e : Effect) → Move c l m e → Law c m
 move-law c l h d m e (port-echo p) = law-port-echo c l h
@@ -354,7 +333,7 @@ move-law c l h d m e (unsure-result v p r k q q′) = law-result c l h v false p
 move-law c l h d m e (centre-output r o) = law-output c l h (c .centre) (λ _. d)
 move-law c l h d m e (sure-entry r n s) = h
 move-law c l h d m e (unsure-entry r n s) = h
-move-law c l h d m e (centre-message r t) = law-centre-told c l h (pick (unanswered l) (c .centre) (l .output)) r (told-answer l (c .centre) d)
+move-law c l h d m e (centre-message r t) = law-centre-told c l h (pick (unanswered l) (c .centre) (l .output)) r (told-cases l (c .centre) (λ x. x ≡ noOutput → ⊥) (λ _. d) (λ a. a))
 move-law c l h d m e (sided-entry k r n a b q) = h
 move-law c l h d m e (told-output q o) = law-output c l h (c .centre) (λ _. d)
 move-law c l h d m e (next-output r o x) = law-output c l h (c .«next_output») (λ _. x)

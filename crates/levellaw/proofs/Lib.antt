@@ -1,4 +1,3 @@
-pub mod Moves
 pub mod Law
 pub mod Grows
 pub mod Evidence

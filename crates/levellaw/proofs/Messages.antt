@@ -7,7 +7,7 @@ use native.Mathlib.Omega.{arith}
 use lib.Dec.{T, leb, eqb, T-not, le→leb}
 use lib.ListN.{length, getD, set}
 use lib.Seq.{getD-set-same}
-use Rattle.base.proofs.Bools.{T-and, or-split, or-left}
+use Rattle.base.proofs.Bools.{T-and, or-split, or-left, or-right}
 use Rattle.message.specs.Message.{noneValue, maxValue, bodyInTable}
 use Rattle.message.specs.declared.Body.{Body}
 use Rattle.message.specs.declared.Body.the-variants.{FirstEcho, FirstProposal, SecondEcho, SecondProposal, Side, Centre}
@@ -18,10 +18,12 @@ use Rattle.level.specs.declared.Effect.the-variants.{Nothing, Quiet, Send, Ente
 use Rattle.level.specs.Level.{withHeard}
 use Rattle.level.specs.Counts.{sided}
 use Rattle.level.specs.Rules.{lowestRule}
-use Rattle.levellaw.proofs.Moves.{Present, Candidate, Echoed, Move, lowest-all}
-use Rattle.levellaw.proofs.Moves.{port-echo, none-echo, first-proposal, first-value, first-none, own-echo, relay, second-proposal, sure-result, none-result, unsure-result, centre-output, sure-entry, unsure-entry, centre-message, sided-entry, told-output, next-output}
-use Rattle.levellaw.proofs.Law.{Law, Same, Untouched, ResultBy, flag-set, law-first-value}
-use Rattle.levellaw.proofs.Grows.{Grows, grows-refl, move-grows, lowest-grows}
+use Rattle.level.proofs.Searches.{candidate-small}
+use Rattle.level.proofs.Moves.{Present, Candidate, Echoed, Move, lowest-all}
+pub use Rattle.level.proofs.Moves.{enters}
+use Rattle.level.proofs.Moves.{port-echo, none-echo, first-proposal, first-value, first-none, own-echo, relay, second-proposal, sure-result, none-result, unsure-result, centre-output, sure-entry, unsure-entry, centre-message, sided-entry, told-output, next-output}
+use Rattle.levellaw.proofs.Law.{Law, Same, Untouched, ResultBy, law-first-value}
+use Rattle.levellaw.proofs.Grows.{Grows, grows-refl, flag-set, move-grows, lowest-grows}
 
 -- ---- words
 
@@ -41,14 +43,6 @@ Makes Quiet b = ⊥
 Makes (Send x) b = x ≡ b
 Makes (Enter k keep) b = ⊥
 Makes (SendEnter k) b = Side k ≡ b
-
--- the effect enters the next level
-abbrev pub enters : Effect → Bool
-enters Nothing = false
-enters Quiet = false
-enters (Send x) = false
-enters (Enter k keep) = true
-enters (SendEnter k) = true
 
 -- the context of the level after the effect
 pub record After (c : Context) (e : Effect) (c′ : Context) : Type 0 where
@@ -178,12 +172,7 @@ sent-grows c c′ l m a n g Centre h = g .told h
 -- ---- a message that the effect makes
 
 pub candidate-low : (c : Context) (w : ℕ) → Valued c → Candidate c w → w ≤ noneValue
-candidate-low c w d (inl h) = omega (arith, d .degree)
-candidate-low c w d (inr h) = omega arith
-
-or-true : (a : Bool) → T (a || true)
-or-true true = tt
-or-true false = tt
+candidate-low c w d = candidate-small c w (omega (arith, d .degree))
 
 -- a second echo just made is told of
 flag-new : (l : Level) (w : ℕ) → length (l .echoed) ≡ 17 → w ≤ noneValue → T (getD (set (l .echoed) w true) w false)
@@ -205,7 +194,7 @@ makes-sent c c′ l m e d h a (unsure-result v p r k q q′) b i = absurd i
 makes-sent c c′ l m e d h a (centre-output r o) b i = absurd i
 makes-sent c c′ l m e d h a (sure-entry r n s) b i = absurd i
 makes-sent c c′ l m e d h a (unsure-entry r n s) b i =
-    subst (SentIn c′ l) i (refl, s, subst T (sym (a .entered)) (or-true (c .«next_entered»)), r .0, r .1)
+    subst (SentIn c′ l) i (refl, s, subst T (sym (a .entered)) (or-right (c .«next_entered») true tt), r .0, r .1)
 makes-sent c c′ l m e d h a (centre-message r t) b i = subst (SentIn c′ m) i tt
 makes-sent c c′ l m e d h a (sided-entry k r n x y q) b i = absurd i
 makes-sent c c′ l m e d h a (told-output q o) b i = absurd i

@@ -5,7 +5,7 @@ use mathlib.Core.Bool.{Bool, true, false}
 use mathlib.Core.List.{List}
 use Prim.Native.Nat.{ℕ, _+_, _≤_, _<_}
 use native.Mathlib.Omega.{arith}
-use lib.Dec.{T, eqb}
+use lib.Dec.{T}
 use lib.ListN.{getD}
 use Rattle.base.specs.Pick.{pick}
 use Rattle.message.specs.Message.{noneValue}
@@ -17,8 +17,8 @@ use Rattle.level.specs.declared.Effect.{Effect}
 use Rattle.level.specs.Level.{senders, slot, notYet, noOutput, withHeard, withResult}
 use Rattle.level.specs.Counts.{weak, atLeast}
 use Rattle.level.specs.Rules.{unanswered, lowestRule}
-use Rattle.levellaw.proofs.Moves.{Answered, Aside, AtRest, Move, lowest-all}
-use Rattle.levellaw.proofs.Moves.{port-echo, none-echo, first-proposal, first-value, first-none, own-echo, relay, second-proposal, sure-result, none-result, unsure-result, centre-output, sure-entry, unsure-entry, centre-message, sided-entry, told-output, next-output}
+use Rattle.level.proofs.Moves.{Answered, Aside, AtRest, Move, told-cases, lowest-all}
+use Rattle.level.proofs.Moves.{port-echo, none-echo, first-proposal, first-value, first-none, own-echo, relay, second-proposal, sure-result, none-result, unsure-result, centre-output, sure-entry, unsure-entry, centre-message, sided-entry, told-output, next-output}
 use Rattle.levellaw.proofs.Law.{Heard, Law, Same}
 use Rattle.levellaw.proofs.Grows.{grows-heard}
 use Rattle.levellaw.proofs.Evidence.{heard-keeps, more-senders}
@@ -30,8 +30,11 @@ pub data CentreBy (c : Context) (l : Level) : Type 0 where
   by-messages : T (atLeast (weak c) (senders l Centre)) → CentreBy c l
 
 -- the output is the centre, or the next level's for a result of value 1 or more
+abbrev OutputFrom : Context → Level → Type 0
+OutputFrom c l = ((l .output ≡ c .centre) × CentreBy c l) ⊎ ((l .output ≡ c .«next_output») × Aside l)
+
 abbrev pub OutputBy : Context → Level → Type 0
-OutputBy c l = Answered l → ((l .output ≡ c .centre) × CentreBy c l) ⊎ ((l .output ≡ c .«next_output») × Aside l)
+OutputBy c l = Answered l → OutputFrom c l
 
 pub unanswered-output : (c : Context) (l : Level) → l .output ≡ noOutput → OutputBy c l
 unanswered-output c l e p = absurd (p e)
@@ -46,8 +49,7 @@ result-output c l w sure e h p = go (h p)
     by (by-none x) = absurd (omega arith)
     by (by-messages x) = by-messages x
 
-    go : ((l .output ≡ c .centre) × CentreBy c l) ⊎ ((l .output ≡ c .«next_output») × Aside l)
-        → ((l .output ≡ c .centre) × CentreBy c (withResult l w sure)) ⊎ ((l .output ≡ c .«next_output») × Aside (withResult l w sure))
+    go : OutputFrom c l → OutputFrom c (withResult l w sure)
     go (inl x) = inl (x .0, by (x .1))
     go (inr x) = absurd (omega (arith, x .1 .1))
 
@@ -61,19 +63,15 @@ keeps-output c l m s o r h p = go (h (λ e. p (o ∙ e)))
     by (by-none x) = by-none (r ∙ x)
     by (by-messages x) = by-messages (subst (λ (z : List ℕ). T (atLeast (weak c) (getD z (slot Centre) 0))) (sym s) x)
 
-    go : ((l .output ≡ c .centre) × CentreBy c l) ⊎ ((l .output ≡ c .«next_output») × Aside l)
-        → ((m .output ≡ c .centre) × CentreBy c m) ⊎ ((m .output ≡ c .«next_output») × Aside m)
+    go : OutputFrom c l → OutputFrom c m
     go (inl x) = inl (o ∙ x .0, by (x .1))
     go (inr x) = inr (o ∙ x .0, subst (λ (z : ℕ). (1 ≤ z) × (z < noneValue)) (sym r) (x .1))
 
 -- rule 11's output
 told-output-by : (c : Context) (l m : Level) → m .sets ≡ l .sets → m .result ≡ l .result → l .result ≡ noneValue
     → m .output ≡ pick (unanswered l) (c .centre) (l .output) → OutputBy c l → OutputBy c m
-told-output-by c l m s r e o h = go (unanswered l) refl o
-  where
-    go : (b : Bool) → eqb (l .output) noOutput ≡ b → m .output ≡ pick b (c .centre) (l .output) → OutputBy c m
-    go true i x p = inl (x, by-none (r ∙ e))
-    go false i x p = keeps-output c l m s x r h p
+told-output-by c l m s r e o h =
+    told-cases l (c .centre) (λ x. m .output ≡ x → OutputBy c m) (λ _ x p. inl (x, by-none (r ∙ e))) (λ _ x. keeps-output c l m s x r h) o
 
 move-output : (c : Context) (l : Level) → OutputBy c l → (m : Level) (e : Effect) → Move c l m e → OutputBy c m
 unfolding senders
@@ -109,8 +107,7 @@ output-later c c′ l a h p = go (h p)
     by (by-none x) = by-none x
     by (by-messages x) = by-messages (subst (λ (t : ℕ). T (atLeast (t + 1) (senders l Centre))) (a .same .t) x)
 
-    go : ((l .output ≡ c .centre) × CentreBy c l) ⊎ ((l .output ≡ c .«next_output») × Aside l)
-        → ((l .output ≡ c′ .centre) × CentreBy c′ l) ⊎ ((l .output ≡ c′ .«next_output») × Aside l)
+    go : OutputFrom c l → OutputFrom c′ l
     go (inl x) = inl (x .0 ∙ a .same .centre, by (x .1))
     go (inr x) = inr (x .0 ∙ sym (a .output (λ e. p (x .0 ∙ e))), x .1)
 
@@ -126,8 +123,7 @@ output-heard c l b s k q h p = go (h p)
     by (by-none x) = by-none x
     by (by-messages x) = by-messages (more-senders c l (withHeard l b s) q (heard-keeps (c .n) l b s k q) (grows-heard l b s .heard) (weak c) Centre x)
 
-    go : ((l .output ≡ c .centre) × CentreBy c l) ⊎ ((l .output ≡ c .«next_output») × Aside l)
-        → ((l .output ≡ c .centre) × CentreBy c (withHeard l b s)) ⊎ ((l .output ≡ c .«next_output») × Aside l)
+    go : OutputFrom c l → OutputFrom c (withHeard l b s)
     go (inl x) = inl (x .0, by (x .1))
     go (inr x) = inr x
 

@@ -46,13 +46,13 @@ afterRule p i l (Send b) = withLevel p i l
 afterRule p i l (Enter k keep) = descend (withLevel p i l) i k (pick keep (levelAt p i .position) (gate p i k))
 afterRule p i l (SendEnter k) = descend (withLevel p i l) i k (gate p i k)
 
--- the messages that it makes
-abbrev pub madeBy : Party → ℕ → Effect → List Message
-madeBy p i Nothing = []
-madeBy p i Quiet = []
-madeBy p i (Send b) = record { number = p .agreement; level = i; body = b } ∷ []
-madeBy p i (Enter k keep) = []
-madeBy p i (SendEnter k) = record { number = p .agreement; level = i; body = Side k } ∷ []
+-- the messages that a rule at level i makes in the vote of an agreement number
+abbrev pub madeBy : ℕ → ℕ → Effect → List Message
+madeBy number i Nothing = []
+madeBy number i Quiet = []
+madeBy number i (Send b) = record { number = number; level = i; body = b } ∷ []
+madeBy number i (Enter k keep) = []
+madeBy number i (SendEnter k) = record { number = number; level = i; body = Side k } ∷ []
 
 -- a party, how many rules led to it, and the messages that they made, in order
 pub record Ran : Type 0 where
@@ -76,7 +76,7 @@ unfoldable pub runUpTo : ℕ → Party → Ran
 runUpTo zero p = resting p
 runUpTo (suc f) p =
     pick (ltb (openLevel p) levelCount)
-    (oneMore (madeBy p (openLevel p) (ruleAt p (openLevel p) .effect)) (runUpTo f (stepAt p (openLevel p))))
+    (oneMore (madeBy (p .agreement) (openLevel p) (ruleAt p (openLevel p) .effect)) (runUpTo f (stepAt p (openLevel p))))
     (resting p)
 
 -- crate bounds shows that no rule applies after that many (run-quiescent) and that a life counts at most maxRules (within-rules)

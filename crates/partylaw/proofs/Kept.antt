@@ -18,8 +18,8 @@ use Rattle.senders.proofs.Laws.{with-old}
 use Rattle.level.specs.declared.Level.{Level}
 use Rattle.level.specs.declared.Effect.{Effect}
 use Rattle.level.specs.Level.{senders, slot, held, withHeard}
-use Rattle.levellaw.proofs.Moves.{Move}
-use Rattle.levellaw.proofs.Moves.{port-echo, none-echo, first-proposal, first-value, first-none, own-echo, relay, second-proposal, sure-result, none-result, unsure-result, centre-output, sure-entry, unsure-entry, centre-message, sided-entry, told-output, next-output}
+use Rattle.level.proofs.Moves.{Move}
+use Rattle.level.proofs.Moves.{port-echo, none-echo, first-proposal, first-value, first-none, own-echo, relay, second-proposal, sure-result, none-result, unsure-result, centre-output, sure-entry, unsure-entry, centre-message, sided-entry, told-output, next-output}
 use Rattle.levellaw.proofs.Law.{Same}
 use Rattle.levellaw.proofs.Grows.{Unmoved, move-unmoved}
 use Rattle.party.specs.declared.Party.{Party}

@@ -21,8 +21,8 @@ use Rattle.level.specs.declared.Context.{Context}
 use Rattle.level.specs.declared.Effect.{Effect}
 use Rattle.level.specs.Level.{withFirst, withResult, withOutput, withCentreTold}
 use Rattle.level.specs.Rules.{unanswered, applies}
-use Rattle.levellaw.proofs.Moves.{Aside, Move, lowest-moves}
-use Rattle.levellaw.proofs.Moves.{port-echo, none-echo, first-proposal, first-value, first-none, own-echo, relay, second-proposal, sure-result, none-result, unsure-result, centre-output, sure-entry, unsure-entry, centre-message, sided-entry, told-output, next-output}
+use Rattle.level.proofs.Moves.{Aside, Move, lowest-moves}
+use Rattle.level.proofs.Moves.{port-echo, none-echo, first-proposal, first-value, first-none, own-echo, relay, second-proposal, sure-result, none-result, unsure-result, centre-output, sure-entry, unsure-entry, centre-message, sided-entry, told-output, next-output}
 use Rattle.levellaw.proofs.Grows.{Unmoved, move-unmoved}
 use Rattle.party.specs.declared.Party.{Party}
 use Rattle.party.specs.Party.{levelAt, withLevel, componentOf, sending, contextOf, entering}

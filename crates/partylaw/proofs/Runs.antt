@@ -23,7 +23,7 @@ runs-keep P step zero p h = h
 runs-keep P step (suc f) p h = go (ltb (openLevel p) levelCount) refl (runs-keep P step f (stepAt p (openLevel p)))
   where
     next : Ran
-    next = oneMore (madeBy p (openLevel p) (ruleAt p (openLevel p) .effect)) (runUpTo f (stepAt p (openLevel p)))
+    next = oneMore (madeBy (p .agreement) (openLevel p) (ruleAt p (openLevel p) .effect)) (runUpTo f (stepAt p (openLevel p)))
 
     go : (b : Bool) → ltb (openLevel p) levelCount ≡ b → (P (stepAt p (openLevel p)) → P (runUpTo f (stepAt p (openLevel p)) .party)) → P (pick b next (resting p) .party)
     go true e ih = ih (step p (openLevel p) h (open-level p (ltb→lt (openLevel p) levelCount (subst T (sym e) tt))))

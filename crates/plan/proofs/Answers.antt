@@ -5,14 +5,14 @@ use mathlib.Core.List.{List, [], _∷_}
 use mathlib.Core.Bool.{Bool, true, false, _&&_}
 use Prim.Native.Nat.{ℕ, _+_, _-_, _*_, _≤_, _<_}
 use native.Mathlib.Omega.{arith}
-use lib.Dec.{T, eqb, ltb, leb, leb→le, le→leb}
+use lib.Dec.{T, eqb, leb, leb→le, le→leb}
 use lib.ListN.{length}
-use borrow.Author.Tests.{lt-ltb, le-ltb, le-leb, lt-leb, eq-eqb, ne-eqb}
+use borrow.Author.Tests.{lt-ltb, le-ltb, eq-eqb, ne-eqb}
 use types.Run.{OneOf}
 use denote.Enum.Declared.{tagOf}
 use Rattle.base.specs.Limits.{maxBoards, maxVertices, maxWidth, maxReading}
 use Rattle.base.specs.Pick.{pick}
-use Rattle.base.proofs.Bools.{T-and, T-left, T-right, not-T→false}
+use Rattle.base.proofs.Bools.{T-and, T-left, T-right}
 use Rattle.varint.proofs.VarintRead.{the-type}
 use Rattle.varint.specs.declared.VarintRead.{VarintRead}
 use Rattle.varint.specs.Varint.{varintAt}
@@ -22,11 +22,12 @@ use Rattle.tree.specs.Growth.{sweeps}
 use Rattle.edges.specs.declared.EdgesRead.{EdgesRead}
 use Rattle.edges.specs.Rows.{rows}
 use Rattle.edges.specs.Kept.{Kept}
-use Rattle.edges.specs.Reading.{Found, found, refused, onward, group, ask, edgesFrom, Listed, edgesOfTree}
+use Rattle.base.specs.Found.{Found, found, refused, ask}
+use Rattle.edges.specs.Reading.{onward, varintThen, edgesFrom, Listed, edgesOfTree}
 use Rattle.plan.specs.declared.Plan.{Plan}
 use Rattle.plan.specs.declared.PlanRead.{PlanRead}
 use Rattle.plan.specs.Positions.{treePlan, rangePlan}
-use Rattle.plan.specs.Reading.{ended, treeFrom, rangeFrom, planFrom, planOf, settledPlan, answered}
+use Rattle.plan.specs.Reading.{ended, treeFrom, rangeFrom, planAfter, planOf, settledPlan, answered}
 use Rattle.plan.proofs.Listed.{ask-yes, passing-below, after, made, edges-made}
 
 -- an answer, and what it is the answer of
@@ -57,7 +58,7 @@ module _ (s : List ℕ) (at : ℕ) where
   range-no-low {r} e h = no-group at (varintAt s at) _ (subst NoValue e h)
 
   module _ {r : VarintRead} {z second : ℕ} (e : r ≡ varintAt s at) (i : r ≡ VarintRead.Value z second) where
-    range-low : rangeFrom s at ≡ group s second (λ width next. ask (leb width maxWidth && leb (offsetOfZigzag z + width) maxReading) 10 second (ended s next (rangePlan (offsetOfZigzag z) width)))
+    range-low : rangeFrom s at ≡ varintThen s second (λ width next. ask (leb width maxWidth && leb (offsetOfZigzag z + width) maxReading) 10 second (ended s next (rangePlan (offsetOfZigzag z) width)))
     range-low = rw (sym e ∙ i)
 
     pub range-no-width : {q : VarintRead} → q ≡ varintAt s second → NoValue q → rangeFrom s at ≡ refused 4 second
@@ -143,24 +144,22 @@ module _ (s : List ℕ) (at : ℕ) where
 
 -- ---- a plan
 
-module _ (s : List ℕ) (at : ℕ) where
-  pub plan-no-kind : {r : VarintRead} → r ≡ varintAt s at → NoValue r → planFrom s at ≡ refused 4 at
-  unfolding planFrom
-  plan-no-kind {r} e h = no-group at (varintAt s at) _ (subst NoValue e h)
+module _ (kind : VarintRead) (s : List ℕ) (at : ℕ) where
+  pub plan-no-kind : NoValue kind → planAfter kind s at ≡ refused 4 at
+  plan-no-kind h = no-group at kind _ h
 
-  module _ {r : VarintRead} {kind next : ℕ} (e : r ≡ varintAt s at) (i : r ≡ VarintRead.Value kind next) where
-    plan-kind : planFrom s at ≡ pick (eqb kind 1) (treeFrom s next) (pick (eqb kind 2) (rangeFrom s next) (refused 5 at))
-    unfolding planFrom
-    plan-kind = rw (sym e ∙ i)
+  module _ {k next : ℕ} (i : kind ≡ VarintRead.Value k next) where
+    plan-kind : planAfter kind s at ≡ pick (eqb k 1) (treeFrom s next) (pick (eqb k 2) (rangeFrom s next) (refused 5 at))
+    plan-kind = rw i
 
-    pub plan-tree : kind ≡ 1 → planFrom s at ≡ treeFrom s next
-    plan-tree k = plan-kind ∙ rw (eq-eqb kind 1 k)
+    pub plan-tree : k ≡ 1 → planAfter kind s at ≡ treeFrom s next
+    plan-tree j = plan-kind ∙ rw (eq-eqb k 1 j)
 
-    pub plan-range : kind ≡ 2 → planFrom s at ≡ rangeFrom s next
-    plan-range k = plan-kind ∙ rw (ne-eqb kind 1 (λ z. omega arith), eq-eqb kind 2 k)
+    pub plan-range : k ≡ 2 → planAfter kind s at ≡ rangeFrom s next
+    plan-range j = plan-kind ∙ rw (ne-eqb k 1 (λ z. omega arith), eq-eqb k 2 j)
 
-    pub plan-other : (kind ≡ 1 → ⊥) → (kind ≡ 2 → ⊥) → planFrom s at ≡ refused 5 at
-    plan-other k l = plan-kind ∙ rw (ne-eqb kind 1 k, ne-eqb kind 2 l)
+    pub plan-other : (k ≡ 1 → ⊥) → (k ≡ 2 → ⊥) → planAfter kind s at ≡ refused 5 at
+    plan-other j l = plan-kind ∙ rw (ne-eqb k 1 j, ne-eqb k 2 l)
 
 -- ---- settings
 

@@ -25,7 +25,8 @@ use Rattle.tree.proofs.Growth.{grown-acyclic}
 use Rattle.tree.proofs.GrowthSweeps.{sweeps-again, sweeps-grown, sweeps-below, sweeps-empty}
 use Rattle.tree.proofs.GrowthComplete.{tree-length, tree-edgesAt}
 use Rattle.edges.specs.Rows.{rows}
-use Rattle.edges.specs.Reading.{Found, found, refused, onward, group, ask, edgesFrom}
+use Rattle.base.specs.Found.{Found, found, refused, ask}
+use Rattle.edges.specs.Reading.{onward, varintThen, edgesFrom}
 use Rattle.plan.specs.declared.Plan.{Plan}
 use Rattle.plan.specs.Positions.{column, padded, treePlan, rangePlan}
 use Rattle.plan.specs.Reading.{ended, treeFrom, rangeFrom, planFrom, planOf}

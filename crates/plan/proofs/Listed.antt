@@ -14,7 +14,8 @@ use Rattle.varint.specs.declared.VarintRead.{VarintRead}
 use Rattle.varint.specs.Varint.{varintAt, varintBytes}
 use Rattle.varint.proofs.RoundTrip.{varint-read-at}
 use Rattle.tree.specs.Edges.{Edge, Edges, Acyclic, Below, joined, all, edgesAt}
-use Rattle.edges.specs.Reading.{Found, found, refused, onward, group, ask, endsApart, notJoined, roomAtEnds, edgesFrom, Listed, edgesOfTree}
+use Rattle.base.specs.Found.{Found, found, refused, ask}
+use Rattle.edges.specs.Reading.{onward, varintThen, endsApart, notJoined, roomAtEnds, edgesFrom, Listed, edgesOfTree}
 use Rattle.plan.specs.Columns.{edge}
 use Rattle.plan.proofs.Shape.{at-none, at-most}
 
@@ -100,7 +101,7 @@ pub after : {A : Type 0} (v : ℕ) (s : List ℕ) (done : Edges → ℕ → Foun
 unfolding edgesFrom
 after v s done x zero at E h e = record { edges = E; past = at; passing = h; many = omega arith; last = e }
 after {A} v s done x (suc k) at E h e =
-    let one = grouped at (varintAt s at) (λ a second. group s second (λ b next. rest a b second next)) x e in
+    let one = grouped at (varintAt s at) (λ a second. varintThen s second (λ b next. rest a b second next)) x e in
     let two = grouped (one .1) (varintAt s (one .1)) (λ b next. rest (one .0) b (one .1) next) x (one .3) in
     let a = one .0 in
     let b = two .0 in

@@ -7,7 +7,10 @@ use lib.ListN.{length}
 use Rattle.base.specs.Pick.{pick}
 use Rattle.signed.specs.Signed.{offsetOfZigzag}
 use Rattle.tree.specs.Growth.{sweeps}
-use Rattle.edges.specs.Reading.{Found, found, refused, group, ask, edgesFrom}
+use Rattle.varint.specs.declared.VarintRead.{VarintRead}
+use Rattle.varint.specs.Varint.{varintAt}
+use Rattle.base.specs.Found.{Found, found, refused, ask}
+use Rattle.edges.specs.Reading.{onward, varintThen, edgesFrom}
 use Rattle.plan.specs.declared.Plan.{Plan}
 use Rattle.plan.specs.declared.PlanRead.{PlanRead}
 use Rattle.base.specs.declared.Verdict.{Verdict}
@@ -21,23 +24,27 @@ ended s at a = ask (eqb at (length s)) 11 at (found a)
 -- kind 1: vertex count V, then V - 1 edges; they are kept in an order in which the tree grows from vertex 0
 abbrev pub treeFrom : List ℕ → ℕ → Found Plan
 treeFrom s at =
-    group s at (λ v next.
+    varintThen s at (λ v next.
     ask (leb 1 v && leb v maxVertices) 6 at
     (edgesFrom v (v - 1) s next [] (λ E end. ended s end (treePlan v (sweeps (v - 1) E)))))
 
 -- kind 2: signed low reading, then the width; "Are low, width and high in their limits? 10." (every signed low is)
 abbrev pub rangeFrom : List ℕ → ℕ → Found Plan
 rangeFrom s at =
-    group s at (λ z second. group s second (λ width next.
+    varintThen s at (λ z second. varintThen s second (λ width next.
     ask (leb width maxWidth && leb (offsetOfZigzag z + width) maxReading) 10 second
     (ended s next (rangePlan (offsetOfZigzag z) width))))
 
--- "Is the kind 1 or 2? 5."
+-- "Is the kind 1 or 2? 5.": the plan whose kind was read at `at`
+abbrev pub planAfter : VarintRead → List ℕ → ℕ → Found Plan
+planAfter kind s at =
+    onward at kind (λ k next.
+    pick (eqb k 1) (treeFrom s next)
+    (pick (eqb k 2) (rangeFrom s next) (refused 5 at)))
+
+-- the plan that stands at `at`
 unfoldable pub planFrom : List ℕ → ℕ → Found Plan
-planFrom s at =
-    group s at (λ kind next.
-    pick (eqb kind 1) (treeFrom s next)
-    (pick (eqb kind 2) (rangeFrom s next) (refused 5 at)))
+planFrom s at = planAfter (varintAt s at) s at
 
 -- the plan that the lent bytes are
 abbrev pub planOf : List ℕ → Found Plan

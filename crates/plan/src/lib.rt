@@ -8,9 +8,9 @@ ghost use Rattle.tree.specs.Edges.{Below};
 ghost use Rattle.tree.specs.Growth.{sweep, sweeps};
 ghost use Rattle.edges.specs.Rows.{rows};
 ghost use Rattle.base.specs.Limits.{maxVertices, maxWidth};
-ghost use Rattle.edges.specs.Reading.{found, refused};
+ghost use Rattle.base.specs.Found.{found, refused};
 ghost use Rattle.plan.specs.Positions.{noPlan, treePlan, rangePlan};
-ghost use Rattle.plan.specs.Reading.{treeFrom, rangeFrom, planFrom, planOf, settledPlan, answered};
+ghost use Rattle.plan.specs.Reading.{treeFrom, rangeFrom, planAfter, answered};
 ghost use Rattle.plan.specs.Columns.{edge, Laid, Noted};
 ghost use Rattle.plan.specs.Valid.{rowFits, rowsFit, allZero, treeValid, rangeValid, planValid};
 
@@ -33,7 +33,7 @@ pub struct PlanRead {
 }
 
 // No plan: what comes with a refusal.
-fn no_plan() -> Plan
+pub fn no_plan() -> Plan
     ensures { λ r. ⌜ r ≡ noPlan ⌝ }
 {
     Plan {
@@ -45,7 +45,8 @@ fn no_plan() -> Plan
     }
 }
 
-fn refuse(number: u8, place: usize) -> PlanRead
+// A refusal's number and place, and no plan.
+pub fn refuse(number: u8, place: usize) -> PlanRead
     ensures { λ r. ⌜ r ≡ answered (refused number place) ⌝ }
 {
     let v = base::Verdict::Refused(number, place);
@@ -240,46 +241,20 @@ pub fn read_range(s: &[u8], at: usize) -> PlanRead
     accept(range_plan(low, width))
 }
 
-// The plan that stands at `at` and ends with the bytes.
-pub fn read_at(s: &[u8], at: usize) -> PlanRead
-    ensures { λ r. ⌜ r ≡ answered (planFrom (now (s .entry)) at) ⌝ }
+// The plan whose kind was read at `at`, and that ends with the bytes.
+pub fn read_after(kind: varint::VarintRead, s: &[u8], at: usize) -> PlanRead
+    ensures { λ r. ⌜ r ≡ answered (planAfter kind (now (s .entry)) at) ⌝ }
 {
-    let varint::VarintRead::Value(kind, next) = varint::read(s, at) else {
+    let varint::VarintRead::Value(k, next) = kind else {
         return refuse(4, at);
     };
-    if kind == 1 {
+    if k == 1 {
         return read_tree(s, next);
     }
-    if kind == 2 {
+    if k == 2 {
         return read_range(s, next);
     }
     refuse(5, at)
-}
-
-// The plan that the bytes are.
-pub fn read(s: &[u8]) -> PlanRead
-    ensures { λ r. ⌜ r ≡ answered (planOf (now (s .entry))) ⌝ }
-{
-    read_at(s, 0)
-}
-
-// The questions of a set-up: 1 to 3 about the settings, then the plan.
-pub fn settle(n: u32, t: u32, own: u32, bytes: &[u8]) -> PlanRead
-    ensures { λ r. ⌜ r ≡ answered (settledPlan n t own (now (bytes .entry))) ⌝ }
-{
-    if n < 1 {
-        return refuse(1, 0);
-    }
-    if base::MAX_BOARDS < n {
-        return refuse(1, 0);
-    }
-    if n as u64 <= 3 * (t as u64) {
-        return refuse(2, 0);
-    }
-    if n <= own {
-        return refuse(3, 0);
-    }
-    read(bytes)
 }
 
 fn wide(x: u16) -> usize

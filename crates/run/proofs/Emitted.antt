@@ -13,9 +13,8 @@ use Rattle.message.specs.declared.Message.{Message}
 use Rattle.message.specs.Message.{messageBytes}
 use Rattle.level.specs.declared.Effect.{Effect}
 use Rattle.level.specs.declared.Effect.the-variants.{Nothing, Quiet, Send, Enter, SendEnter}
-use Rattle.party.specs.Run.{bytesOf}
+use Rattle.party.specs.Run.{madeBy, bytesOf}
 use Rattle.run.specs.Gives.{voiced}
-use Rattle.run.specs.Inner.{spoken}
 use Rattle.run.proofs.Going.{voiced-none}
 
 -- from `at` on the buffer `after` has bs, and r is the place past them
@@ -34,16 +33,16 @@ silent loud ms e = ap (λ (b : Bool). voiced b ms) e
 
 -- the bytes of each effect
 module _ (loud : Bool) (a i : ℕ) (e : Effect) where
-  none : (f : Effect) → spoken a i f ≡ [] → e ≡ f → voiced loud (spoken a i e) ≡ []
-  none f h g = ap (λ (x : Effect). voiced loud (spoken a i x)) g ∙ ap (voiced loud) h ∙ voiced-none loud
+  none : (f : Effect) → madeBy a i f ≡ [] → e ≡ f → voiced loud (madeBy a i e) ≡ []
+  none f h g = ap (λ (x : Effect). voiced loud (madeBy a i x)) g ∙ ap (voiced loud) h ∙ voiced-none loud
 
-  pub nothing-voiced : e ≡ Nothing → voiced loud (spoken a i e) ≡ []
+  pub nothing-voiced : e ≡ Nothing → voiced loud (madeBy a i e) ≡ []
   nothing-voiced g = none Nothing refl g
 
-  pub quiet-voiced : e ≡ Quiet → voiced loud (spoken a i e) ≡ []
+  pub quiet-voiced : e ≡ Quiet → voiced loud (madeBy a i e) ≡ []
   quiet-voiced g = none Quiet refl g
 
-  pub enter-voiced : (k : ℕ) (keep : Bool) → e ≡ Enter k keep → voiced loud (spoken a i e) ≡ []
+  pub enter-voiced : (k : ℕ) (keep : Bool) → e ≡ Enter k keep → voiced loud (madeBy a i e) ≡ []
   enter-voiced k keep g = none (Enter k keep) refl g
 
 module _ (a i : ℕ) (e : Effect) where
@@ -51,11 +50,11 @@ module _ (a i : ℕ) (e : Effect) where
   unfolding bytesOf
   one m = append-nil (messageBytes m)
 
-  pub send-bytes : (b : Body) → e ≡ Send b → bytesOf (spoken a i e) ≡ messageBytes (record { number = a; level = i; body = b })
-  send-bytes b g = ap (λ (x : Effect). bytesOf (spoken a i x)) g ∙ one (record { number = a; level = i; body = b })
+  pub send-bytes : (b : Body) → e ≡ Send b → bytesOf (madeBy a i e) ≡ messageBytes (record { number = a; level = i; body = b })
+  send-bytes b g = ap (λ (x : Effect). bytesOf (madeBy a i x)) g ∙ one (record { number = a; level = i; body = b })
 
-  pub side-bytes : (k : ℕ) → e ≡ SendEnter k → bytesOf (spoken a i e) ≡ messageBytes (record { number = a; level = i; body = Side k })
-  side-bytes k g = ap (λ (x : Effect). bytesOf (spoken a i x)) g ∙ one (record { number = a; level = i; body = Side k })
+  pub side-bytes : (k : ℕ) → e ≡ SendEnter k → bytesOf (madeBy a i e) ≡ messageBytes (record { number = a; level = i; body = Side k })
+  side-bytes k g = ap (λ (x : Effect). bytesOf (madeBy a i x)) g ∙ one (record { number = a; level = i; body = Side k })
 
 -- all is said where it is
 pub voiced-loud : (loud : Bool) (ms : List Message) → loud ≡ true → voiced loud ms ≡ bytesOf ms

@@ -62,14 +62,14 @@ pub run-stop : (f : ℕ) (q : Party) → openLevel q ≡ levelCount → runUpTo 
 unfolding runUpTo
 run-stop zero q e = refl
 run-stop (suc f) q e =
-    ap (λ (x : ℕ). pick (ltb x levelCount) (oneMore (madeBy q (openLevel q) (ruleAt q (openLevel q) .effect)) (runUpTo f (stepAt q (openLevel q)))) (resting q)) e
+    ap (λ (x : ℕ). pick (ltb x levelCount) (oneMore (madeBy (q .agreement) (openLevel q) (ruleAt q (openLevel q) .effect)) (runUpTo f (stepAt q (openLevel q)))) (resting q)) e
 
 -- one rule more
 run-on : (f : ℕ) (q : Party) → openLevel q < levelCount
-    → runUpTo (suc f) q ≡ oneMore (madeBy q (openLevel q) (ruleAt q (openLevel q) .effect)) (runUpTo f (stepAt q (openLevel q)))
+    → runUpTo (suc f) q ≡ oneMore (madeBy (q .agreement) (openLevel q) (ruleAt q (openLevel q) .effect)) (runUpTo f (stepAt q (openLevel q)))
 unfolding runUpTo
 run-on f q l =
-    ap (λ (b : Bool). pick b (oneMore (madeBy q (openLevel q) (ruleAt q (openLevel q) .effect)) (runUpTo f (stepAt q (openLevel q)))) (resting q))
+    ap (λ (b : Bool). pick b (oneMore (madeBy (q .agreement) (openLevel q) (ruleAt q (openLevel q) .effect)) (runUpTo f (stepAt q (openLevel q)))) (resting q))
     (T→true (ltb (openLevel q) levelCount) (lt→ltb (openLevel q) levelCount l))
 
 -- ---- between two rules
@@ -121,7 +121,7 @@ module _ (p : Party) (loud : Bool) (before : List ℕ) (q : Party) (d : Chart) (
     i = openLevel q
 
     abbrev ms : List Message
-    ms = madeBy q i (ruleAt q i .effect)
+    ms = madeBy (q .agreement) i (ruleAt q i .effect)
 
     going-open : T (openAt q (openLevel q))
     going-open = open-level q l
@@ -130,7 +130,7 @@ module _ (p : Party) (loud : Bool) (before : List ℕ) (q : Party) (d : Chart) (
     step-room = step-bytes 8 short (lastLevel + 1) q (g .sized) i going-open (omega (arith, open-last q (g .sized) i going-open))
 
     -- its message fits
-    pub going-fits : outgoingSize ≤ length before → sent + length (bytesOf (madeBy q (openLevel q) (ruleAt q (openLevel q) .effect))) ≤ length out
+    pub going-fits : outgoingSize ≤ length before → sent + length (bytesOf (madeBy (q .agreement) (openLevel q) (ruleAt q (openLevel q) .effect))) ≤ length out
     going-fits h = omega (arith, step-room, g .room, g .long)
 
     run-next : rules < maxRules → runUpTo (maxRules - rules) q ≡ oneMore ms (runUpTo (maxRules - (rules + 1)) (stepAt q i))
@@ -145,7 +145,7 @@ module _ (p : Party) (loud : Bool) (before : List ℕ) (q : Party) (d : Chart) (
 
     pub going-on : outgoingSize ≤ length before → rules < maxRules → (q′ : Party) (d′ : Chart) (out′ : List ℕ) (sent′ : ℕ)
         → q′ ≡ stepAt q (openLevel q) → Charts q′ d′
-        → (ns : List Message) → ns ≡ madeBy q (openLevel q) (ruleAt q (openLevel q) .effect)
+        → (ns : List Message) → ns ≡ madeBy (q .agreement) (openLevel q) (ruleAt q (openLevel q) .effect)
         → sent′ ≡ sent + length (voiced loud ns) → out′ ≡ putAt out sent (voiced loud ns)
         → Going p loud before q′ d′ out′ sent′ (rules + 1)
     going-on h k q′ d′ out′ sent′ eq ch ns en es₁ eo₁ =

@@ -24,9 +24,8 @@ use Rattle.party.specs.Chart.{Charts, noSurvey}
 use Rattle.partylaw.proofs.Laws.{Formed, sending-level, open-sending, open-level}
 use Rattle.bounds.proofs.Laws.{levels-quiescent}
 use Rattle.run.specs.declared.Opening.{Opening}
-use Rattle.run.specs.Inner.{seen, Opens, spoken}
+use Rattle.run.specs.Inner.{seen, Opens}
 use Rattle.run.proofs.Charts.{charted-sends, sends-charted}
-use Rattle.run.proofs.Steps.{spoken-made}
 
 -- no rule applies below i
 abbrev pub Closed : Party → ℕ → Type 0
@@ -106,7 +105,7 @@ module _ (p : Party) (o : Opening) (h : Opens p o) where
     pub found-step : stepAt p (o .at) ≡ stepAt p (openLevel p)
     found-step = ap (stepAt p) (h .level)
 
-    pub found-made : spoken (p .agreement) (o .at) (o .applied .effect) ≡ madeBy p (openLevel p) (ruleAt p (openLevel p) .effect)
+    pub found-made : madeBy (p .agreement) (o .at) (o .applied .effect) ≡ madeBy (p .agreement) (openLevel p) (ruleAt p (openLevel p) .effect)
     found-made =
-        spoken-made p (o .at) (o .applied .effect) ∙ ap (λ (a : Applied). madeBy p (o .at) (a .effect)) found-rule
-        ∙ ap (λ (i : ℕ). madeBy p i (ruleAt p i .effect)) (h .level)
+        ap (λ (a : Applied). madeBy (p .agreement) (o .at) (a .effect)) found-rule
+        ∙ ap (λ (i : ℕ). madeBy (p .agreement) i (ruleAt p i .effect)) (h .level)

@@ -13,8 +13,8 @@ use Rattle.level.specs.declared.Context.{Context}
 use Rattle.level.specs.declared.Applied.{Applied}
 use Rattle.level.specs.declared.Effect.{Effect}
 use Rattle.level.specs.declared.Effect.the-variants.{Nothing, Quiet, Send, Enter, SendEnter}
-use Rattle.levellaw.proofs.Moves.{Move}
-use Rattle.levellaw.proofs.Moves.{port-echo, none-echo, first-proposal, first-value, first-none, own-echo, relay, second-proposal, sure-result, none-result, unsure-result, centre-output, sure-entry, unsure-entry, centre-message, sided-entry, told-output, next-output}
+use Rattle.level.proofs.Moves.{Move}
+use Rattle.level.proofs.Moves.{port-echo, none-echo, first-proposal, first-value, first-none, own-echo, relay, second-proposal, sure-result, none-result, unsure-result, centre-output, sure-entry, unsure-entry, centre-message, sided-entry, told-output, next-output}
 use Rattle.levellaw.proofs.Grows.{Unmoved, move-unmoved}
 use Rattle.party.specs.declared.Party.{Party}
 use Rattle.party.specs.declared.Chart.{Chart}
@@ -23,7 +23,7 @@ use Rattle.party.specs.Run.{ruleAt, openAt, gate, descend, afterRule, stepAt, m
 use Rattle.party.specs.Valid.{partyValid}
 use Rattle.party.specs.Chart.{Charts}
 use Rattle.partylaw.proofs.Laws.{Formed, level-back, sending-level, open-sending, open-move, formed-step}
-use Rattle.run.specs.Inner.{Descends, descended, Leads, spoken}
+use Rattle.run.specs.Inner.{Descends, descended, Leads}
 use Rattle.run.proofs.Charts.{charts-with}
 
 -- a rule that enters leaves its level's record, and the next level was not entered
@@ -120,10 +120,3 @@ module _ (p : Party) (c : Chart) (i : ℕ) (a : Applied) (w : Formed p) (h : Cha
       (descends k false (s .0) (s .1) (after (SendEnter k) f), descended-step k false (s .0) (s .1) (after (SendEnter k) f))
 
 -- ---- the message
-
-pub spoken-made : (p : Party) (i : ℕ) (e : Effect) → spoken (p .agreement) i e ≡ madeBy p i e
-spoken-made p i Nothing = refl
-spoken-made p i Quiet = refl
-spoken-made p i (Send b) = refl
-spoken-made p i (Enter k keep) = refl
-spoken-made p i (SendEnter k) = refl

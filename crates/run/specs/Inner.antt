@@ -1,20 +1,15 @@
 -- What the functions inside this crate ask and give.
 use mathlib.Core.Path.{_≡_}
 use mathlib.Core.Bool.{Bool, false}
-use mathlib.Core.List.{List, [], _∷_}
 use Prim.Native.Nat.{ℕ, _+_, _<_}
 use lib.Dec.{T}
 use Rattle.base.specs.Pick.{pick}
 use Rattle.base.specs.Limits.{levelCount}
-use Rattle.message.specs.declared.Message.{Message}
-use Rattle.message.specs.declared.Body.the-variants.{Side}
 use Rattle.component.specs.declared.Component.{Component}
 use Rattle.component.specs.declared.Survey.{Survey}
 use Rattle.component.specs.Component.{members}
 use Rattle.level.specs.declared.Level.{Level}
 use Rattle.level.specs.declared.Context.{Context}
-use Rattle.level.specs.declared.Effect.{Effect}
-use Rattle.level.specs.declared.Effect.the-variants.{Nothing, Quiet, Send, Enter, SendEnter}
 use Rattle.party.specs.declared.Party.{Party}
 use Rattle.party.specs.declared.Chart.{Chart}
 use Rattle.party.specs.Party.{levelAt, componentOf, sending, entering}
@@ -66,11 +61,3 @@ pub record Descends (p : Party) (c : Chart) (i k : ℕ) (keep : Bool) : Type 0 w
   pub sends : T (sending p i)
   pub new : levelAt p (i + 1) .entered ≡ false
   pub after : T (partyValid (descended p i k keep))
-
--- the messages of a rule at level i, by the agreement number
-abbrev pub spoken : ℕ → ℕ → Effect → List Message
-spoken a i Nothing = []
-spoken a i Quiet = []
-spoken a i (Send b) = record { number = a; level = i; body = b } ∷ []
-spoken a i (Enter k keep) = []
-spoken a i (SendEnter k) = record { number = a; level = i; body = Side k } ∷ []

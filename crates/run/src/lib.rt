@@ -14,7 +14,7 @@ ghost use Rattle.party.specs.Run as Rules;
 ghost use Rattle.party.specs.Party.{started, heldBy, entering};
 ghost use Rattle.message.specs.Message.{inTable};
 ghost use Rattle.run.specs.Gives.{voiced, Gives};
-ghost use Rattle.run.specs.Inner.{seen, Opens, Leads, Enterable, Descends, descended, spoken};
+ghost use Rattle.run.specs.Inner.{seen, Opens, Leads, Enterable, Descends, descended};
 
 // What applying rules gave: the party with its chart, how many rules, and how many outgoing bytes.
 pub struct Ran {
@@ -163,8 +163,8 @@ fn step(p: party::Party, c: party::Chart, i: usize, a: level::Applied) -> Charte
 
 // The message that a rule at level i makes is written from `at` on, where `loud`; the place past it.
 fn emit(out: &mut [u8], at: usize, number: u32, i: usize, e: level::Effect, loud: bool) -> usize
-    requires { ⌜ (at + length (Rules.bytesOf (spoken number i e)) ≤ length (now out)) × (i < 256) ⌝ }
-    ensures { λ r. ⌜ (r ≡ at + length (voiced loud (spoken number i e))) × (now (out .exit) ≡ putAt (now (out .entry)) at (voiced loud (spoken number i e))) ⌝ }
+    requires { ⌜ (at + length (Rules.bytesOf (Rules.madeBy number i e)) ≤ length (now out)) × (i < 256) ⌝ }
+    ensures { λ r. ⌜ (r ≡ at + length (voiced loud (Rules.madeBy number i e))) × (now (out .exit) ≡ putAt (now (out .entry)) at (voiced loud (Rules.madeBy number i e))) ⌝ }
 {
     if !loud {
         return at;

@@ -15,7 +15,8 @@ use Rattle.varint.proofs.RoundTrip.{varint-read-at}
 use Rattle.tree.specs.Edges.{Edges, Acyclic}
 use Rattle.tree.specs.Growth.{sweeps}
 use Rattle.tree.proofs.GrowthComplete.{tree-length}
-use Rattle.edges.specs.Reading.{Found, found, edgesFrom}
+use Rattle.base.specs.Found.{Found, found}
+use Rattle.edges.specs.Reading.{edgesFrom}
 use Rattle.edges.specs.Rows.{rows}
 use Rattle.plan.specs.declared.Plan.{Plan}
 use Rattle.plan.specs.Positions.{edgesOf, column, padded, treePlan}

@@ -13,7 +13,7 @@ use Rattle.base.specs.Sets.{Set}
 use Rattle.base.specs.Limits.{outgoingSize, levelCount}
 use Rattle.base.specs.declared.Verdict.{Verdict}
 use Rattle.base.proofs.Bools.{T-left, T-right, or-split, true→T}
-use Rattle.edges.specs.Reading.{Found, found, ask}
+use Rattle.base.specs.Found.{Found, found, ask}
 use Rattle.message.specs.declared.Message.{Message}
 use Rattle.message.specs.declared.Exactly.{Exactly}
 use Rattle.message.specs.Message.{exactMessage}

@@ -17,7 +17,7 @@ use Rattle.base.specs.Sets.{Set}
 use Rattle.base.specs.declared.Verdict.{Verdict}
 use Rattle.varint.specs.Varint.{varintBytes}
 use Rattle.tree.specs.Edges.{Edges}
-use Rattle.edges.specs.Reading.{Found, found}
+use Rattle.base.specs.Found.{Found, found}
 use Rattle.plan.specs.declared.Plan.{Plan}
 use Rattle.plan.specs.Reading.{planOf}
 use Rattle.plan.proofs.Listed.{edgeBytes}

@@ -114,7 +114,7 @@ module _ (q : Plan) (p : Party) (a : Alike (p .plan) q) where
   unfolding hearing withLevel levelAt
   retold-hearing s m = refl
 
-  pub retold-made : (i : ℕ) (e : Effect) → madeBy (retold q p) i e ≡ madeBy p i e
+  pub retold-made : (i : ℕ) (e : Effect) → madeBy ((retold q p) .agreement) i e ≡ madeBy (p .agreement) i e
   retold-made i Nothing = refl
   retold-made i Quiet = refl
   retold-made i (Send b) = refl
@@ -169,7 +169,7 @@ runs-plan zero p = refl
 runs-plan (suc f) p = go (ltb (openLevel p) levelCount) (runs-plan f (stepAt p (openLevel p)))
   where
     next : Ran
-    next = oneMore (madeBy p (openLevel p) (ruleAt p (openLevel p) .effect)) (runUpTo f (stepAt p (openLevel p)))
+    next = oneMore (madeBy (p .agreement) (openLevel p) (ruleAt p (openLevel p) .effect)) (runUpTo f (stepAt p (openLevel p)))
 
     go : (b : Bool) → runUpTo f (stepAt p (openLevel p)) .party .plan ≡ stepAt p (openLevel p) .plan → pick b next (resting p) .party .plan ≡ p .plan
     go true ih = ih ∙ step-plan p (openLevel p)
@@ -200,12 +200,12 @@ retold-runs q (suc f) p a = go (retold-lowest q p a) (retold-runs q f (stepAt p 
     same : runUpTo f (stepAt (retold q p) i) ≡ runUpTo f (retold q (stepAt p i))
     same = ap (runUpTo f) (retold-step q p a i)
 
-    made : madeBy (retold q p) i (ruleAt (retold q p) i .effect) ≡ madeBy p i (ruleAt p i .effect)
-    made = ap (λ (r : Applied). madeBy (retold q p) i (r .effect)) (retold-rule q p a i) ∙ retold-made q p a i (ruleAt p i .effect)
+    made : madeBy ((retold q p) .agreement) i (ruleAt (retold q p) i .effect) ≡ madeBy (p .agreement) i (ruleAt p i .effect)
+    made = ap (λ (r : Applied). madeBy ((retold q p) .agreement) i (r .effect)) (retold-rule q p a i) ∙ retold-made q p a i (ruleAt p i .effect)
 
     next : runUpTo f (retold q (stepAt p i)) ≡ retoldRan q (runUpTo f (stepAt p i))
-        → oneMore (madeBy (retold q p) i (ruleAt (retold q p) i .effect)) (runUpTo f (stepAt (retold q p) i))
-        ≡ retoldRan q (oneMore (madeBy p i (ruleAt p i .effect)) (runUpTo f (stepAt p i)))
+        → oneMore (madeBy ((retold q p) .agreement) i (ruleAt (retold q p) i .effect)) (runUpTo f (stepAt (retold q p) i))
+        ≡ retoldRan q (oneMore (madeBy (p .agreement) i (ruleAt p i .effect)) (runUpTo f (stepAt p i)))
     next ih = ap₂ oneMore made (same ∙ ih)
 
     pushed : (b : Bool) (x : Ran) → pick b (retoldRan q x) (resting (retold q p)) ≡ retoldRan q (pick b x (resting p))
@@ -214,9 +214,9 @@ retold-runs q (suc f) p a = go (retold-lowest q p a) (retold-runs q f (stepAt p 
 
     go : openLevel (retold q p) ≡ i → runUpTo f (retold q (stepAt p i)) ≡ retoldRan q (runUpTo f (stepAt p i)) → runUpTo (suc f) (retold q p) ≡ retoldRan q (runUpTo (suc f) p)
     go e ih =
-        ap (λ (j : ℕ). pick (ltb j levelCount) (oneMore (madeBy (retold q p) j (ruleAt (retold q p) j .effect)) (runUpTo f (stepAt (retold q p) j))) (resting (retold q p))) e
+        ap (λ (j : ℕ). pick (ltb j levelCount) (oneMore (madeBy ((retold q p) .agreement) j (ruleAt (retold q p) j .effect)) (runUpTo f (stepAt (retold q p) j))) (resting (retold q p))) e
         ∙ ap (λ (x : Ran). pick (ltb i levelCount) x (resting (retold q p))) (next ih)
-        ∙ pushed (ltb i levelCount) (oneMore (madeBy p i (ruleAt p i .effect)) (runUpTo f (stepAt p i)))
+        ∙ pushed (ltb i levelCount) (oneMore (madeBy (p .agreement) i (ruleAt p i .effect)) (runUpTo f (stepAt p i)))
 
 pub retold-run : (q : Plan) (p : Party) → Alike (p .plan) q → run (retold q p) ≡ retoldRan q (run p)
 unfolding run

@@ -7,7 +7,7 @@ use lib.Dec.{leb, ltb, eqb}
 use lib.ListN.{length}
 use Rattle.base.specs.Put.{putAt}
 use Rattle.base.specs.Limits.{outgoingSize, maxBoards}
-use Rattle.edges.specs.Reading.{Found, ask}
+use Rattle.base.specs.Found.{Found, ask}
 use Rattle.plan.specs.declared.Plan.{Plan}
 use Rattle.plan.specs.Reading.{planOf, settledPlan}
 use Rattle.message.specs.declared.Message.{Message}

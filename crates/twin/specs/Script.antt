@@ -3,7 +3,7 @@ use mathlib.Core.Path.{_≡_}
 use mathlib.Core.List.{List, [], _∷_}
 use Prim.Native.Nat.{ℕ}
 use lib.ListN.{length}
-use Rattle.edges.specs.Reading.{Found}
+use Rattle.base.specs.Found.{Found}
 use Rattle.plan.specs.Positions.{readingOf}
 use Rattle.party.specs.declared.Party.{Party}
 use Rattle.board.specs.Calls.{Entry, startQuestions, takeQuestions, calledOf, journalAfter, answeredOf}

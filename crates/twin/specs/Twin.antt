@@ -10,7 +10,7 @@ use lib.ListN.{length}
 use Rattle.base.specs.declared.Verdict.{Verdict}
 use Rattle.signed.specs.Signed.{fromOffset}
 use Rattle.tree.specs.Edges.{Edges, Adjacent}
-use Rattle.edges.specs.Reading.{Found, found, refused}
+use Rattle.base.specs.Found.{Found, found, refused}
 use Rattle.plan.specs.declared.Plan.{Plan}
 use Rattle.plan.specs.Positions.{edgesOf, readingOf}
 use Rattle.plan.specs.Reading.{planOf}

@@ -10,7 +10,7 @@ use Rattle.tree.specs.Component.{centre, side}
 use Rattle.tree.specs.Path.{pathEdges, interval}
 use Rattle.varint.specs.Varint.{varintBytes}
 use Rattle.signed.specs.Signed.{signedBytes}
-use Rattle.edges.specs.Reading.{refused}
+use Rattle.base.specs.Found.{refused}
 use Rattle.plan.specs.Reading.{planOf, settledPlan}
 use Rattle.message.specs.declared.Body.{Body}
 use Rattle.message.specs.declared.Body.the-variants.{FirstEcho, FirstProposal, SecondEcho}

@@ -15,7 +15,7 @@ use Rattle.message.specs.Message.{noneValue, bodyInTable}
 use Rattle.senders.specs.Senders.{isIn}
 use Rattle.level.specs.declared.Level.{Level}
 use Rattle.level.specs.Level.{senders}
-use Rattle.levellaw.proofs.Moves.{Present}
+use Rattle.level.proofs.Moves.{Present}
 use Rattle.levellaw.proofs.Counted.{heardFrom}
 use Rattle.levellaw.proofs.Grows.{Grows}
 use Rattle.party.specs.declared.Party.{Party}

@@ -97,7 +97,7 @@ unmade p q r x m s = go (sent-changed p q (λ _. ⊥) r x m s)
 -- ---- one rule
 
 -- the messages in the list that an effect makes at level i
-made-makes : (p : Party) (i : ℕ) (e : Effect) (m : Message) → List·Memᴰ m (madeBy p i e) → (m .number ≡ p .agreement) × (m .level ≡ i) × Makes e (m .body)
+made-makes : (p : Party) (i : ℕ) (e : Effect) (m : Message) → List·Memᴰ m (madeBy (p .agreement) i e) → (m .number ≡ p .agreement) × (m .level ≡ i) × Makes e (m .body)
 made-makes p i Nothing m h = absurd (List·Memᴰ·not-nil h)
 made-makes p i Quiet m h = absurd (List·Memᴰ·not-nil h)
 made-makes p i (Send b) m h =
@@ -108,7 +108,7 @@ made-makes p i (SendEnter k) m h =
     let e = List·Memᴰ·eq-of-singleton h in
     (ap (λ (x : Message). x .number) e, ap (λ (x : Message). x .level) e, sym (ap (λ (x : Message). x .body) e))
 
-makes-made : (p : Party) (i : ℕ) (e : Effect) (m : Message) → m .number ≡ p .agreement → m .level ≡ i → Makes e (m .body) → List·Memᴰ m (madeBy p i e)
+makes-made : (p : Party) (i : ℕ) (e : Effect) (m : Message) → m .number ≡ p .agreement → m .level ≡ i → Makes e (m .body) → List·Memᴰ m (madeBy (p .agreement) i e)
 makes-made p i Nothing m a l b = absurd b
 makes-made p i Quiet m a l b = absurd b
 makes-made p i (Send x) m a l b = List·Memᴰ·head (λ z. record { number = a z; level = l z; body = sym b z })
@@ -123,7 +123,7 @@ module _ (p : Party) (r : Regular p) (i : ℕ) (h : T (openAt p i)) where
   e = lowestRule (contextOf p i) (levelAt p i) .effect
 
   -- the rule's message is made
-  step-made : (m : Message) → List·Memᴰ m (madeBy p i (ruleAt p i .effect)) → Sent (stepAt p i) m
+  step-made : (m : Message) → List·Memᴰ m (madeBy (p .agreement) i (ruleAt p i .effect)) → Sent (stepAt p i) m
   unfolding ruleAt
   step-made m x =
       let y = made-makes p i e m x in
@@ -139,12 +139,12 @@ module _ (p : Party) (r : Regular p) (i : ℕ) (h : T (openAt p i)) where
       }
 
   -- and no other
-  step-back : (m : Message) → Sent (stepAt p i) m → Sent p m ⊎ List·Memᴰ m (madeBy p i (ruleAt p i .effect))
+  step-back : (m : Message) → Sent (stepAt p i) m → Sent p m ⊎ List·Memᴰ m (madeBy (p .agreement) i (ruleAt p i .effect))
   unfolding ruleAt
   step-back m s = go (sent-changed p q (λ j. j ≡ i) r (step-changed p r i h) m s)
     where
       go : Sent p m ⊎ ((m .level ≡ i) × Makes (lowestRule (contextOf p (m .level)) (levelAt p (m .level)) .effect) (m .body))
-          → Sent p m ⊎ List·Memᴰ m (madeBy p i (lowestRule (contextOf p i) (levelAt p i) .effect))
+          → Sent p m ⊎ List·Memᴰ m (madeBy (p .agreement) i (lowestRule (contextOf p i) (levelAt p i) .effect))
       go (inl y) = inl y
       go (inr y) =
           inr (makes-made p i e m (s .number ∙ step-changed p r i h .le .board .agreement) (y .0)
@@ -170,14 +170,14 @@ tells-from p q a f t = record { made = t .made; back = λ m s. go m (t .back m s
 
 -- one rule before others
 tells-more : (p : Party) (r : Regular p) (i : ℕ) (h : T (openAt p i)) (a : Ran) → Le (stepAt p i) (a .party) → Tells (stepAt p i) a
-    → Tells p (oneMore (madeBy p i (ruleAt p i .effect)) a)
+    → Tells p (oneMore (madeBy (p .agreement) i (ruleAt p i .effect)) a)
 tells-more p r i h a o t = record {
   made = λ m x. from m (List·Memᴰ·append-cases ms x);
   back = λ m s. to m (t .back m s);
 }
   where
     ms : List Message
-    ms = madeBy p i (ruleAt p i .effect)
+    ms = madeBy (p .agreement) i (ruleAt p i .effect)
 
     from : (m : Message) → List·Memᴰ m ms ⊎ List·Memᴰ m (a .made) → Sent (a .party) m
     from m (inl x) = le-sent (stepAt p i) (a .party) o m (step-made p r i h m x)
@@ -203,7 +203,7 @@ tells-runs (suc f) p r = go (ltb (openLevel p) levelCount) refl (tells-runs f (s
     next = runUpTo f (stepAt p (openLevel p))
 
     go : (b : Bool) → ltb (openLevel p) levelCount ≡ b → (Regular (stepAt p (openLevel p)) → Tells (stepAt p (openLevel p)) next)
-        → Tells p (pick b (oneMore (madeBy p (openLevel p) (ruleAt p (openLevel p) .effect)) next) (resting p))
+        → Tells p (pick b (oneMore (madeBy (p .agreement) (openLevel p) (ruleAt p (openLevel p) .effect)) next) (resting p))
     go true e ih =
         let h = open-level p (ltb→lt (openLevel p) levelCount (subst T (sym e) tt)) in
         let s = regular-step p r (openLevel p) h in

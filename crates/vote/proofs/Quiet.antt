@@ -8,7 +8,7 @@ use Rattle.plan.specs.declared.Plan.{Plan}
 use Rattle.plan.specs.Valid.{planValid}
 use Rattle.message.specs.declared.Message.{Message}
 use Rattle.message.specs.Message.{inTable}
-use Rattle.levellaw.proofs.Moves.{AtRest}
+use Rattle.level.proofs.Moves.{AtRest}
 use Rattle.party.specs.declared.Party.{Party}
 use Rattle.party.specs.Party.{newParty, levelAt, sending, contextOf, started, heldBy, hearing, entered}
 use Rattle.party.specs.Run.{openAt, resting, run, starting, taking}

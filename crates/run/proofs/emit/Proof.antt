@@ -6,7 +6,7 @@ use mathlib.Core.Path.{_∙_, subst}
 use mathlib.Core.List.{List}
 use Prim.Native.Nat.{ℕ, _+_, _≤_}
 use lib.ListN.{length}
-use Rattle.run.specs.Inner.{spoken}
+use Rattle.party.specs.Run.{madeBy}
 use Rattle.run.proofs.Emitted.{none-written, some-written, silent, voiced-loud, nothing-voiced, quiet-voiced, enter-voiced, send-bytes, side-bytes}
 use Rattle.run.proofs.emit.Statement.{statement}
 use Rattle.run.proofs.emit.Tie as tie
@@ -14,7 +14,7 @@ use Rattle.run.proofs.emit.Tie as tie
 returns : tie.Need-returns
 returns c =
     let a = c .before .before .args in
-    none-written (now (a .out)) (a .at) (silent (a .loud) (spoken (a .number) (a .i) (a .e)) (not-true _ (c .if1 .taken)))
+    none-written (now (a .out)) (a .at) (silent (a .loud) (madeBy (a .number) (a .i) (a .e)) (not-true _ (c .if1 .taken)))
 
 enum-told : tie.Need-enum-told
 enum-told c = search needs
@@ -71,7 +71,7 @@ returns-4 c =
     let e = c .before .before .before .before .before .e .given in
     let loud = not-false _ (c .before .before .before .before .before .before .before .if1 .left) in
     some-written (now (a .out)) (a .at) (c .before .before .put .result) (c .before .before .put .last .0)
-    (voiced-loud (a .loud) (spoken (a .number) (a .i) (a .e)) loud ∙ send-bytes (a .number) (a .i) (a .e) (e .0 .0) (e .1)) (c .before .before .put .ensures)
+    (voiced-loud (a .loud) (madeBy (a .number) (a .i) (a .e)) loud ∙ send-bytes (a .number) (a .i) (a .e) (e .0 .0) (e .1)) (c .before .before .put .ensures)
 
 returns-5 : tie.Need-returns-5
 returns-5 c =
@@ -89,7 +89,7 @@ returns-6 c =
     let e = c .before .before .before .before .before .e2 .given in
     let loud = not-false _ (c .before .before .before .before .before .before .before .if1 .left) in
     some-written (now (a .out)) (a .at) (c .before .before .put2 .result) (c .before .before .put2 .last .0)
-    (voiced-loud (a .loud) (spoken (a .number) (a .i) (a .e)) loud ∙ side-bytes (a .number) (a .i) (a .e) (e .0 .0) (e .1)) (c .before .before .put2 .ensures)
+    (voiced-loud (a .loud) (madeBy (a .number) (a .i) (a .e)) loud ∙ side-bytes (a .number) (a .i) (a .e) (e .0 .0) (e .1)) (c .before .before .put2 .ensures)
 
 pub emit-spec : {M : Type 1} → statement M
 emit-spec =

@@ -8,7 +8,7 @@ use lib.ListN.{length}
 use Rattle.base.specs.Limits.{maxRules}
 use Rattle.message.specs.declared.Message.{Message}
 use Rattle.party.specs.Run.{bytesOf}
-use Rattle.run.specs.Inner.{spoken}
+use Rattle.party.specs.Run.{madeBy}
 use Rattle.run.proofs.Typed.{typed-sized}
 use Rattle.run.proofs.Openings.{found-none, found-level, found-below, found-open, found-rule, found-step, found-made}
 use Rattle.run.proofs.Going.{Going, going-start, going-end, going-fits, going-on, run-end, run-stop}
@@ -86,7 +86,7 @@ loop-again c =
     going-on (a .p) (a .loud) (now (a .out)) (l .q) (l .d) (l .out) (l .sent) (l .rules) (l .inv) (found-level (l .q) (o .result) (o .ensures) (t .if1 .left)) (s .pre .2)
     (t .before .before .loop-test .taken) (r .result .party) (r .result .chart) (m .last .0) (m .result)
     (r .ensures .party ∙ found-step (l .q) (o .result) (o .ensures) (t .if1 .left)) (r .ensures .chart)
-    (spoken (l .q .agreement) (o .result .at) (o .result .applied .effect)) (found-made (l .q) (o .result) (o .ensures) (t .if1 .left)) (m .ensures .0) (m .ensures .1)
+    (madeBy (l .q .agreement) (o .result .at) (o .result .applied .effect)) (found-made (l .q) (o .result) (o .ensures) (t .if1 .left)) (m .ensures .0) (m .ensures .1)
 
 same-length-2 : tie.Need-same-length-2 Inv-loop μ-loop
 same-length-2 c = c .before .loop .inv .long

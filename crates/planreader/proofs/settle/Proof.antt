@@ -1,9 +1,9 @@
--- `plan::settle` meets its contract, question by question.
+-- `planreader::settle` meets its contract, question by question.
 use native.Mathlib.Omega.{arith}
 use Rattle.plan.proofs.Answers.{answer, settle-boards, settle-faults, settle-own, settle-plan}
 use borrow.Author.Needs.{needs}
-use Rattle.plan.proofs.settle.Statement.{statement}
-use Rattle.plan.proofs.settle.Tie as tie
+use Rattle.planreader.proofs.settle.Statement.{statement}
+use Rattle.planreader.proofs.settle.Tie as tie
 
 refuse-requires : tie.Need-refuse-requires
 refuse-requires c κs = search needs
