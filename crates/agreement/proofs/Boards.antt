@@ -39,10 +39,10 @@ use Rattle.vote.specs.Machine.{Heard, Sent, voteMachine}
 use Rattle.vote.specs.Invariant.{Inv}
 use Rattle.vote.proofs.Laws.{inv-new, inv-lived, inv-called, le-called, le-lived, made-sent, taken-heard, start-entered, start-lived}
 use Rattle.agreement.specs.History.{Vote, read-answer, Step, calls, whose, History, Stage, waiting, running, down, boardAfter, Sound, Refuses, Accepts, May, Allowed}
-use Rattle.agreement.specs.Demand.{recordsOf, StartedAt, TookFrom, Makes, partyBy, answerNow, Answers, Stands, Complete}
+use Rattle.agreement.specs.Demand.{Shared, recordsOf, StartedAt, TookFrom, Makes, partyBy, answerNow, Answers, Stands, Complete}
 use Rattle.agreement.proofs.Restored.{restored-cut}
 use Rattle.agreement.proofs.Told.{machineOf, Tale, nothing, acts, gives, marks, cuts, answerTale, taleOf, added, told}
-use Rattle.agreement.proofs.Tied.{Premises, newBoard, Running, AtStage, Tied, plan-valid, settings-pass, board-regular, tied-read}
+use Rattle.agreement.proofs.Tied.{newBoard, Running, AtStage, Tied, plan-valid, settings-pass, board-regular, tied-read}
 use Rattle.agreement.proofs.Histories.{refused-answer, state-lived, tied, told-valid}
 
 -- ---- answers
@@ -83,7 +83,7 @@ new-output n t own a plan = ap (λ (l : Level). l .output) (new-level n t own a 
 abbrev pub stateOf : Vote → Plan → History → ℕ → Party
 stateOf v plan h i = logs.after (machineOf v plan) i (log (machineOf v plan) i (told v plan h))
 
-module _ (v : Vote) (plan : Plan) (bad : Set) (f : Premises v plan) where
+module _ (v : Vote) (plan : Plan) (bad : Set) (f : Shared v plan) where
   abbrev M : Machine
   M = voteMachine (v .n) (v .t) (v .agreement) plan
 
@@ -97,6 +97,12 @@ module _ (v : Vote) (plan : Plan) (bad : Set) (f : Premises v plan) where
     -- it is the party of the board's records
     pub state-records : stateOf v plan h i ≡ lived (newBoard v plan i) (tied v plan bad f h a i k .records) .party
     state-records = state-lived v plan bad f i k (boardAfter h i) (log M i (told v plan h)) (held M i (told v plan h)) w
+
+    -- a running board's party is it
+    pub running-state : boardAfter h i .stage ≡ running → boardAfter h i .party ≡ stateOf v plan h i
+    running-state up =
+        let u : Running v plan i (boardAfter h i) (w .records) = subst (AtStage v plan i (boardAfter h i) (w .records)) up (w .stage) in
+        u .party ∙ sym state-records
 
     pub state-inv : Inv (stateOf v plan h i)
     state-inv =
@@ -192,10 +198,7 @@ module _ (v : Vote) (plan : Plan) (bad : Set) (f : Premises v plan) where
     where
       answer : Refuses (read-answer q) ⊎ Accepts v bad i h (boardAfter h i) (read-answer q) → Says z (stateOf v plan h i)
       answer (inl r) = let y : Answer.None ≡ Answer.At z = sym (refused-answer q (r .0) (r .1) (r .2)) ∙ e in let o : _≡_ {A = ℕ} 0 1 = cc in absurd (omega arith)
-      answer (inr (up, same)) =
-          let w : Tied v plan i (boardAfter h i) (log M i (told v plan h)) (held M i (told v plan h)) = tied v plan bad f h a i k in
-          let r : Running v plan i (boardAfter h i) (w .records) = subst (AtStage v plan i (boardAfter h i) (w .records)) up (w .stage) in
-          (state-inv h a i k, sym (state-answer h a i k q (same ∙ r .party ∙ sym (state-records h a i k))) ∙ e)
+      answer (inr (up, same)) = (state-inv h a i k, sym (state-answer h a i k q (same ∙ running-state h a i k up)) ∙ e)
 
       first : May v bad (calls i (read-answer q)) h → Seen M i (Says z) (added v plan i (answerTale (answeredOf q .answer)) (told v plan h))
       first n = subst (λ (y : Answer). Seen M i (Says z) (added v plan i (answerTale y) (told v plan h))) (sym e) (inl (refl, answer (n .1)))

@@ -78,7 +78,7 @@ exact-table s m e = let r = exactly-read s (messageAt s 0) m e in message-table 
 -- ---- accepted calls
 
 -- past the questions of every call
-past-door : {A : Type 0} (p : Party) (room used out : ℕ) (go : Found A) (x : A) → atDoor p room used out go ≡ found x → go ≡ found x
+pub past-door : {A : Type 0} (p : Party) (room used out : ℕ) (go : Found A) (x : A) → atDoor p room used out go ≡ found x → go ≡ found x
 past-door p room used out go x e =
     let a = asked (partyValid p) 19 0 (ask (leb outgoingSize out) 18 0 (ask (leb used room) 20 0 go)) x e in
     let b = asked (leb outgoingSize out) 18 0 (ask (leb used room) 20 0 go) x (a .1) in
@@ -98,8 +98,9 @@ pub record Recorded (p : Party) (room used : ℕ) (r : Record) (ran : Ran) : Typ
   pub inside : used + length (recordBytes r) ≤ room
   pub does : replayed p r ≡ ran
 
+-- an accepted start records the position of its input
 pub start-recorded : (p : Party) (input : ℤ) (room used out : ℕ) (r : Record) (ran : Ran) → startQuestions p input room used out ≡ found (fresh r ran)
-    → (x : ℕ) × (Start (p .agreement) x ≡ r) × Recorded p room used r ran
+    → (Start (p .agreement) (positionOf (p .plan) input) ≡ r) × (positionOf (p .plan) input ≡ noOutput → ⊥) × Recorded p room used r ran
 unfolding startQuestions replayed
 start-recorded p input room used out r ran e = go (input-placed (p .plan) input)
   where
@@ -115,11 +116,14 @@ start-recorded p input room used out r ran e = go (input-placed (p .plan) input)
     twelve : T (not (eqb x noOutput)) × (last ≡ found (fresh r ran))
     twelve = asked (not (eqb x noOutput)) 12 0 last (fresh r ran) (thirteen .1)
 
-    go : (x ≡ noOutput) ⊎ (x < p .plan .count) → (y : ℕ) × (Start (p .agreement) y ≡ r) × Recorded p room used r ran
-    go (inl z) = absurd (T-not (eqb x noOutput) (twelve .0) (subst (λ (y : ℕ). T (eqb x y)) z (eqb-refl x)))
+    on : x ≡ noOutput → ⊥
+    on z = T-not (eqb x noOutput) (twelve .0) (subst (λ (y : ℕ). T (eqb x y)) z (eqb-refl x))
+
+    go : (x ≡ noOutput) ⊎ (x < p .plan .count) → (Start (p .agreement) x ≡ r) × (x ≡ noOutput → ⊥) × Recorded p room used r ran
+    go (inl z) = absurd (on z)
     go (inr h) =
         let f = fitted room used (Start (p .agreement) x) r (starting p x) ran (twelve .1) in
-        (x, f .1, subst (λ (q : Record). Recorded p room used q ran) (f .1) (record { fits = (refl, T-not (started p) (thirteen .0), h); inside = f .0; does = f .2 }))
+        (f .1, on, subst (λ (q : Record). Recorded p room used q ran) (f .1) (record { fits = (refl, T-not (started p) (thirteen .0), h); inside = f .0; does = f .2 }))
 
 pub take-recorded : (p : Party) (s : ℕ) (bytes : List ℕ) (room used out : ℕ) (r : Record) (ran : Ran) → takeQuestions p s bytes room used out ≡ found (fresh r ran)
     → (m : Message) × (exactMessage bytes ≡ Exactly.One m) × (Taken s m ≡ r) × Recorded p room used r ran

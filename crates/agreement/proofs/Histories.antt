@@ -34,11 +34,12 @@ use Rattle.execution.specs.History.{HStep, log, held, FairH, ValidH}
 use Rattle.vote.specs.Machine.{Sent, voteMachine, eventOf}
 use Rattle.vote.proofs.Laws.{after-lived}
 use Rattle.agreement.specs.History.{Vote, Call, set-up, start, take-message, read-answer, restore, Step, calls, hands, cut, whose, History, Stage, waiting, running, down, Board, afterSetUp, afterEntry, afterAnswer, afterRestore, afterCall, afterCut, afterOwn, boardAfter, Refuses, Accepts, May, Allowed}
+use Rattle.agreement.specs.Demand.{Shared}
 use Rattle.agreement.proofs.Restored.{livedReplay, restored-found}
 use Rattle.agreement.proofs.Entries.{Recorded, start-recorded, take-recorded}
 use Rattle.agreement.proofs.Lent.{entered, start-entered, take-entered}
-use Rattle.agreement.proofs.Told.{machineOf, Tale, nothing, entryTale, answerTale, restoreTale, callTale, handTale, cutTale, wholeRecords, taleOf, logAfter, heldAfter, added, told, log-added, held-added, handed-told, MayTell, valid-added}
-use Rattle.agreement.proofs.Tied.{Premises, newBoard, AtStage, Tied, tied-unborn, set-up-found, tied-set-up, tied-read, tied-fresh, tied-guarding, tied-restored, cut-may, tied-cut}
+use Rattle.agreement.proofs.Told.{machineOf, Tale, nothing, entryTale, answerTale, restoreTale, callTale, handTale, cutTale, wholeRecords, taleOf, logAfter, heldAfter, told, log-added, held-added, handed-told, MayTell, valid-added}
+use Rattle.agreement.proofs.Tied.{newBoard, AtStage, Tied, tied-unborn, set-up-found, tied-set-up, tied-read, tied-fresh, tied-guarding, tied-restored, cut-may, tied-cut}
 
 -- a reading that is refused gives no answer
 pub refused-answer : (p : Party) (k at : ℕ) → answeredOf p .verdict ≡ Verdict.Refused k at → answeredOf p .answer ≡ Answer.None
@@ -55,7 +56,7 @@ refused-answer p k at e = go (partyValid p) e
     go true e = let z : _≡_ {A = ℕ} 0 1 = cc in absurd (omega arith)
     go false e = refl
 
-module _ (v : Vote) (plan : Plan) (bad : Set) (f : Premises v plan) where
+module _ (v : Vote) (plan : Plan) (bad : Set) (f : Shared v plan) where
   abbrev M : Machine
   M = voteMachine (v .n) (v .t) (v .agreement) plan
 
@@ -147,7 +148,7 @@ module _ (v : Vote) (plan : Plan) (bad : Set) (f : Premises v plan) where
         subst (λ (y : Board). Goes i y (callTale (start p input journal used out)) H) (sym (start-entered b p journal used c input out))
         (by-entry i seat b H w (startQuestions p input (length journal) used out) (length journal) used (c .up) (λ r ran e.
         let x = start-recorded p input (length journal) used out r ran e in
-        (subst (λ (q : Party). Recorded q (length journal) used r ran) (c .same) (x .2), subst (λ (y : Record). FairH M (v .n) bad (eventOf y) H) (x .1) tt)))
+        (subst (λ (q : Party). Recorded q (length journal) used r ran) (c .same) (x .2), subst (λ (y : Record). FairH M (v .n) bad (eventOf y) H) (x .0) tt)))
     by-call (take-message p sender bytes journal used out) (c, from) =
         subst (λ (y : Board). Goes i y (callTale (take-message p sender bytes journal used out)) H) (sym (take-entered b p journal used c sender bytes out))
         (by-entry i seat b H w (takeQuestions p sender bytes (length journal) used out) (length journal) used (c .up) (λ r ran e.

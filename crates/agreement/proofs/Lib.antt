@@ -5,5 +5,7 @@ pub mod Told
 pub mod Tied
 pub mod Histories
 pub mod Boards
+pub mod Inputs
+pub mod Words
 pub mod Theorem
 pub mod Life

@@ -22,9 +22,10 @@ use Rattle.board.specs.Restore.{Replay, restoreQuestions, restoredOf, restoreOu
 use Rattle.vote.specs.Order.{Le}
 use Rattle.vote.proofs.Laws.{le-lived}
 use Rattle.agreement.specs.History.{Vote, History, running, Board, afterRestore, boardAfter, Continues, Allowed}
+use Rattle.agreement.specs.Demand.{Shared}
 use Rattle.agreement.proofs.Restored.{restored, restored-cut, restored-found}
 use Rattle.agreement.proofs.Entries.{fits-limits}
-use Rattle.agreement.proofs.Tied.{Premises, newBoard, Running, AtStage, plan-valid, board-regular}
+use Rattle.agreement.proofs.Tied.{newBoard, Running, AtStage, plan-valid, board-regular}
 use Rattle.agreement.proofs.Histories.{TiedAfter, tied}
 
 -- what a restore answers that gives what ran, and a used length
@@ -44,7 +45,7 @@ pub lived-more : (p : Party) (r : Record) (rs : List Record) →
 unfolding lived
 lived-more p r rs = refl
 
-module _ (v : Vote) (plan : Plan) (f : Premises v plan) (i : ℕ) (seat : i < v .n) where
+module _ (v : Vote) (plan : Plan) (f : Shared v plan) (i : ℕ) (seat : i < v .n) where
   life-limits : (rs : List Record) → Life (newBoard v plan i) rs → AllInLimits rs
   life-limits [] k = tt
   life-limits (r ∷ rs) (fits, k) =

@@ -7,12 +7,11 @@ use native.Mathlib.Omega.{arith}
 use lib.Dec.{T}
 use lib.ListN.{length, take, drop, length-drop}
 use lib.Seq.{drop-drop}
-use Rattle.base.specs.Limits.{maxBoards, maxNumber, maxWidth}
+use Rattle.base.specs.Limits.{maxWidth}
 use Rattle.base.specs.declared.Verdict.{Verdict}
 use Rattle.base.proofs.Bools.{T→true}
 use Rattle.base.specs.Found.{found}
 use Rattle.plan.specs.declared.Plan.{Plan}
-use Rattle.plan.specs.Reading.{planOf}
 use Rattle.plan.specs.Valid.{planValid}
 use Rattle.plan.proofs.Shape.{shape}
 use Rattle.plan.proofs.Given.{found-good}
@@ -35,8 +34,9 @@ use Rattle.execution.specs.Machine.{Event}
 use Rattle.vote.specs.Machine.{Sent, eventOf, eventsOf}
 use Rattle.vote.specs.Invariant.{Regular}
 use Rattle.vote.specs.Order.{Le}
-use Rattle.vote.proofs.Laws.{le-sent, regular-new, regular-lived, le-record, le-lived, tells-replayed, sent-proper}
+use Rattle.vote.proofs.Laws.{Passes, le-sent, regular-new, regular-lived, le-record, le-lived, tells-replayed, sent-proper}
 use Rattle.agreement.specs.History.{Vote, Stage, waiting, running, down, Board, unborn, afterSetUp, afterRestore, afterCut}
+use Rattle.agreement.specs.Demand.{Shared}
 use Rattle.agreement.proofs.Restored.{settled, livedReplay}
 use Rattle.agreement.proofs.Entries.{Recorded, fits-limits}
 use Rattle.agreement.proofs.Lent.{entered}
@@ -60,20 +60,11 @@ life-drop p zero rs l = l
 life-drop p (suc d) [] l = l
 life-drop p (suc d) (r ∷ rs) l = life-drop p d rs (l .1)
 
--- ---- the premises on a vote
-
--- "n 1 to 16", "3t below n", the agreement number, and the plan that the lent bytes are
-pub record Premises (v : Vote) (plan : Plan) : Type 0 where
-  pub boards : v .n ≤ maxBoards
-  pub faults : 3 * v .t < v .n
-  pub number : v .agreement ≤ maxNumber
-  pub reads : planOf (v .plan) ≡ found plan
+-- ---- the tie
 
 -- board i as set up
 abbrev pub newBoard : Vote → Plan → ℕ → Party
 newBoard v plan i = newParty (v .n) (v .t) i (v .agreement) plan
-
--- ---- the tie
 
 -- a running board's record is the party of its records, its journal holds them and nothing else, and its outbox what they made
 pub record Running (v : Vote) (plan : Plan) (i : ℕ) (b : Board) (rs : List Record) : Type 0 where
@@ -99,7 +90,7 @@ pub record Tied (v : Vote) (plan : Plan) (i : ℕ) (b : Board) (l : List (Event 
   pub kept : x + loose ≤ length records
   pub stage : AtStage v plan i b records (b .stage)
 
-module _ (v : Vote) (plan : Plan) (f : Premises v plan) (i : ℕ) (seat : i < v .n) where
+module _ (v : Vote) (plan : Plan) (f : Shared v plan) (i : ℕ) (seat : i < v .n) where
   abbrev p : Party
   p = newBoard v plan i
 
@@ -207,6 +198,12 @@ module _ (v : Vote) (plan : Plan) (f : Premises v plan) (i : ℕ) (seat : i < v 
         posted m k d u (inl h) = le-sent now (replayed now r .party) (le-record p board-regular r rs k) m (u .outbox m h)
         posted m k d u (inr h) = last-sent (r ∷ rs) k m (subst (λ (y : Ran). List·Memᴰ m (y .made)) d h)
 
+    -- the call's record is the newest
+    pub fresh-records : (e : b .stage ≡ running) (room used : ℕ) (r : Record) (ran : Ran) (t : Recorded (b .party) room used r ran)
+        → tied-fresh e room used r ran t .records ≡ r ∷ w .records
+    unfolding tied-fresh
+    fresh-records e room used r ran t = refl
+
     -- ---- a message handed over, or an answer read
 
     -- a cut must leave k bytes, at least all that are used
@@ -286,3 +283,10 @@ module _ (v : Vote) (plan : Plan) (f : Premises v plan) (i : ℕ) (seat : i < v 
           kept = omega (arith, w .kept, c .within, length-drop d rs);
           stage = tt;
         }
+
+-- the settings pass; board 0 is one of the n
+pub shared-passes : (v : Vote) (plan : Plan) → Shared v plan → Passes (v .n) (v .t) plan
+shared-passes v plan f = record { boards = f .boards; faults = f .faults; valid = plan-valid v plan f 0 (some (v .n) (f .faults)) }
+  where
+    some : (n : ℕ) → 3 * v .t < n → 0 < n
+    some n l = omega arith

@@ -7,7 +7,7 @@ use lib.IntN.{ℤ}
 use lib.ListN.{length}
 use Rattle.base.specs.Sets.{Set, count}
 use Rattle.base.specs.Limits.{maxBoards, maxNumber, outgoingSize}
-use Rattle.tree.specs.Walk.{OnPath}
+use Rattle.tree.specs.Walk.{Walk, OnPath}
 use Rattle.tree.specs.Edges.{Adjacent}
 use Rattle.base.specs.Found.{found}
 use Rattle.plan.specs.declared.Plan.{Plan}
@@ -25,7 +25,7 @@ use Rattle.life.specs.Life.{madeAlong}
 use Rattle.board.specs.declared.Answer.{Answer}
 use Rattle.board.specs.Calls.{answeredOf, noParty}
 use Rattle.board.specs.Restore.{restoreQuestions, restoredOf}
-use Rattle.agreement.specs.History.{Vote, read-answer, calls, History, Stage, waiting, running, down, Board, boardAfter, Sound, Handed, Allowed}
+use Rattle.agreement.specs.History.{Vote, start, read-answer, calls, History, Stage, waiting, running, down, Board, boardAfter, Sound, Handed, Allowed}
 
 -- ---- a board's journal
 
@@ -71,11 +71,17 @@ Near p x y = (x ≡ y) ⊎ Adjacent (edgesOf p) x y
 abbrev pub Stands : Plan → ℕ → ℤ → Type 0
 Stands p x z = (x < p .count) × (readingOf p x ≡ z)
 
+-- board i's caller gave it the input z, which is position x, in a start of the list, and the record of a start at x is not lost
+pub record StartedWith (plan : Plan) (h : History) (i x : ℕ) (z : ℤ) : Type 0 where
+  pub call : (p : Party) × (journal : List ℕ) × (used : ℕ) × (out : ℕ) × List·Memᴰ (calls i (start p z journal used out)) h
+  pub stands : Stands plan x z
+  pub kept : StartedAt h i x
+
 -- "each lies on the path between two started inputs of sound boards, which may be the same one"
 abbrev pub BetweenInputs : Vote → Plan → Set → History → ℕ → Type 0
 BetweenInputs v plan bad h y =
-    (i : ℕ) × (j : ℕ) × (a : ℕ) × (b : ℕ) × Sound v bad i × Sound v bad j × StartedAt h i a × StartedAt h j b
-    × (a < plan .count) × (b < plan .count) × OnPath (Adjacent (edgesOf plan)) a b y
+    (i : ℕ) × (j : ℕ) × (a : ℕ) × (b : ℕ) × (p : ℤ) × (q : ℤ) × Sound v bad i × Sound v bad j × StartedWith plan h i a p × StartedWith plan h j b q
+    × Walk (Adjacent (edgesOf plan)) (λ _. Unit {0}) a b × OnPath (Adjacent (edgesOf plan)) a b y
 
 -- "If every sound board has started, has handed over all that its calls made, and has taken every message that sound boards handed over"
 -- What was handed over are bytes; the message taken is the one that they read as.
@@ -95,9 +101,28 @@ pub record Holds (v : Vote) (plan : Plan) (bad : Set) (h : History) : Type 0 whe
   -- "each has an answer"
   pub ending : Complete v plan bad h → (i : ℕ) → Sound v bad i → (z : ℤ) × (answerNow v h i ≡ Answer.At z)
 
--- "Whichever boards, at most t of the n, are faulty, whatever they say, in whatever order and however often the wire delivers, and wherever
--- power is cut: for every list of steps that 01 allows the sound boards (set-up, start, take, reading the answer, restore, handing over, cut;
--- refused calls included), from boards not yet set up, this holds after it."
+-- ---- what the demand asks first
+
+-- "Boards share n, t, agreement number and plan, 3t below n, and each has its own number": that board i's own number is i stands in `Ours`
+pub record Shared (v : Vote) (plan : Plan) : Type 0 where
+  -- "n 1 to 16", at least one board by the next line
+  pub boards : v .n ≤ maxBoards
+  -- "3t below n"
+  pub faults : 3 * v .t < v .n
+  -- "An agreement number (0 to 4,294,967,295) names one vote"
+  pub number : v .agreement ≤ maxNumber
+  -- the plan that the shared bytes give
+  pub reads : planOf (v .plan) ≡ found plan
+
+-- what is asked of the vote, of the faulty boards and of the list of steps
+pub record Premises (v : Vote) (plan : Plan) (bad : Set) (h : History) : Type 0 where
+  pub shared : Shared v plan
+  -- "Whichever boards, at most t of the n, are faulty"
+  pub few : count (v .n) bad ≤ v .t
+  -- "whatever they say, in whatever order and however often the wire delivers, and wherever power is cut: for every list of steps that 01 allows the
+  -- sound boards (set-up, start, take, reading the answer, restore, handing over, cut; refused calls included), from boards not yet set up"
+  pub allowed : Allowed v bad h
+
+-- "this holds after it"
 abbrev pub Demand3 : Type 0
-Demand3 = (v : Vote) (plan : Plan) (bad : Set) → v .n ≤ maxBoards → 3 * v .t < v .n → v .agreement ≤ maxNumber → planOf (v .plan) ≡ found plan → count (v .n) bad ≤ v .t
-    → (h : History) → Allowed v bad h → Holds v plan bad h
+Demand3 = (v : Vote) (plan : Plan) (bad : Set) (h : History) → Premises v plan bad h → Holds v plan bad h

@@ -7,3 +7,5 @@ pub mod Liar
 pub mod Neighbours
 pub mod Grades
 pub mod Modes
+pub mod Refusals
+pub mod Holding

@@ -13,7 +13,8 @@ use Rattle.base.specs.Pick.{pick}
 use Rattle.base.specs.Sets.{Set, count}
 use Rattle.base.specs.Limits.{maxBoards, maxNumber}
 use Rattle.base.proofs.Bools.{T-and, T-left, T-right, or-split, not-T→false, T→true, true→T}
-use Rattle.base.specs.Found.{found}
+use Rattle.base.specs.declared.Verdict.{Verdict}
+use Rattle.base.specs.Found.{Found, found, refused}
 use Rattle.plan.specs.declared.Plan.{Plan}
 use Rattle.plan.specs.Reading.{planOf}
 use Rattle.message.specs.declared.Body.{Body}
@@ -21,10 +22,11 @@ use Rattle.message.specs.declared.Message.{Message}
 use Rattle.message.specs.Message.{kindOf, valueOf, bodyOf, messageBytes}
 use Rattle.message.proofs.RoundTrip.{body-same}
 use Rattle.board.specs.declared.Answer.{Answer}
-use Rattle.board.specs.Calls.{answeredOf}
-use Rattle.agreement.specs.History.{Vote, Step, History, Stage, waiting, running, down, Board, unborn, calls, hands, cut, whose, afterOwn, boardAfter, Sound, Handed, Continues, Ours, May, Allowed}
-use Rattle.agreement.specs.Demand.{partyBy, answerNow}
-use Rattle.histories.specs.Scripts.{Action, sets-up, starts, takes, reads, sends, cuts, restores, actor, lent, stepOf, followed, historyOf, Premises}
+use Rattle.board.specs.Calls.{setUpOf, startQuestions, takeQuestions, answeredOf}
+use Rattle.board.specs.Restore.{restoreQuestions}
+use Rattle.agreement.specs.History.{Vote, Call, set-up, start, take-message, read-answer, restore, Step, History, Stage, waiting, running, down, Board, unborn, calls, hands, cut, whose, afterOwn, boardAfter, Sound, Handed, Refuses, Continues, Ours, May, Allowed}
+use Rattle.agreement.specs.Demand.{partyBy, answerNow, Premises}
+use Rattle.histories.specs.Scripts.{Action, sets-up, starts, takes, reads, sends, cuts, restores, tries, actor, lent, stepOf, followed, historyOf}
 
 -- ---- all boards, and what was handed over
 
@@ -50,6 +52,7 @@ sentWith l (reads i) = l
 sentWith l (sends i m) = record { by = i; message = m } ∷ l
 sentWith l (cuts i k) = l
 sentWith l (restores i) = l
+sentWith l (tries i c) = l
 
 abbrev pub acted : Vote → World → Action → World
 acted v w a = record {
@@ -87,6 +90,22 @@ isRunning waiting = false
 isRunning running = true
 isRunning down = false
 
+abbrev pub refusal : Verdict → Bool
+refusal Verdict.Accepted = false
+refusal (Verdict.Refused number place) = true
+
+abbrev pub notFound : {A : Type 0} → Found A → Bool
+notFound (found x) = false
+notFound (refused number place) = true
+
+-- the call is refused
+abbrev pub isRefused : Call → Bool
+isRefused (set-up n t own agreement plan) = refusal (setUpOf n t own agreement plan .verdict)
+isRefused (start p input journal used out) = notFound (startQuestions p input (length journal) used out)
+isRefused (take-message p sender bytes journal used out) = notFound (takeQuestions p sender bytes (length journal) used out)
+isRefused (read-answer p) = refusal (answeredOf p .verdict)
+isRefused (restore n t own agreement plan journal out) = notFound (restoreQuestions n t own agreement plan journal out)
+
 abbrev pub fitsBoard : Vote → Set → List Handing → Board → Action → Bool
 fitsBoard v bad l b (sets-up i) = isWaiting (b .stage)
 fitsBoard v bad l b (starts i z) = isRunning (b .stage)
@@ -95,6 +114,7 @@ fitsBoard v bad l b (reads i) = isRunning (b .stage)
 fitsBoard v bad l b (sends i m) = isRunning (b .stage) && among m (b .outbox)
 fitsBoard v bad l b (cuts i k) = leb (b .guarded) k
 fitsBoard v bad l b (restores i) = not (isWaiting (b .stage))
+fitsBoard v bad l b (tries i c) = isRefused (c b)
 
 abbrev pub fits : Vote → Set → World → Action → Bool
 fits v bad w a = sound v bad (actor a) && fitsBoard v bad (w .sent) (boardOf w (actor a)) a
@@ -175,6 +195,21 @@ running→ down h = absurd h
 not-waiting→ : (s : Stage) → T (not (isWaiting s)) → s ≡ waiting → ⊥
 not-waiting→ s h e = subst (λ (x : Stage). T (not (isWaiting x))) e h
 
+refusal→ : (x : Verdict) → T (refusal x) → (k : ℕ) × (at : ℕ) × (x ≡ Verdict.Refused k at)
+refusal→ Verdict.Accepted h = absurd h
+refusal→ (Verdict.Refused k at) h = (k, at, refl)
+
+notFound→ : {A : Type 0} (x : Found A) → T (notFound x) → (k : ℕ) × (at : ℕ) × (x ≡ refused k at)
+notFound→ (found x) h = absurd h
+notFound→ (refused k at) h = (k, at, refl)
+
+isRefused→ : (c : Call) → T (isRefused c) → Refuses c
+isRefused→ (set-up n t own agreement plan) h = refusal→ (setUpOf n t own agreement plan .verdict) h
+isRefused→ (start p input journal used out) h = notFound→ (startQuestions p input (length journal) used out) h
+isRefused→ (take-message p sender bytes journal used out) h = notFound→ (takeQuestions p sender bytes (length journal) used out) h
+isRefused→ (read-answer p) h = refusal→ (answeredOf p .verdict) h
+isRefused→ (restore n t own agreement plan journal out) h = notFound→ (restoreQuestions n t own agreement plan journal out) h
+
 -- ---- a world shows a history
 
 pub record Shows (v : Vote) (w : World) (h : History) : Type 0 where
@@ -192,6 +227,7 @@ whose-action v b (reads j) = refl
 whose-action v b (sends j m) = refl
 whose-action v b (cuts j k) = refl
 whose-action v b (restores j) = refl
+whose-action v b (tries j c) = refl
 
 module _ (s : Step) (i : ℕ) (b : Board) where
   -- a step moves the board whose it is
@@ -255,6 +291,7 @@ module _ (v : Vote) (l : List Handing) (h : History) (b : Board) where
       go (inr r) = List·Memᴰ·tail (f i m r)
   handed-more f (cuts j k) i m x = List·Memᴰ·tail (f i m x)
   handed-more f (restores j) i m x = List·Memᴰ·tail (f i m x)
+  handed-more f (tries j c) i m x = List·Memᴰ·tail (f i m x)
 
   module _ (f : (i : ℕ) (bytes : List ℕ) → Handed i bytes h → Known l i bytes) where
     known-still : (i : ℕ) (bytes : List ℕ) (s : Step) → T (not (handsOver s)) → (hands i bytes ≡ s) ⊎ Handed i bytes h → Known l i bytes
@@ -276,6 +313,7 @@ module _ (v : Vote) (l : List Handing) (h : History) (b : Board) where
         go (inr r) = let k = f i bytes r in (k .0, List·Memᴰ·tail (k .1), k .2, k .3)
     known-more (cuts j k) i bytes x = known-still i bytes (stepOf v b (cuts j k)) tt (List·Memᴰ·cases-cons x)
     known-more (restores j) i bytes x = known-still i bytes (stepOf v b (restores j)) tt (List·Memᴰ·cases-cons x)
+    known-more (tries j c) i bytes x = known-still i bytes (stepOf v b (tries j c)) tt (List·Memᴰ·cases-cons x)
 
 shows-action : (v : Vote) (w : World) (h : History) (a : Action) → Shows v w h → actor a < v .n → Shows v (acted v w a) (stepOf v (boardAfter h (actor a)) a ∷ h)
 unfolding boardAfter
@@ -344,6 +382,7 @@ module _ (v : Vote) (bad : Set) (w : World) (h : History) (s : Shows v w h) wher
   may-board b (cuts i k) e o f = (o, subst (λ (c : Board). c .guarded ≤ k) e (leb→le (b .guarded) k f))
   may-board b (restores i) e o f =
       (o, inr (λ x. not-waiting→ (b .stage) f (ap (λ (c : Board). c .stage) e ∙ x), ours i, ap (λ (c : Board). c .journal) e))
+  may-board b (tries i c) e o f = (o, inl (isRefused→ (c b) f))
 
   may : (a : Action) → T (fits v bad w a) → May v bad (stepOf v (boardAfter h (actor a)) a) h
   may a f =
@@ -402,10 +441,12 @@ module _ (v : Vote) (bad : Set) (script : List Action) (f : passes v bad script 
   -- with settings and a plan that pass, demand 3's premises hold
   pub premises-of : (plan : Plan) → settled v bad ≡ true → planOf (v .plan) ≡ found plan → Premises v plan bad (historyOf v script)
   premises-of plan e g = record {
-    boards = leb→le (v .n) maxBoards (T-left one two ones);
-    faults = ltb→lt (3 * v .t) (v .n) (T-right one two ones);
-    number = leb→le (v .agreement) maxNumber (T-left three four twos);
-    read = g;
+    shared = record {
+      boards = leb→le (v .n) maxBoards (T-left one two ones);
+      faults = ltb→lt (3 * v .t) (v .n) (T-right one two ones);
+      number = leb→le (v .agreement) maxNumber (T-left three four twos);
+      reads = g;
+    };
     few = leb→le (count (v .n) bad) (v .t) (T-right three four twos);
     allowed = allowed;
   }

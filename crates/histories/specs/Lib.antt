@@ -5,3 +5,4 @@ pub mod Liar
 pub mod Neighbours
 pub mod Grades
 pub mod Modes
+pub mod Refusals

@@ -1,20 +1,18 @@
--- Scripts: histories told action by action, the oldest first. Each call gets the record, the journal and its used length as the call before left them.
+-- Scripts: histories told action by action, the oldest first. Each call but those refused gets the record, the journal and its used length as the call before left them.
 use mathlib.Core.Path.{_≡_}
 use mathlib.Core.List.{List, [], _∷_, _++_}
-use Prim.Native.Nat.{ℕ, _*_, _≤_, _<_}
+use Prim.Native.Nat.{ℕ, _<_}
 use lib.IntN.{ℤ}
 use lib.ListN.{length, getD, replicate}
-use Rattle.base.specs.Sets.{Set, count}
-use Rattle.base.specs.Limits.{maxBoards, maxNumber, outgoingSize}
-use Rattle.base.specs.Found.{found}
+use Rattle.base.specs.Sets.{Set}
+use Rattle.base.specs.Limits.{outgoingSize}
 use Rattle.plan.specs.declared.Plan.{Plan}
-use Rattle.plan.specs.Reading.{planOf}
 use Rattle.message.specs.declared.Body.{Body}
 use Rattle.message.specs.declared.Message.{Message}
 use Rattle.message.specs.Message.{messageBytes}
 use Rattle.board.specs.declared.Answer.{Answer}
-use Rattle.agreement.specs.History.{Vote, Step, calls, hands, cut, set-up, start, take-message, read-answer, restore, History, Board, boardAfter, Allowed}
-use Rattle.agreement.specs.Demand.{answerNow, Complete}
+use Rattle.agreement.specs.History.{Vote, Call, Step, calls, hands, cut, set-up, start, take-message, read-answer, restore, History, Board, boardAfter}
+use Rattle.agreement.specs.Demand.{answerNow, Complete, Premises}
 
 -- a message at level 0 of the vote with this number, and of vote 1
 abbrev pub saying : ℕ → Body → Message
@@ -36,6 +34,8 @@ pub data Action : Type 0 where
   -- a cut leaves so many bytes of the journal
   cuts : ℕ → ℕ → Action
   restores : ℕ → Action
+  -- a call that is refused, given anything; what the board has may be used for it
+  tries : ℕ → (Board → Call) → Action
 
 abbrev pub actor : Action → ℕ
 actor (sets-up i) = i
@@ -45,6 +45,7 @@ actor (reads i) = i
 actor (sends i m) = i
 actor (cuts i k) = i
 actor (restores i) = i
+actor (tries i c) = i
 
 -- the lent journal: the used bytes, and room for one more record
 abbrev pub lent : List ℕ → List ℕ
@@ -59,6 +60,7 @@ stepOf v b (reads i) = calls i (read-answer (b .party))
 stepOf v b (sends i m) = hands i (messageBytes m)
 stepOf v b (cuts i k) = cut i k
 stepOf v b (restores i) = calls i (restore (v .n) (v .t) i (v .agreement) (v .plan) (b .journal) outgoingSize)
+stepOf v b (tries i c) = calls i (c b)
 
 -- the history h and then the actions
 unfoldable pub followed : Vote → History → List Action → History
@@ -68,15 +70,6 @@ followed v h (a ∷ rest) = followed v (stepOf v (boardAfter h (actor a)) a ∷ 
 -- "from boards not yet set up"
 abbrev pub historyOf : Vote → List Action → History
 historyOf v script = followed v [] script
-
--- what demand 3 asks of a vote, of the faulty boards and of a list of steps before it promises anything
-pub record Premises (v : Vote) (plan : Plan) (bad : Set) (h : History) : Type 0 where
-  pub boards : v .n ≤ maxBoards
-  pub faults : 3 * v .t < v .n
-  pub number : v .agreement ≤ maxNumber
-  pub read : planOf (v .plan) ≡ found plan
-  pub few : count (v .n) bad ≤ v .t
-  pub allowed : Allowed v bad h
 
 -- the premises hold, all is delivered, and the boards 0, 1, .. have these answers
 pub record Concludes (v : Vote) (plan : Plan) (bad : Set) (h : History) (answers : List Answer) : Type 0 where

@@ -6,3 +6,5 @@ pub mod Listed
 pub mod Padding
 pub mod Given
 pub mod Answers
+pub mod Drawn
+pub mod Readings

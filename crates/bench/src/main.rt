@@ -1,0 +1,89 @@
+// A vote on the bench: boards, readings and messages from a script on standard input.
+use libc::STDIN_FILENO;
+use script::Line;
+use script::Step;
+use settings::Settings;
+use vote::JOURNALS;
+use vote::Vote;
+
+mod print;
+mod settings;
+mod vote;
+mod wire;
+
+// The vote, the line that is being read, and whether there may be more of it.
+struct Reader {
+    vote: Vote,
+    line: Line,
+    open: bool,
+}
+
+// Does a line say a step? (For one that does not, the vote is not even copied.)
+fn readable(step: Step) -> bool {
+    if let Step::Unreadable = step {
+        false
+    } else {
+        true
+    }
+}
+
+// The lines in some bytes.
+fn read_lines(
+    r: Reader,
+    s: &[u8],
+    journals: &mut [u8; JOURNALS],
+    wire: &mut [u8; wire::SIZE],
+) -> Reader {
+    let mut next = r;
+    let mut at: usize = 0;
+    while at < s.len() {
+        let found = script::scan(next.line, s, at);
+        at = found.next;
+        let line = found.line;
+        next.line = line;
+        let step = found.step;
+        if readable(step) {
+            let v = next.vote;
+            next.vote = v.step(step, journals, wire);
+        }
+    }
+    next
+}
+
+// One read of standard input. Where it brings nothing, the last line ends, which may lack its newline.
+fn read_some(r: Reader, journals: &mut [u8; JOURNALS], wire: &mut [u8; wire::SIZE]) -> Reader {
+    let mut buf = io::buffer();
+    let got = libc::read(STDIN_FILENO, &mut buf);
+    let n = io::count(got, &buf);
+    if n == 0 {
+        let v = r.vote;
+        let line = r.line;
+        return Reader {
+            vote: v.step(line.step(), journals, wire),
+            line: Line::blank(),
+            open: false,
+        };
+    }
+    read_lines(r, &buf[..n], journals, wire)
+}
+
+// A proved loop has to end, and nothing says that the input does: the turns are counted down from a number that no run uses up.
+fn main() {
+    let mut journals = [0u8; JOURNALS];
+    let mut wire = [0u8; wire::SIZE];
+    let vote = Vote::new(Settings::blank());
+    let blank = Line::blank();
+    let mut r = Reader {
+        vote: vote,
+        line: blank,
+        open: true,
+    };
+    let mut turns = u64::MAX;
+    while turns > 0 && r.open {
+        r = read_some(r, &mut journals, &mut wire);
+        turns -= 1;
+    }
+    let last = r.vote;
+    print::totals(last.settings, last.sent);
+    print::boards(last);
+}

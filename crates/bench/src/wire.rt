@@ -1,0 +1,58 @@
+// The messages handed over, in order: of each one its maker, then its bytes.
+ghost use mathlib.Core.Path.{_≡_};
+ghost use Prim.Native.Nat.{_+_, _<_, _≤_};
+ghost use lib.ListN.{length};
+
+// The messages of 16 boards: each makes at most 22 at each of 15 levels.
+pub const MESSAGES: usize = 5280;
+// The maker, and at most 8 bytes.
+pub const ENTRY: usize = 9;
+
+// All of them.
+pub const SIZE: usize = 47520;
+
+// The message is written from a place on, where 8 bytes have room.
+fn write_message(wire: &mut [u8], from: usize, m: message::Message)
+    requires { ⌜ from + 8 ≤ length (now wire) ⌝ }
+{
+    let end = from + 8;
+    message::write(&mut wire[from..end], m);
+}
+
+// Message k is kept, with its maker.
+fn keep(wire: &mut [u8], k: usize, maker: u8, m: message::Message)
+    requires { ⌜ (k < 5280) × (length (now wire) ≡ 47520) ⌝ }
+{
+    let at = ENTRY * k;
+    write_message(wire, at + 1, m);
+    wire[at] = maker;
+}
+
+// The messages in the first `end` bytes of an outgoing buffer are kept after the k that there are; how many there are then.
+pub fn keep_all(wire: &mut [u8; SIZE], k: usize, maker: u8, out: &[u8], end: usize) -> usize {
+    let mut count = k;
+    let mut at: usize = 0;
+    while count < MESSAGES {
+        if end <= at {
+            return count;
+        }
+        let message::MessageRead::Read(m, next) = message::read_at(out, at) else {
+            return count;
+        };
+        keep(wire, count, maker, m);
+        at = next;
+        count += 1;
+    }
+    count
+}
+
+// The place past the message that stands at `a`; `a` where there is none.
+pub fn message_end(wire: &[u8], a: usize) -> usize
+    requires { ⌜ a ≤ length (now wire) ⌝ }
+    ensures { λ r. ⌜ (a ≤ r) × (r ≤ length (now (wire .entry))) ⌝ }
+{
+    let message::MessageRead::Read(_, next) = message::read_at(wire, a) else {
+        return a;
+    };
+    next
+}

@@ -1,0 +1,50 @@
+-- Demand 3 of every example: its premises hold, so what it promises does.
+use Rattle.base.specs.Limits.{maxNumber}
+use Rattle.base.specs.Sets.{Set}
+use Rattle.plan.specs.declared.Plan.{Plan}
+use Rattle.agreement.specs.History.{Vote, History}
+use Rattle.agreement.specs.Demand.{Holds, Premises}
+use Rattle.agreement.proofs.Theorem.{demand3}
+use Rattle.histories.specs.Scripts.{historyOf}
+use Rattle.histories.specs.Alone as alone
+use Rattle.histories.specs.Cuts as cuts
+use Rattle.histories.specs.Liar as liar
+use Rattle.histories.specs.Neighbours as neighbours
+use Rattle.histories.specs.Grades as grades
+use Rattle.histories.specs.Modes as modes
+use Rattle.histories.specs.Refusals as refusals
+use Rattle.histories.proofs.Alone as alone-run
+use Rattle.histories.proofs.Cuts as cuts-run
+use Rattle.histories.proofs.Liar as liar-run
+use Rattle.histories.proofs.Neighbours as neighbours-run
+use Rattle.histories.proofs.Grades as grades-run
+use Rattle.histories.proofs.Modes as modes-run
+use Rattle.histories.proofs.Refusals as refusals-run
+
+-- demand 3 of a history whose premises hold
+holding : {v : Vote} {plan : Plan} {bad : Set} {h : History} → Premises v plan bad h → Holds v plan bad h
+holding {v} {plan} {bad} {h} = demand3 v plan bad h
+
+pub alone-holds : Holds (alone.vote 1) alone.plan alone.bad (historyOf (alone.vote 1) (alone.script 1))
+alone-holds = holding (alone-run.conclusion .premises)
+
+pub largest-holds : Holds (alone.vote maxNumber) alone.plan alone.bad (historyOf (alone.vote maxNumber) (alone.script maxNumber))
+largest-holds = holding (alone-run.conclusion-largest .premises)
+
+pub cuts-holds : Holds cuts.vote cuts.plan cuts.bad (historyOf cuts.vote cuts.script)
+cuts-holds = holding (cuts-run.conclusion .premises)
+
+pub liar-holds : Holds liar.vote liar.plan liar.bad (historyOf liar.vote liar.script)
+liar-holds = holding (liar-run.conclusion .premises)
+
+pub neighbours-holds : Holds neighbours.vote neighbours.plan neighbours.bad (historyOf neighbours.vote neighbours.script)
+neighbours-holds = holding (neighbours-run.conclusion .premises)
+
+pub grades-holds : Holds grades.vote grades.plan grades.bad (historyOf grades.vote grades.script)
+grades-holds = holding (grades-run.conclusion .premises)
+
+pub modes-holds : Holds modes.vote modes.plan modes.bad (historyOf modes.vote modes.script)
+modes-holds = holding (modes-run.conclusion .premises)
+
+pub refusals-holds : Holds refusals.vote refusals.plan refusals.bad (historyOf refusals.vote refusals.script)
+refusals-holds = holding refusals-run.premises

@@ -1,0 +1,121 @@
+// Questions at the door. Each function gives the number of the first that is answered no, or 0.
+use second_wire::group;
+use second_wire::num;
+use second_wire::table;
+use second_wire::table::Table;
+use second_wire::wire;
+
+// The first of two numbers that is not 0.
+pub fn first(a: u32, b: u32) -> u32 {
+    if a == 0 {
+        return b;
+    }
+    a
+}
+
+// Questions 1 to 3; t above 5 is refused first, so that 3t is small.
+pub fn settings(n: u32, t: u32, own: u32) -> u32 {
+    if n < 1 {
+        return 1;
+    }
+    if 16 < n {
+        return 1;
+    }
+    if 5 < t {
+        return 2;
+    }
+    if n <= 3 * t {
+        return 2;
+    }
+    if n <= own {
+        return 3;
+    }
+    0
+}
+
+// Questions 19, 18 and 20 of a start or take; only where there is no party are there no boards.
+pub fn call(table: &Table, journal: &[u8], used: usize, out: &[u8]) -> u32 {
+    if table::at(table, table::VOTE, table::BOARDS) == 0 {
+        return 19;
+    }
+    if out.len() < num::OUTGOING {
+        return 18;
+    }
+    if journal.len() < used {
+        return 20;
+    }
+    0
+}
+
+// Questions 13 and 12 of a start.
+pub fn start(table: &Table, position: usize) -> u32 {
+    if table::is_set(table, 0, table::ENTERED) {
+        return 13;
+    }
+    if table::at(table, table::VOTE, table::LAST) < position {
+        return 12;
+    }
+    0
+}
+
+// Questions 14 to 16 of a message of so many bytes.
+pub fn message(table: &Table, sender: usize, record: wire::Record, length: usize) -> u32 {
+    if table::at(table, table::VOTE, table::BOARDS) <= sender {
+        return 14;
+    }
+    if record.state != group::WHOLE {
+        return 15;
+    }
+    if record.next != length {
+        return 15;
+    }
+    if record.number != table::long(table, table::NUMBER) {
+        return 16;
+    }
+    0
+}
+
+// Whether the record is one of a message held already; a start has no kind and never is.
+pub fn is_held(table: &Table, record: wire::Record) -> bool {
+    table::is_said(
+        table,
+        record.level,
+        record.kind,
+        record.value,
+        record.sender,
+    )
+}
+
+// Question 17 of a record that would end at `after`.
+pub fn fits(table: &Table, record: wire::Record, journal: &[u8], after: usize) -> u32 {
+    if after <= journal.len() {
+        return 0;
+    }
+    if is_held(table, record) {
+        return 0;
+    }
+    17
+}
+
+// Not a question's number: the torn last record.
+pub const TORN: u32 = 99;
+
+// Questions 21, 16, 14, 13 and 12 of a record.
+pub fn record(table: &Table, record: wire::Record) -> u32 {
+    if record.state == group::CUT {
+        return TORN;
+    }
+    if record.state != group::WHOLE {
+        return 21;
+    }
+    if record.number != table::long(table, table::NUMBER) {
+        return 16;
+    }
+    if record.sort == wire::START {
+        return start(table, record.position);
+    }
+    if table::at(table, table::VOTE, table::BOARDS) <= record.sender {
+        return 14;
+    }
+    0
+}

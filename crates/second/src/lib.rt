@@ -1,0 +1,202 @@
+// The vote written a second time from document 01's sentences, with plain tables and loops over all
+// boards, values, positions and edges. It is compared with the first implementation byte for byte;
+// of itself it is proved only that it is safe and ends.
+pub mod ask;
+pub mod plan;
+pub mod reading;
+pub mod record;
+
+use record::Done;
+use second_wire::num;
+use second_wire::table;
+use second_wire::table::Table;
+use second_wire::wire;
+
+// A party: its memory.
+pub struct Voter {
+    pub table: Table,
+}
+
+// The number of the refused question, or 0, its place, and the party.
+pub struct SetUp {
+    pub number: u32,
+    pub place: usize,
+    pub voter: Voter,
+}
+
+// The same with the journal's used length, how many bytes of the outgoing buffer are messages, and
+// how many rules were applied.
+pub struct Outcome {
+    pub number: u32,
+    pub place: usize,
+    pub voter: Voter,
+    pub used: usize,
+    pub sent: usize,
+    pub rules: usize,
+}
+
+// An answer, if it is there.
+pub struct Found {
+    pub there: bool,
+    pub value: i64,
+}
+
+// A done call and the party as it is then.
+fn with_party(voter: Voter, done: Done) -> Outcome {
+    Outcome {
+        number: done.number,
+        place: done.place,
+        voter,
+        used: done.used,
+        sent: done.sent,
+        rules: done.rules,
+    }
+}
+
+// Keeps n, the three thresholds and the agreement number.
+fn keep_settings(table: &mut Table, n: usize, t: usize, agreement: usize) {
+    table::set(table, table::VOTE, table::BOARDS, n);
+    table::set(table, table::VOTE, table::FEW, num::next(t));
+    table::set(table, table::VOTE, table::MANY, num::next(num::add(t, t)));
+    table::set(table, table::VOTE, table::MOST, num::less(n, t));
+    table::set_long(table, table::NUMBER, agreement);
+}
+
+// Questions 1 to 11, which fill an empty table.
+fn prepare(
+    n: u32,
+    t: u32,
+    own: u32,
+    agreement: u32,
+    bytes: &[u8],
+    table: &mut Table,
+) -> plan::Verdict {
+    let number = ask::settings(n, t, own);
+    if number != 0 {
+        return plan::decided(number, 0);
+    }
+    keep_settings(table, n as usize, t as usize, agreement as usize);
+    plan::read(bytes, table)
+}
+
+// A refused set-up or restore gives no party: its table is empty.
+fn party(number: u32, table: Table) -> Voter {
+    if number == 0 {
+        return Voter { table };
+    }
+    let empty = table::empty();
+    Voter { table: empty }
+}
+
+// The plan's questions, 4 to 11.
+pub fn plan_read(bytes: &[u8]) -> plan::Verdict {
+    let mut table = table::empty();
+    plan::read(bytes, &mut table)
+}
+
+// Set-up: questions 1 to 11.
+pub fn set_up(n: u32, t: u32, own: u32, agreement: u32, plan: &[u8]) -> SetUp {
+    let mut table = table::empty();
+    let verdict = prepare(n, t, own, agreement, plan, &mut table);
+    let voter = party(verdict.number, table);
+    SetUp {
+        number: verdict.number,
+        place: verdict.place,
+        voter,
+    }
+}
+
+// Level 0's output, if there is one, as a start takes it.
+pub fn answer(voter: Voter) -> Found {
+    let table = voter.table;
+    if table::is_set(&table, 0, table::OUTPUT_THERE) {
+        let output = table::at(&table, 0, table::OUTPUT);
+        let base = table::long(&table, table::BASE);
+        return Found {
+            there: true,
+            value: reading::lowered(num::add(base, output)),
+        };
+    }
+    Found {
+        there: false,
+        value: 0,
+    }
+}
+
+// Start: questions 19, 18, 20, 13, 12 and 17.
+pub fn start(voter: Voter, input: i64, journal: &mut [u8], used: usize, out: &mut [u8]) -> Outcome {
+    let mut table = voter.table;
+    let position = reading::above(table::long(&table, table::BASE), input);
+    let number = ask::first(
+        ask::call(&table, journal, used, out),
+        ask::start(&table, position),
+    );
+    let record = wire::start_of(table::long(&table, table::NUMBER), position, 0);
+    let done = record::commit(number, &mut table, record, journal, used, out);
+    let after = Voter { table };
+    with_party(after, done)
+}
+
+// Take: questions 19, 18, 20, 14, 15, 16 and 17.
+pub fn take(
+    voter: Voter,
+    sender: u32,
+    bytes: &[u8],
+    journal: &mut [u8],
+    used: usize,
+    out: &mut [u8],
+) -> Outcome {
+    let mut table = voter.table;
+    let record = wire::read_message(bytes, 0, sender as usize);
+    let number = ask::first(
+        ask::call(&table, journal, used, out),
+        ask::message(&table, sender as usize, record, bytes.len()),
+    );
+    let done = record::commit(number, &mut table, record, journal, used, out);
+    let after = Voter { table };
+    with_party(after, done)
+}
+
+// Replays the journal over a table that was not refused.
+fn recover(verdict: plan::Verdict, table: &mut Table, journal: &[u8], out: &mut [u8]) -> Done {
+    if verdict.number != 0 {
+        return record::idle(verdict.number, verdict.place, 0);
+    }
+    let mut room = num::empty_room();
+    let done = record::replay(table, journal, &mut room);
+    num::copy(&room, done.sent, out, 0);
+    done
+}
+
+// Question 18 of a buffer of so many bytes, then 1 to 11.
+fn ask_restore(
+    room: usize,
+    n: u32,
+    t: u32,
+    own: u32,
+    agreement: u32,
+    plan: &[u8],
+    table: &mut Table,
+) -> plan::Verdict {
+    if room < num::OUTGOING {
+        return plan::decided(18, 0);
+    }
+    prepare(n, t, own, agreement, plan, table)
+}
+
+// Restore: questions 18 and 1 to 11, then those of each record.
+pub fn restore(
+    n: u32,
+    t: u32,
+    own: u32,
+    agreement: u32,
+    plan: &[u8],
+    journal: &[u8],
+    out: &mut [u8],
+) -> Outcome {
+    let mut table = table::empty();
+    let verdict = ask_restore(out.len(), n, t, own, agreement, plan, &mut table);
+    let done = recover(verdict, &mut table, journal, out);
+    let voter = party(done.number, table);
+    with_party(voter, done)
+}

@@ -1,0 +1,143 @@
+// Records: what a start or a taken message does, and how a journal does it again.
+use crate::ask;
+use second_rules::level;
+use second_rules::run;
+use second_wire::num;
+use second_wire::num::Room;
+use second_wire::table;
+use second_wire::table::Table;
+use second_wire::wire;
+
+// An outcome without the party.
+pub struct Done {
+    pub number: u32,
+    pub place: usize,
+    pub used: usize,
+    pub sent: usize,
+    pub rules: usize,
+}
+
+// Refused, or for number 0 accepted with no effect.
+pub fn idle(number: u32, place: usize, used: usize) -> Done {
+    Done {
+        number,
+        place,
+        used,
+        sent: 0,
+        rules: 0,
+    }
+}
+
+// A start enters level 0; a message is kept.
+fn note(table: &mut Table, record: wire::Record) {
+    if record.sort == wire::START {
+        level::open(table, 0, record.position);
+        return;
+    }
+    table::hear(
+        table,
+        record.level,
+        record.kind,
+        record.value,
+        record.sender,
+    );
+}
+
+// A record is noted and rules are applied; one of a message held adds nothing and has no messages.
+fn act(table: &mut Table, record: wire::Record, room: &mut Room) -> run::Ran {
+    if ask::is_held(table, record) {
+        return run::Ran { rules: 0, sent: 0 };
+    }
+    note(table, record);
+    run::run(table, room)
+}
+
+// Acts on a record that stands in the room and in the journal up to `after`; the messages go to the
+// outgoing buffer's first bytes.
+fn send(
+    table: &mut Table,
+    record: wire::Record,
+    room: &mut Room,
+    after: usize,
+    out: &mut [u8],
+) -> Done {
+    let ran = act(table, record, room);
+    num::copy(room, ran.sent, out, 0);
+    Done {
+        number: 0,
+        place: 0,
+        used: after,
+        sent: ran.sent,
+        rules: ran.rules,
+    }
+}
+
+// Writes the record from the used length on and acts on it, unless it is refused by the number
+// asked before or by 17, or is one of a message held.
+pub fn commit(
+    number: u32,
+    table: &mut Table,
+    record: wire::Record,
+    journal: &mut [u8],
+    used: usize,
+    out: &mut [u8],
+) -> Done {
+    let mut room = num::empty_room();
+    let length = wire::write_record(&mut room, record);
+    let after = num::add(used, length);
+    let asked = ask::first(number, ask::fits(table, record, journal, after));
+    if asked != 0 {
+        return idle(asked, 0, used);
+    }
+    if ask::is_held(table, record) {
+        return idle(0, 0, used);
+    }
+    num::copy(&room, length, journal, used);
+    send(table, record, &mut room, after, out)
+}
+
+// The record at `at` of the journal, asked and acted on.
+fn replay_one(table: &mut Table, journal: &[u8], at: usize, room: &mut Room) -> Done {
+    let record = wire::read_record(journal, at);
+    let number = ask::record(table, record);
+    if number != 0 {
+        return idle(number, at, 0);
+    }
+    let ran = act(table, record, room);
+    Done {
+        number: 0,
+        place: 0,
+        used: record.next,
+        sent: ran.sent,
+        rules: ran.rules,
+    }
+}
+
+// All whole records, in order: their length, the messages of the last, and the sum of their rules.
+pub fn replay(table: &mut Table, journal: &[u8], room: &mut Room) -> Done {
+    let mut used = 0;
+    let mut sent = 0;
+    let mut rules = 0;
+    for _ in 0..journal.len() {
+        if journal.len() <= used {
+            break;
+        }
+        let done = replay_one(table, journal, used, room);
+        if done.number == ask::TORN {
+            break;
+        }
+        if done.number != 0 {
+            return done;
+        }
+        used = done.used;
+        sent = done.sent;
+        rules = num::add(rules, done.rules);
+    }
+    Done {
+        number: 0,
+        place: 0,
+        used,
+        sent,
+        rules,
+    }
+}

@@ -1,0 +1,145 @@
+// Groups: seven-bit pieces, low piece first, the top bit set on every byte but the last, in the
+// fewest bytes, at most 4,294,967,295.
+use crate::num;
+use crate::num::Room;
+
+// What reading found: more bytes wanted, a whole group, a malformed one, or the end of the bytes
+// inside one.
+const OPEN: usize = 0;
+
+pub const WHOLE: usize = 1;
+
+const MALFORMED: usize = 2;
+
+pub const CUT: usize = 3;
+
+// The largest value of a group.
+pub const LARGEST: usize = 4294967295;
+
+// The value of the pieces read, how many they are, and the place after them.
+pub struct Group {
+    pub state: usize,
+    pub value: usize,
+    pub pieces: usize,
+    pub next: usize,
+}
+
+// The value of byte b's piece where `pieces` stand before it; above every limit for a sixth.
+fn piece(b: usize, pieces: usize) -> usize {
+    let low = b % 128;
+    match pieces {
+        0 => low,
+        1 => low * 128,
+        2 => low * 16384,
+        3 => low * 2097152,
+        4 => low * 268435456,
+        _ => 34359738368,
+    }
+}
+
+// The group in another state.
+fn ended(g: Group, state: usize) -> Group {
+    Group {
+        state,
+        value: g.value,
+        pieces: g.pieces,
+        next: g.next,
+    }
+}
+
+// What a group's last byte makes of it: a needless last byte or too large a value is refused.
+fn last_state(b: usize, pieces: usize, value: usize) -> usize {
+    if 128 <= b {
+        return OPEN;
+    }
+    if LARGEST < value {
+        return MALFORMED;
+    }
+    if b == 0 {
+        if 0 < pieces {
+            return MALFORMED;
+        }
+    }
+    WHOLE
+}
+
+// The group with byte b, its last or not.
+fn with_byte(g: Group, b: usize) -> Group {
+    let value = num::add(g.value, piece(b, g.pieces));
+    Group {
+        state: last_state(b, g.pieces, value),
+        value,
+        pieces: num::next(g.pieces),
+        next: num::next(g.next),
+    }
+}
+
+// The group with the byte after it, if it is open.
+fn step(bytes: &[u8], g: Group) -> Group {
+    if g.state != OPEN {
+        return g;
+    }
+    if bytes.len() <= g.next {
+        return ended(g, CUT);
+    }
+    if 4 < g.pieces {
+        return ended(g, MALFORMED);
+    }
+    with_byte(g, num::byte_at(bytes, g.next))
+}
+
+// The group at `at`.
+pub fn read(bytes: &[u8], at: usize) -> Group {
+    let mut g = Group {
+        state: OPEN,
+        value: 0,
+        pieces: 0,
+        next: at,
+    };
+    for _ in 0usize..6 {
+        g = step(bytes, g);
+    }
+    g
+}
+
+// The least value that a group cut short can get from further bytes.
+fn least(g: Group) -> usize {
+    if g.pieces == 0 {
+        return 0;
+    }
+    num::add(g.value, piece(1, g.pieces))
+}
+
+// The group at `at`, malformed too where no value from `low` to `high` can come of it.
+pub fn within(bytes: &[u8], at: usize, low: usize, high: usize) -> Group {
+    let g = read(bytes, at);
+    if g.state == CUT {
+        if least(g) <= high {
+            return g;
+        }
+    }
+    if g.state == WHOLE {
+        if low <= g.value {
+            if g.value <= high {
+                return g;
+            }
+        }
+    }
+    ended(g, MALFORMED)
+}
+
+// Writes the group of `value` at `at` and gives the place after it.
+pub fn write(room: &mut Room, at: usize, value: usize) -> usize {
+    let mut place = at;
+    let mut rest = value;
+    for _ in 0usize..4 {
+        if rest < 128 {
+            break;
+        }
+        num::put(room, place, 128 + rest % 128);
+        place = num::next(place);
+        rest = rest / 128;
+    }
+    num::put(room, place, rest);
+    num::next(place)
+}
