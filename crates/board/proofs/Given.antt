@@ -2,10 +2,10 @@
 use mathlib.Core.Path.{_≡_, refl, sym, ap, _∙_, subst}
 use mathlib.Core.Bool.{Bool, true, false}
 use mathlib.Core.List.{List, []}
-use Prim.Native.Nat.{ℕ, zero, suc, _+_, _≤_, _<_}
+use Prim.Native.Nat.{ℕ, _+_, _≤_, _<_}
 use native.Mathlib.Decide.{decLt, ℕ-discrete}
 use native.Mathlib.Omega.{arith}
-use lib.Dec.{T, eqb, eqb→eq}
+use lib.Dec.{T}
 use lib.IntN.{ℤ}
 use lib.ListN.{length}
 use Rattle.base.specs.Limits.{levelCount, outgoingSize}
@@ -15,7 +15,6 @@ use Rattle.varint.specs.Varint.{AllBytes}
 use Rattle.base.specs.Found.{Found, found, refused}
 use Rattle.plan.specs.declared.Plan.{Plan}
 use Rattle.plan.specs.Reading.{settledPlan}
-use Rattle.plan.proofs.Listed.{asked}
 use Rattle.message.specs.declared.Message.{Message}
 use Rattle.message.specs.declared.Exactly.{Exactly}
 use Rattle.message.specs.Message.{exactMessage}
@@ -23,25 +22,24 @@ use Rattle.message.proofs.RoundTrip.{exact-message-written}
 use Rattle.level.specs.Level.{noOutput}
 use Rattle.journal.specs.declared.Record.{Record}
 use Rattle.journal.specs.declared.Record.the-variants.{Start, Taken}
-use Rattle.journal.specs.declared.RecordRead.{RecordRead}
-use Rattle.journal.specs.Journal.{recordBytes, recordAt}
-use Rattle.journal.proofs.RoundTrip.{record-was-written}
+use Rattle.journal.specs.Journal.{recordBytes}
 use Rattle.party.specs.declared.Party.{Party}
 use Rattle.party.specs.declared.Chart.{Chart}
 use Rattle.party.specs.Party.{newParty, started, heldBy}
 use Rattle.party.specs.Run.{Ran, resting}
 use Rattle.party.specs.Valid.{partyValid}
-use Rattle.life.specs.Life.{replayed, following, Fits}
+use Rattle.life.specs.Life.{replayed, Fits}
 use Rattle.partylaw.proofs.Laws.{Formed, formed-starting, formed-taking, valid→}
 use Rattle.board.specs.declared.Door.{Door}
 use Rattle.board.specs.Answers.{positionOf}
 use Rattle.board.specs.Calls.{Entry, fresh, noParty, setUpAnswer, setUpOf, startQuestions, takeQuestions, calledOf}
-use Rattle.board.specs.Restore.{recordFits, Replay, replayFrom, restoreQuestions, restoredOf}
-use Rattle.board.specs.Inner.{AtDoor, faultOf}
+use Rattle.board.specs.Restore.{Replay, replayFrom, restoreQuestions, restoredOf}
+use Rattle.board.specs.Inner.{AtDoor}
 use Rattle.board.specs.Given.{Given, Withheld}
 use Rattle.board.proofs.Inputs.{position-on}
 use Rattle.board.proofs.Questions.{door-19, door-18, door-20, start-door, start-again, start-off, start-full, start-fits, take-door, take-sender, take-no-message, take-number, take-held, take-full, take-fits}
-use Rattle.board.proofs.Replays.{replay-end, replay-torn, replay-bad, replay-read, fits-by-fault, fault-fits, new-sized}
+use Rattle.board.proofs.Replays.{new-sized}
+use Rattle.board.proofs.Kept.{replay-keeps}
 use Rattle.board.proofs.Restores.{settled-new, restore-short, restore-refused, restore-found}
 
 -- ---- no party
@@ -165,39 +163,9 @@ module _ (p : Party) (full : length (p .levels) ≡ levelCount) (room used out :
 
 -- ---- restore
 
--- a record that passes its questions, and what follows
-passed : (p : Party) (at : ℕ) (r : Record) (go : Found Replay) (x : Replay) → recordFits p at r go ≡ found x → (faultOf p (started p) r ≡ 0) × (go ≡ found x)
-passed p at r go x e =
-    let k : ℕ = faultOf p (started p) r in
-    let a = asked (eqb k 0) k at go x (sym (fits-by-fault p at r go) ∙ e) in
-    (eqb→eq k 0 (a .0), a .1)
-
--- where the records end
-ends : (r : Ran) (at : ℕ) (x : Replay) → Formed (r .party) → found (record { ran = r; used = at }) ≡ found x → Formed (x .ran .party)
-ends r at x w e = let i : record { ran = r; used = at } ≡ x = cc in subst (λ (q : Replay). Formed (q .ran .party)) i w
-
--- the party of the records from some place on
+-- the party of a journal's records
 replay-formed : (j : List ℕ) → AllBytes j → (f at : ℕ) (r : Ran) (x : Replay) → Formed (r .party) → replayFrom f j at r ≡ found x → Formed (x .ran .party)
-unfolding replayFrom
-replay-formed j all zero at r x w e = ends r at x w e
-replay-formed j all (suc f) at r x w e = go (decLt at (length j)) (replay-formed j all f)
-  where
-    Rest : Type 0
-    Rest = (at : ℕ) (r : Ran) (x : Replay) → Formed (r .party) → replayFrom f j at r ≡ found x → Formed (x .ran .party)
-
-    read : at < length j → (y : RecordRead) → recordAt j at ≡ y → Rest → Formed (x .ran .party)
-    read h (RecordRead.Read rec next) i rest =
-        let q : Ran = following r (replayed (r .party) rec) in
-        let a = passed (r .party) at rec (replayFrom f j next q) x (sym (replay-read f j at r h rec next i) ∙ e) in
-        rest next q x (formed-replayed (r .party) w rec (fault-fits (r .party) rec (record-was-written j at rec next all i .limits) (a .0))) (a .1)
-    read h RecordRead.Torn i rest = ends r at x w (sym (replay-torn f j at r h i) ∙ e)
-    read h RecordRead.Bad i rest =
-        let b : refused 21 at ≡ found x = sym (replay-bad f j at r h i) ∙ e in
-        let z : _≡_ {A = ℕ} 0 1 = cc in absurd (omega arith)
-
-    go : Dec (at < length j) → Rest → Formed (x .ran .party)
-    go (yes h) rest = read h (recordAt j at) refl rest
-    go (no h) rest = ends r at x w (sym (replay-end (suc f) j at r (omega (arith, h))) ∙ e)
+replay-formed j all = replay-keeps (λ (r : Ran). Formed (r .party)) j all (λ r x w f. formed-replayed (r .party) w x f)
 
 module _ (n t own a : ℕ) (bytes j : List ℕ) (out : ℕ) where
   restore-given : AllBytes j → restoredOf (restoreQuestions n t own a bytes j out) .verdict ≡ Verdict.Accepted

@@ -5,7 +5,7 @@ use Prim.Native.Nat.{ℕ, _+_, _-_, _^_, _≤_, _<_}
 use native.Mathlib.Omega.{arith}
 use lib.Dec.{leb, ltb, eqb}
 use lib.IntN.{ℤ, pos, negsuc}
-use borrow.Author.Tests.{ltb-true, lt-ltb, le-ltb, le-leb, lt-leb, eq-eqb, ne-eqb}
+use borrow.Author.Tests.{ltb-true, leb-true, leb-false, lt-ltb, le-ltb, le-leb, lt-leb, eq-eqb, ne-eqb}
 use mir.Syntax.{w64}
 use mir.Val.{SFits}
 use Rattle.base.specs.Pick.{pick}
@@ -84,6 +84,31 @@ module _ (p : Plan) where
       go : (b : Bool) → Placed (pick b (vertexOf p z) (rangePosition p z))
       go true = placed-vertex z
       go false = placed-range z
+
+-- ---- the input of a position
+
+-- the reading of a range whose offset binary is u
+offset-position : (p : Plan) (u x : ℕ) → u ≡ p .low + x → onPlan p x ≡ rangePosition p (fromOffset u)
+offset-position p u x e = go (leb 2147483648 u) refl
+  where
+    go : (b : Bool) → leb 2147483648 u ≡ b → onPlan p x ≡ rangePosition p (pick b (pos (u - 2147483648)) (negsuc (2147483647 - u)))
+    go true i =
+        let y : ℕ = u - 2147483648 in
+        let l = leb-true 2147483648 u i in
+        ap (onPlan p) (let g : x ≡ y + 2147483648 - p .low = omega arith in g) ∙ range-natural p (pos y) y refl (omega arith)
+    go false i =
+        let y : ℕ = 2147483647 - u in
+        let l = leb-false 2147483648 u i in
+        ap (onPlan p) (let g : x ≡ 2147483648 - (y + 1) - p .low = omega arith in g) ∙ range-negative p (negsuc y) y refl (omega arith)
+
+-- The position of a position's reading is that position.
+pub reading-position : (p : Plan) (x : ℕ) → x < p .count → positionOf p (readingOf p x) ≡ x
+unfolding positionOf readingOf
+reading-position p x h = go (eqb (p .kind) 1)
+  where
+    go : (b : Bool) → pick b (vertexOf p (pick b (pos x) (fromOffset (p .low + x)))) (rangePosition p (pick b (pos x) (fromOffset (p .low + x)))) ≡ x
+    go true = sym (on p x h)
+    go false = sym (on p x h ∙ offset-position p (p .low + x) x refl)
 
 -- ---- the answer at a position
 

@@ -8,3 +8,7 @@ pub mod Redone
 pub mod Befores
 pub mod Restores
 pub mod Given
+pub mod Kept
+pub mod Outgoing
+pub mod Refused
+pub mod Starts

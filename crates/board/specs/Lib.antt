@@ -4,3 +4,5 @@ pub mod Restore
 pub mod Results
 pub mod Inner
 pub mod Given
+pub mod Outgoing
+pub mod Refused
