@@ -24,7 +24,7 @@ use Rattle.journal.proofs.Records.{holds-records}
 use Rattle.party.specs.declared.Party.{Party}
 use Rattle.party.specs.Party.{newParty, levelAt, started, outputOf}
 use Rattle.party.specs.Valid.{partyValid}
-use Rattle.partylaw.proofs.Laws.{Output, Formed, level-holds, output-stays}
+use Rattle.partylaw.proofs.Laws.{SameBoard, Output, Formed, level-holds, output-stays}
 use Rattle.partylaw.proofs.Calls.{new-level}
 use Rattle.life.specs.Life.{lived, madeAlong}
 use Rattle.board.specs.declared.Answer.{Answer}
@@ -112,8 +112,12 @@ module _ (v : Vote) (plan : Plan) (bad : Set) (f : Shared v plan) where
     pub state-formed : Formed (stateOf v plan h i)
     state-formed = state-inv .regular .formed
 
+    -- its settings and plan are those of the vote
+    pub state-board : SameBoard (newBoard v plan i) (stateOf v plan h i)
+    state-board = subst (SameBoard p) (sym state-records) (le-lived p (board-regular v plan f i k) (w .records) (w .life) .board)
+
     pub state-plan : stateOf v plan h i .plan ≡ plan
-    state-plan = ap (λ (q : Party). q .plan) state-records ∙ le-lived p (board-regular v plan f i k) (w .records) (w .life) .board .plan
+    state-plan = state-board .plan
 
     -- a party that it is
     state-answer : (q : Party) → q ≡ stateOf v plan h i → answeredOf q .answer ≡ answerOf plan (outputOf (stateOf v plan h i))
@@ -197,7 +201,7 @@ module _ (v : Vote) (plan : Plan) (bad : Set) (f : Shared v plan) where
   read-seen (s ∷ h) (m, a) i k q z x e = go (List·Memᴰ·cases-cons x) (λ y. read-seen h a i k q z y e)
     where
       answer : Refuses (read-answer q) ⊎ Accepts v bad i h (boardAfter h i) (read-answer q) → Says z (stateOf v plan h i)
-      answer (inl r) = let y : Answer.None ≡ Answer.At z = sym (refused-answer q (r .0) (r .1) (r .2)) ∙ e in let o : _≡_ {A = ℕ} 0 1 = cc in absurd (omega arith)
+      answer (inl r) = let y : Answer.None ≡ Answer.At z = sym (refused-answer q (r .0) (r .1 .0) (r .1 .1)) ∙ e in let o : _≡_ {A = ℕ} 0 1 = cc in absurd (omega arith)
       answer (inr (up, same)) = (state-inv h a i k, sym (state-answer h a i k q (same ∙ running-state h a i k up)) ∙ e)
 
       first : May v bad (calls i (read-answer q)) h → Seen M i (Says z) (added v plan i (answerTale (answeredOf q .answer)) (told v plan h))

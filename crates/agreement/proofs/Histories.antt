@@ -133,12 +133,12 @@ module _ (v : Vote) (plan : Plan) (bad : Set) (f : Shared v plan) where
     -- a refused call changes nothing
     by-refusal : (c : Call) → Refuses c → Goes i (afterCall (boardAfter h i) c) (callTale c) (told v plan h)
     by-refusal (set-up n t a g bytes) e =
-        subst (λ (y : Verdict). Goes i (afterSetUp b y (setUpOf n t a g bytes .party)) nothing H) (sym (e .2)) (stays i seat b H w)
-    by-refusal (start p input journal used out) e = subst (λ (y : Found Entry). Goes i (afterEntry b p journal used y) (entryTale y) H) (sym (e .2)) (stays i seat b H w)
-    by-refusal (take-message p sender bytes journal used out) e = subst (λ (y : Found Entry). Goes i (afterEntry b p journal used y) (entryTale y) H) (sym (e .2)) (stays i seat b H w)
+        subst (λ (y : Verdict). Goes i (afterSetUp b y (setUpOf n t a g bytes .party)) nothing H) (sym (e .1 .1)) (stays i seat b H w)
+    by-refusal (start p input journal used out) e = subst (λ (y : Found Entry). Goes i (afterEntry b p journal used y) (entryTale y) H) (sym (e .1 .1)) (stays i seat b H w)
+    by-refusal (take-message p sender bytes journal used out) e = subst (λ (y : Found Entry). Goes i (afterEntry b p journal used y) (entryTale y) H) (sym (e .1 .1)) (stays i seat b H w)
     by-refusal (read-answer p) e =
-        subst (λ (y : Answer). Goes i (afterAnswer b y) (answerTale y) H) (sym (refused-answer p (e .0) (e .1) (e .2))) (stays i seat b H w)
-    by-refusal (restore n t a g bytes journal out) e = subst (λ (y : Found Replay). Goes i (afterRestore b journal y) (restoreTale y) H) (sym (e .2)) (stays i seat b H w)
+        subst (λ (y : Answer). Goes i (afterAnswer b y) (answerTale y) H) (sym (refused-answer p (e .0) (e .1 .0) (e .1 .1))) (stays i seat b H w)
+    by-refusal (restore n t a g bytes journal out) e = subst (λ (y : Found Replay). Goes i (afterRestore b journal y) (restoreTale y) H) (sym (e .1 .1)) (stays i seat b H w)
 
     by-call : (c : Call) → Accepts v bad i h (boardAfter h i) c → Goes i (afterCall (boardAfter h i) c) (callTale c) (told v plan h)
     by-call (set-up n t a g bytes) (e, o) =

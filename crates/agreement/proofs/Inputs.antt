@@ -160,7 +160,7 @@ module _ (v : Vote) (plan : Plan) (bad : Set) (f : Shared v plan) where
     by-start p z journal used out x m (found again) e t = absurd (idle tt t)
     by-start p z journal used out x m (refused number place) e t = absurd (idle tt t)
     by-start p z journal used out x (inl r) (found (fresh c ran)) e t =
-        let y : found (fresh c ran) ≡ refused (r .0) (r .1) = sym e ∙ r .2 in let o : _≡_ {A = ℕ} 0 1 = cc in absurd (omega arith)
+        let y : found (fresh c ran) ≡ refused (r .0) (r .1 .0) = sym e ∙ r .1 .1 in let o : _≡_ {A = ℕ} 0 1 = cc in absurd (omega arith)
     by-start p z journal used out x (inr c) (found (fresh r ran)) e t =
         let g = start-recorded p z (length journal) used out r ran e in
         let same : p .plan ≡ plan = ap (λ (y : Party). y .plan) (c .same ∙ running-state v plan bad f h a i k (c .up)) ∙ state-plan v plan bad f h a i k in

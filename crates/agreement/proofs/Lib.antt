@@ -7,5 +7,6 @@ pub mod Histories
 pub mod Boards
 pub mod Inputs
 pub mod Words
+pub mod Accepted
 pub mod Theorem
 pub mod Life

@@ -2,7 +2,7 @@
 use mathlib.Core.Path.{_≡_, refl, sym, ap, _∙_, subst}
 use mathlib.Core.Logic.{_⊎_, inl, inr}
 use mathlib.Core.Bool.{Bool, true, false}
-use mathlib.Core.List.{List, [], _∷_, List·Memᴰ, List·Memᴰ·head, List·Memᴰ·cases-cons, List·Memᴰ·not-nil}
+use mathlib.Core.List.{List, [], _∷_, _++_, List·Memᴰ, List·Memᴰ·head, List·Memᴰ·cases-cons, List·Memᴰ·not-nil}
 use Prim.Native.Nat.{ℕ, _+_, _<_}
 use native.Mathlib.Omega.{arith}
 use lib.Dec.{T, leb, ltb, eqb, eqb→eq, eqb-refl}
@@ -24,24 +24,27 @@ use Rattle.level.specs.Level.{noOutput, senders, held}
 use Rattle.journal.specs.declared.Record.{Record}
 use Rattle.journal.specs.declared.Record.the-variants.{Start, Taken}
 use Rattle.journal.specs.Journal.{recordBytes}
-use Rattle.journal.specs.Records.{recordsFrom}
-use Rattle.journal.proofs.Records.{holds-records, holds-cut}
+use Rattle.journal.specs.Records.{recordsFrom, journalBytes}
+use Rattle.journal.proofs.Records.{holds-whole, holds-records, holds-used, holds-cut}
 use Rattle.party.specs.declared.Party.{Party}
 use Rattle.party.specs.Party.{levelAt, heldBy}
 use Rattle.party.specs.Run.{Ran, taking}
+use Rattle.life.specs.Life.{replayed, lived, madeAlong}
 use Rattle.board.specs.Answers.{positionOf}
 use Rattle.board.specs.Calls.{Entry, again, fresh, fitting, setUpOf, startQuestions, takeMessage, takeQuestions}
+use Rattle.board.specs.Restore.{Replay, restoreQuestions}
 use Rattle.execution.proofs.Logs.{handed-sent}
 use Rattle.vote.specs.Machine.{Heard}
 use Rattle.vote.proofs.Laws.{vote-lawful}
 use Rattle.agreement.specs.History.{Vote, Call, set-up, start, take-message, read-answer, restore, Step, calls, hands, cut, whose, History, Stage, waiting, running, down, Board, afterSetUp, afterEntry, afterAnswer, afterRestore, afterCall, afterOwn, afterCut, boardAfter, Handed, Refuses, Accepts, Continues, May, Allowed}
 use Rattle.agreement.specs.Demand.{Shared, recordsOf, StartedAt, TookFrom, Makes, StartedWith}
+use Rattle.agreement.proofs.Restored.{livedReplay, restored-found}
 use Rattle.agreement.proofs.Entries.{past-door, Recorded, start-recorded, take-recorded, exact-table}
 use Rattle.agreement.proofs.Lent.{entered, start-entered, take-entered}
 use Rattle.agreement.proofs.Told.{machineOf, told, handed-told}
-use Rattle.agreement.proofs.Tied.{AtStage, Running, shared-passes, tied-read, tied-fresh, fresh-records}
+use Rattle.agreement.proofs.Tied.{newBoard, AtStage, Running, shared-passes, tied-read, tied-fresh, fresh-records}
 use Rattle.agreement.proofs.Histories.{refused-answer, TiedAfter, tied, told-valid}
-use Rattle.agreement.proofs.Boards.{running-state, state-plan, records-of, started-position, took-state, makes-state}
+use Rattle.agreement.proofs.Boards.{state-records, running-state, state-plan, records-of, started-position, took-state, makes-state}
 use Rattle.agreement.proofs.Inputs.{position-reading}
 
 -- the records that a board's journal holds
@@ -63,11 +66,11 @@ refused-nothing h i c r = own (calls i c) h ∙ go c r
     b = boardAfter h i
 
     go : (c : Call) → Refuses c → afterCall b c ≡ b
-    go (set-up n t a g bytes) e = ap (λ (y : Verdict). afterSetUp b y (setUpOf n t a g bytes .party)) (e .2)
-    go (start p input journal used out) e = ap (afterEntry b p journal used) (e .2)
-    go (take-message p sender bytes journal used out) e = ap (afterEntry b p journal used) (e .2)
-    go (read-answer p) e = ap (afterAnswer b) (refused-answer p (e .0) (e .1) (e .2))
-    go (restore n t a g bytes journal out) e = ap (afterRestore b journal) (e .2)
+    go (set-up n t a g bytes) e = ap (λ (y : Verdict). afterSetUp b y (setUpOf n t a g bytes .party)) (e .1 .1)
+    go (start p input journal used out) e = ap (afterEntry b p journal used) (e .1 .1)
+    go (take-message p sender bytes journal used out) e = ap (afterEntry b p journal used) (e .1 .1)
+    go (read-answer p) e = ap (afterAnswer b) (refused-answer p (e .0) (e .1 .0) (e .1 .1))
+    go (restore n t a g bytes journal out) e = ap (afterRestore b journal) (e .1 .1)
 
 -- a message that is held was heard
 held-heard : (p : Party) (s : ℕ) (bytes : List ℕ) (room used out : ℕ) (m : Message) → exactMessage bytes ≡ Exactly.One m → takeQuestions p s bytes room used out ≡ found again
@@ -95,6 +98,10 @@ not-refused : {q : Found Entry} {x : Entry} (number place : ℕ) → q ≡ refus
 not-refused {q} {x} number place e g = let y : refused number place ≡ found x = sym e ∙ g in let o : _≡_ {A = ℕ} 0 1 = cc in omega arith
 
 module _ (v : Vote) (plan : Plan) (bad : Set) (f : Shared v plan) where
+  -- what the calls of board i that are not lost made, in order; `Makes` is being among it
+  abbrev pub madeBy : History → ℕ → List Message
+  madeBy h i = madeAlong (newBoard v plan i) (recordsOf h i)
+
   -- ---- an accepted start or take
 
   module _ (h : History) (i : ℕ) (p : Party) (journal : List ℕ) (used out : ℕ) where
@@ -108,6 +115,16 @@ module _ (v : Vote) (plan : Plan) (bad : Set) (f : Shared v plan) where
         ∙ fresh-records v plan f i k (boardAfter h i) _ _ (tied v plan bad f h a i k) (c .up) (length journal) used r ran t
         ∙ ap (λ (rs : List Record). r ∷ rs) (sym (records-of v plan bad f h a i k))
 
+    -- and what its call made
+    appended-makes : (a : Allowed v bad h) (k : i < v .n) (c : Continues (boardAfter h i) p journal used) (r : Record) (ran : Ran) → Recorded p (length journal) used r ran
+        → (rs : List Record) → rs ≡ r ∷ recordsOf h i → madeAlong (newBoard v plan i) rs ≡ madeBy h i ++ ran .made
+    unfolding madeAlong
+    appended-makes a k c r ran d rs e =
+        let g : lived (newBoard v plan i) (recordsOf h i) .party ≡ p =
+        ap (λ (ys : List Record). lived (newBoard v plan i) ys .party) (records-of v plan bad f h a i k)
+        ∙ sym (c .same ∙ running-state v plan bad f h a i k (c .up) ∙ state-records v plan bad f h a i k) in
+        ap (madeAlong (newBoard v plan i)) e ∙ ap (λ (y : Ran). madeBy h i ++ y .made) (ap (λ (q : Party). replayed q r) g ∙ d .does)
+
     module _ (z : ℤ) where
       abbrev startStep : Step
       startStep = calls i (start p z journal used out)
@@ -115,10 +132,24 @@ module _ (v : Vote) (plan : Plan) (bad : Set) (f : Shared v plan) where
       -- "Each start or taken message appends one record": the record of an accepted start is its board's newest
       pub start-newest : Allowed v bad (startStep ∷ h) → (r : Record) (ran : Ran) → startQuestions p z (length journal) used out ≡ found (fresh r ran)
           → recordsOf (startStep ∷ h) i ≡ r ∷ recordsOf h i
-      start-newest ((o, inl x), a) r ran e = absurd (not-refused (x .0) (x .1) (x .2) e)
+      start-newest ((o, inl x), a) r ran e = absurd (not-refused (x .0) (x .1 .0) (x .1 .1) e)
       start-newest ((o, inr c), a) r ran e =
           appended a (o .0) c r ran (start-recorded p z (length journal) used out r ran e .2) (boardAfter (startStep ∷ h) i)
           (own startStep h ∙ start-entered (boardAfter h i) p journal used c z out ∙ ap (entered (boardAfter h i)) e)
+
+      -- "what a board's calls made": an accepted start adds the messages whose bytes it wrote into the outgoing buffer (Lent, `entry-outgoing`), no others
+      pub start-makes : Allowed v bad (startStep ∷ h) → (r : Record) (ran : Ran) → startQuestions p z (length journal) used out ≡ found (fresh r ran)
+          → madeBy (startStep ∷ h) i ≡ madeBy h i ++ ran .made
+      start-makes ((o, inl x), a) r ran e = absurd (not-refused (x .0) (x .1 .0) (x .1 .1) e)
+      start-makes ((o, inr c), a) r ran e =
+          appended-makes a (o .0) c r ran (start-recorded p z (length journal) used out r ran e .2) (recordsOf (startStep ∷ h) i) (start-newest ((o, inr c), a) r ran e)
+
+      -- its messages may be handed over from then on
+      pub start-posts : Allowed v bad (startStep ∷ h) → (r : Record) (ran : Ran) → startQuestions p z (length journal) used out ≡ found (fresh r ran)
+          → boardAfter (startStep ∷ h) i .outbox ≡ boardAfter h i .outbox ++ ran .made
+      start-posts ((o, inl x), a) r ran e = absurd (not-refused (x .0) (x .1 .0) (x .1 .1) e)
+      start-posts ((o, inr c), a) r ran e =
+          ap (λ (b : Board). b .outbox) (own startStep h ∙ start-entered (boardAfter h i) p journal used c z out ∙ ap (entered (boardAfter h i)) e)
 
       -- "Started and taken mean in an accepted call": right after an accepted start with input z, the board has started with z
       pub start-counts : Allowed v bad (startStep ∷ h) → (r : Record) (ran : Ran) → startQuestions p z (length journal) used out ≡ found (fresh r ran)
@@ -130,7 +161,7 @@ module _ (v : Vote) (plan : Plan) (bad : Set) (f : Shared v plan) where
       }
         where
           same : Refuses (start p z journal used out) ⊎ Accepts v bad i h (boardAfter h i) (start p z journal used out) → p .plan ≡ plan
-          same (inl x) = absurd (not-refused (x .0) (x .1) (x .2) e)
+          same (inl x) = absurd (not-refused (x .0) (x .1 .0) (x .1 .1) e)
           same (inr c) = ap (λ (q : Party). q .plan) (c .same ∙ running-state v plan bad f h a i (m .0 .0) (c .up)) ∙ state-plan v plan bad f h a i (m .0 .0)
 
           x : ℕ
@@ -151,14 +182,28 @@ module _ (v : Vote) (plan : Plan) (bad : Set) (f : Shared v plan) where
       -- the record of an accepted take is its board's newest
       pub take-newest : Allowed v bad (takeStep ∷ h) → (r : Record) (ran : Ran) → takeQuestions p s bytes (length journal) used out ≡ found (fresh r ran)
           → recordsOf (takeStep ∷ h) i ≡ r ∷ recordsOf h i
-      take-newest ((o, inl x), a) r ran e = absurd (not-refused (x .0) (x .1) (x .2) e)
+      take-newest ((o, inl x), a) r ran e = absurd (not-refused (x .0) (x .1 .0) (x .1 .1) e)
       take-newest ((o, inr c), a) r ran e =
           appended a (o .0) (c .0) r ran (take-recorded p s bytes (length journal) used out r ran e .3) (boardAfter (takeStep ∷ h) i)
           (own takeStep h ∙ take-entered (boardAfter h i) p journal used (c .0) s bytes out ∙ ap (entered (boardAfter h i)) e)
 
+      -- and so does an accepted take
+      pub take-makes : Allowed v bad (takeStep ∷ h) → (r : Record) (ran : Ran) → takeQuestions p s bytes (length journal) used out ≡ found (fresh r ran)
+          → madeBy (takeStep ∷ h) i ≡ madeBy h i ++ ran .made
+      take-makes ((o, inl x), a) r ran e = absurd (not-refused (x .0) (x .1 .0) (x .1 .1) e)
+      take-makes ((o, inr c), a) r ran e =
+          appended-makes a (o .0) (c .0) r ran (take-recorded p s bytes (length journal) used out r ran e .3) (recordsOf (takeStep ∷ h) i) (take-newest ((o, inr c), a) r ran e)
+
+      -- its messages may be handed over from then on
+      pub take-posts : Allowed v bad (takeStep ∷ h) → (r : Record) (ran : Ran) → takeQuestions p s bytes (length journal) used out ≡ found (fresh r ran)
+          → boardAfter (takeStep ∷ h) i .outbox ≡ boardAfter h i .outbox ++ ran .made
+      take-posts ((o, inl x), a) r ran e = absurd (not-refused (x .0) (x .1 .0) (x .1 .1) e)
+      take-posts ((o, inr c), a) r ran e =
+          ap (λ (b : Board). b .outbox) (own takeStep h ∙ take-entered (boardAfter h i) p journal used (c .0) s bytes out ∙ ap (entered (boardAfter h i)) e)
+
       -- "A message already held is accepted, with no record": the records stay
       pub take-again : Allowed v bad (takeStep ∷ h) → takeQuestions p s bytes (length journal) used out ≡ found again → recordsOf (takeStep ∷ h) i ≡ recordsOf h i
-      take-again ((o, inl x), a) e = absurd (not-refused (x .0) (x .1) (x .2) e)
+      take-again ((o, inl x), a) e = absurd (not-refused (x .0) (x .1 .0) (x .1 .1) e)
       take-again ((o, inr c), a) e =
           ap kept (own takeStep h ∙ take-entered (boardAfter h i) p journal used (c .0) s bytes out ∙ ap (entered (boardAfter h i)) e)
 
@@ -170,7 +215,7 @@ module _ (v : Vote) (plan : Plan) (bad : Set) (f : Shared v plan) where
           let y : Exactly.One m ≡ Exactly.One (x .0) = sym g ∙ x .1 in
           let w : m ≡ x .0 = cc in
           subst (λ (rs : List Record). List·Memᴰ (Taken s m) rs) (sym (take-newest a r ran e)) (List·Memᴰ·head (ap (Taken s) w ∙ x .2))
-      take-counts ((o, inl x), a) m g again e = absurd (not-refused (x .0) (x .1) (x .2) e)
+      take-counts ((o, inl x), a) m g again e = absurd (not-refused (x .0) (x .1 .0) (x .1 .1) e)
       take-counts ((o, inr c), a) m g again e =
           subst (λ (rs : List Record). List·Memᴰ (Taken s m) rs) (sym (take-again ((o, inr c), a) e))
           (took-state v plan bad f h a i (o .0) s m .1
@@ -199,10 +244,41 @@ module _ (v : Vote) (plan : Plan) (bad : Set) (f : Shared v plan) where
       go running e = (lost .0, ap kept (after running e) ∙ lost .1)
       go down e = (lost .0, ap kept (after down e) ∙ lost .1)
 
+  -- ---- a restore
+
+  -- "Restore gives the party of the whole records": it leaves them as they were, and so what was started, taken and made
+  pub restore-records : (h : History) (i n t own agreement : ℕ) (bytes journal : List ℕ) (out : ℕ) → Allowed v bad (calls i (restore n t own agreement bytes journal out) ∷ h)
+      → recordsOf (calls i (restore n t own agreement bytes journal out) ∷ h) i ≡ recordsOf h i
+  restore-records h i n t seat agreement bytes journal out ((o, inl x), a) = ap kept (refused-nothing h i (restore n t seat agreement bytes journal out) x)
+  restore-records h i n t seat agreement bytes journal out ((o, inr (up, s, ej)), a) =
+      ap kept (own (calls i (restore n t seat agreement bytes journal out)) h ∙ ap (λ (j : List ℕ). afterRestore b j q) ej) ∙ go q refl
+    where
+      b : Board
+      b = boardAfter h i
+
+      x : TiedAfter v plan bad f h i
+      x = tied v plan bad f h a i (o .0)
+
+      q : Found Replay
+      q = restoreQuestions n t seat agreement bytes journal out
+
+      lived-records : kept (afterRestore b (b .journal) (found (livedReplay (newBoard v plan i) (x .records)))) ≡ recordsOf h i
+      lived-records =
+          holds-records (holds-whole (x .records) (take (length (journalBytes (x .records))) (b .journal)) (x .holds .limits) (holds-used (x .holds)))
+          ∙ sym (records-of v plan bad f h a i (o .0))
+
+      go : (y : Found Replay) → q ≡ y → kept (afterRestore b (b .journal) y) ≡ recordsOf h i
+      go (found r) e =
+          ap (λ (y : Replay). kept (afterRestore b (b .journal) (found y)))
+          (restored-found (v .n) (v .t) i (v .agreement) (v .plan) plan (f .boards) (f .faults) (o .0) (f .reads) (x .records) (x .life) (b .journal) (x .holds) out r
+          (sym (λ z. restoreQuestions (s .boards z) (s .faults z) (s .seat z) (s .number z) (s .bytes z) (ej z) out) ∙ e))
+          ∙ lived-records
+      go (refused number place) e = refl
+
   -- ---- handing over
 
   -- what was handed over are the bytes of a message, which they read as
-  handed-one : (h : History) → Allowed v bad h → (i : ℕ) (bytes : List ℕ) → Handed i bytes h
+  pub handed-one : (h : History) → Allowed v bad h → (i : ℕ) (bytes : List ℕ) → Handed i bytes h
       → (i < v .n) × ((m : Message) × (bytes ≡ messageBytes m) × (exactMessage bytes ≡ Exactly.One m))
   handed-one [] a i bytes x = absurd (List·Memᴰ·not-nil x)
   handed-one (s ∷ h) (m, a) i bytes x = go (List·Memᴰ·cases-cons x) (handed-one h a i bytes)

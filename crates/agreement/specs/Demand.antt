@@ -72,6 +72,7 @@ abbrev pub Stands : Plan → ℕ → ℤ → Type 0
 Stands p x z = (x < p .count) × (readingOf p x ≡ z)
 
 -- board i's caller gave it the input z, which is position x, in a start of the list, and the record of a start at x is not lost
+-- Right after each accepted start the position of its record stands for that call's own input (Words, `start-counts`).
 pub record StartedWith (plan : Plan) (h : History) (i x : ℕ) (z : ℤ) : Type 0 where
   pub call : (p : Party) × (journal : List ℕ) × (used : ℕ) × (out : ℕ) × List·Memᴰ (calls i (start p z journal used out)) h
   pub stands : Stands plan x z

@@ -152,13 +152,17 @@ Sound v bad i = (i < v .n) × T (not (bad i))
 abbrev pub Handed : ℕ → List ℕ → History → Type 0
 Handed i bytes h = List·Memᴰ (hands i bytes) h
 
+-- the question with this number refuses the call
+abbrev pub RefusedBy : ℕ → Call → Type 0
+RefusedBy k (set-up n t own agreement plan) = (at : ℕ) × (setUpOf n t own agreement plan .verdict ≡ Verdict.Refused k at)
+RefusedBy k (start p input journal used out) = (at : ℕ) × (startQuestions p input (length journal) used out ≡ refused k at)
+RefusedBy k (take-message p sender bytes journal used out) = (at : ℕ) × (takeQuestions p sender bytes (length journal) used out ≡ refused k at)
+RefusedBy k (read-answer p) = (at : ℕ) × (answeredOf p .verdict ≡ Verdict.Refused k at)
+RefusedBy k (restore n t own agreement plan journal out) = (at : ℕ) × (restoreQuestions n t own agreement plan journal out ≡ refused k at)
+
 -- the call is refused: then it may be given anything, since it changes nothing
 abbrev pub Refuses : Call → Type 0
-Refuses (set-up n t own agreement plan) = (k : ℕ) × (at : ℕ) × (setUpOf n t own agreement plan .verdict ≡ Verdict.Refused k at)
-Refuses (start p input journal used out) = (k : ℕ) × (at : ℕ) × (startQuestions p input (length journal) used out ≡ refused k at)
-Refuses (take-message p sender bytes journal used out) = (k : ℕ) × (at : ℕ) × (takeQuestions p sender bytes (length journal) used out ≡ refused k at)
-Refuses (read-answer p) = (k : ℕ) × (at : ℕ) × (answeredOf p .verdict ≡ Verdict.Refused k at)
-Refuses (restore n t own agreement plan journal out) = (k : ℕ) × (at : ℕ) × (restoreQuestions n t own agreement plan journal out ≡ refused k at)
+Refuses c = (k : ℕ) × RefusedBy k c
 
 -- "each later call gets the record, journal and used length as the call before left them": the lent journal begins with the used bytes
 pub record Continues (b : Board) (p : Party) (journal : List ℕ) (used : ℕ) : Type 0 where

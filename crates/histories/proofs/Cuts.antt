@@ -9,25 +9,20 @@ use Rattle.agreement.specs.History.{boardAfter, down}
 use Rattle.agreement.specs.Demand.{StartedAt}
 use Rattle.histories.specs.Scripts.{restores, historyOf, Concludes}
 use Rattle.histories.specs.Cuts.{vote, plan, bad, lost, back, again, torn, rest, script}
-use Rattle.histories.proofs.Worlds.{passes, boardOf, listed, answerIn, ending}
-use Rattle.histories.proofs.Delivery.{journalOf, startsIn, full, concludes, started, only-there}
+use Rattle.histories.proofs.Worlds.{passes, boardOf, ending}
+use Rattle.histories.proofs.Delivery.{journalOf, startsIn, judge, passed, concludes, started, only-there}
 use Rattle.histories.proofs.Computing.{computing}
 
-passing : passes vote bad script ≡ true
+judged : judge vote plan bad 2 script ≡ record { lawful = true; whole = true; said = Answer.At (pos 2) ∷ Answer.At (pos 2) ∷ [] }
 unfolding computing lost back again torn rest
-passing = refl
-
-delivered : full vote plan bad (ending vote script) ≡ true
-unfolding computing lost back again torn rest
-delivered = refl
-
-answering : listed 0 2 (answerIn vote (ending vote script)) ≡ Answer.At (pos 2) ∷ Answer.At (pos 2) ∷ []
-unfolding computing lost back again torn rest
-answering = refl
+judged = refl
 
 pub conclusion : Concludes vote plan bad (historyOf vote script) (Answer.At (pos 2) ∷ Answer.At (pos 2) ∷ [])
 unfolding computing
-conclusion = concludes vote bad script passing plan (Answer.At (pos 2) ∷ Answer.At (pos 2) ∷ []) refl refl delivered answering
+conclusion = concludes vote plan bad script (Answer.At (pos 2) ∷ Answer.At (pos 2) ∷ []) judged refl refl
+
+passing : passes vote bad script ≡ true
+passing = passed vote plan bad script (Answer.At (pos 2) ∷ Answer.At (pos 2) ∷ []) judged
 
 -- ---- the lost start
 

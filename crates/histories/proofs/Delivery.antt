@@ -2,7 +2,7 @@
 use mathlib.Core.Path.{_≡_, refl, sym, ap, ap₂, _∙_, subst}
 use mathlib.Core.Logic.{_⊎_, inl, inr}
 use mathlib.Core.Bool.{Bool, true, false, not, _&&_, _||_}
-use mathlib.Core.List.{List, [], _∷_, List·Memᴰ, List·Memᴰ·head, List·Memᴰ·tail, List·Memᴰ·not-nil, List·Memᴰ·cases-cons, List·Memᴰ·eq-of-singleton, Memᴰ·cast}
+use mathlib.Core.List.{List, [], _∷_, _++_, List·Memᴰ, List·Memᴰ·head, List·Memᴰ·tail, List·Memᴰ·not-nil, List·Memᴰ·cases-cons, List·Memᴰ·eq-of-singleton, Memᴰ·cast}
 use Prim.Native.Nat.{ℕ, _≤_}
 use native.Mathlib.Omega.{arith}
 use lib.Dec.{T, leb, ltb, eqb, leb→le, eqb→eq}
@@ -21,13 +21,15 @@ use Rattle.message.proofs.RoundTrip.{exact-message-read}
 use Rattle.journal.specs.declared.Record.{Record}
 use Rattle.journal.specs.declared.Record.the-variants.{Start, Taken}
 use Rattle.journal.specs.Records.{recordsFrom}
+use Rattle.party.specs.declared.Party.{Party}
 use Rattle.party.specs.Party.{newParty}
-use Rattle.life.specs.Life.{madeAlong}
+use Rattle.party.specs.Run.{Ran}
+use Rattle.life.specs.Life.{replayed, lived, madeAlong}
 use Rattle.board.specs.declared.Answer.{Answer}
 use Rattle.agreement.specs.History.{Vote, History, Board, boardAfter, Sound, Handed}
 use Rattle.agreement.specs.Demand.{recordsOf, StartedAt, TookFrom, Makes, Complete}
 use Rattle.histories.specs.Scripts.{Action, historyOf, Concludes}
-use Rattle.histories.proofs.Worlds.{Handing, World, boardOf, same, same→, sentBy, sentBy→, sound, →sound, Shows, listed, answerIn, settled, ending, passes, shown, premises-of, answers}
+use Rattle.histories.proofs.Worlds.{Handing, World, boardOf, beginning, acted, worldAfter, same, same→, sentBy, sentBy→, sound, →sound, fits, allFit, Shows, listed, answerIn, settled, ending, passes, shown, premises-of, answers}
 
 -- ---- the tests
 
@@ -52,6 +54,24 @@ unfoldable pub hasTaken : ℕ → Message → List Record → Bool
 hasTaken j m [] = false
 hasTaken j m (r ∷ rs) = isTaken j m r || hasTaken j m rs
 
+-- the party after some records and what their calls made, in one pass
+pub record Along : Type 0 where
+  pub party : Party
+  pub made : List Message
+
+-- what one more call made, after the messages l
+unfoldable pub further : List Message → Ran → Along
+further l ran = record { party = ran .party; made = l ++ ran .made }
+
+-- one more record
+unfoldable pub onward : Along → Record → Along
+onward a r = further (a .made) (replayed (a .party) r)
+
+-- all of them, the latest first
+unfoldable pub along : Party → List Record → Along
+along p [] = record { party = p; made = [] }
+along p (r ∷ rs) = onward (along p rs) r
+
 -- board i handed every one of the messages over
 unfoldable pub allSent : ℕ → List Message → List Handing → Bool
 allSent i [] l = true
@@ -70,13 +90,43 @@ allTaken v bad rs [] = true
 allTaken v bad rs (x ∷ l) = wasTaken v bad rs x && allTaken v bad rs l
 
 abbrev pub fullBoard : Vote → Plan → Set → List Handing → ℕ → List Record → Bool
-fullBoard v plan bad l i rs = hasStart rs && (allSent i (madeAlong (newParty (v .n) (v .t) i (v .agreement) plan) rs) l && allTaken v bad rs l)
+fullBoard v plan bad l i rs = hasStart rs && (allSent i (along (newParty (v .n) (v .t) i (v .agreement) plan) rs .made) l && allTaken v bad rs l)
 
 abbrev pub fullAt : Vote → Plan → Set → World → ℕ → Bool
 fullAt v plan bad w i = not (sound v bad i) || fullBoard v plan bad (w .sent) i (journalOf (boardOf w i))
 
 abbrev pub full : Vote → Plan → Set → World → Bool
 full v plan bad w = leb (v .n) (count (v .n) (fullAt v plan bad w))
+
+-- ---- all tests in one run of the script
+
+pub record Judged : Type 0 where
+  -- every action is allowed
+  pub lawful : Bool
+  -- all is delivered at the end
+  pub whole : Bool
+  -- the answers of the boards 0, 1, .. then
+  pub said : List Answer
+
+-- the test of an action before the judgement of the rest
+unfoldable pub firstThen : Bool → Judged → Judged
+firstThen b j = record { lawful = b && j .lawful; whole = j .whole; said = j .said }
+
+-- what the actions make of the world, with the answers of k boards
+unfoldable pub judging : Vote → Plan → Set → ℕ → World → List Action → Judged
+judging v plan bad k w [] = record { lawful = true; whole = full v plan bad w; said = listed 0 k (answerIn v w) }
+judging v plan bad k w (a ∷ rest) = firstThen (fits v bad w a) (judging v plan bad k (acted v w a) rest)
+
+-- from boards not yet set up
+abbrev pub judge : Vote → Plan → Set → ℕ → List Action → Judged
+judge v plan bad k script = judging v plan bad k (beginning v) script
+
+-- the run gives what the tests give one by one
+judging-tests : (v : Vote) (plan : Plan) (bad : Set) (k : ℕ) (w : World) (script : List Action) → judging v plan bad k w script
+    ≡ record { lawful = allFit v bad w script; whole = full v plan bad (worldAfter v w script); said = listed 0 k (answerIn v (worldAfter v w script)) }
+unfolding judging firstThen allFit worldAfter
+judging-tests v plan bad k w [] = refl
+judging-tests v plan bad k w (a ∷ rest) = ap (firstThen (fits v bad w a)) (judging-tests v plan bad k (acted v w a) rest)
 
 -- ---- what they tell
 
@@ -87,6 +137,12 @@ isStart (Taken s m) = false
 abbrev position : Record → ℕ
 position (Start a x) = x
 position (Taken s m) = 0
+
+-- one pass gives what the records make
+along-lived : (p : Party) (rs : List Record) → along p rs ≡ record { party = lived p rs .party; made = madeAlong p rs }
+unfolding along onward further lived madeAlong
+along-lived p [] = refl
+along-lived p (r ∷ rs) = ap (λ (a : Along). onward a r) (along-lived p rs)
 
 in-starts : (a x : ℕ) (rs : List Record) → List·Memᴰ (Start a x) rs → List·Memᴰ x (startsIn rs)
 unfolding startsIn
@@ -171,7 +227,7 @@ module _ (v : Vote) (plan : Plan) (bad : Set) (w : World) (h : History) (s : Sho
     rs = journalOf (boardAfter h i)
 
     abbrev made : List Message
-    made = madeAlong (newParty (v .n) (v .t) i (v .agreement) plan) rs
+    made = along (newParty (v .n) (v .t) i (v .agreement) plan) rs .made
 
     rest : T (allSent i made (w .sent) && allTaken v bad rs (w .sent))
     rest = T-right (hasStart rs) (allSent i made (w .sent) && allTaken v bad rs (w .sent)) (at-board i o)
@@ -180,7 +236,8 @@ module _ (v : Vote) (plan : Plan) (bad : Set) (w : World) (h : History) (s : Sho
     board-started = hasStart→ rs (T-left (hasStart rs) (allSent i made (w .sent) && allTaken v bad rs (w .sent)) (at-board i o))
 
     board-handed : (m : Message) → Makes v plan h i m → Handed i (messageBytes m) h
-    board-handed m k = s .handed i m (allSent→ i made (w .sent) (T-left (allSent i made (w .sent)) (allTaken v bad rs (w .sent)) rest) m k)
+    board-handed m k = s .handed i m (allSent→ i made (w .sent) (T-left (allSent i made (w .sent)) (allTaken v bad rs (w .sent)) rest) m
+        (subst (λ (l : List Message). List·Memᴰ m l) (sym (ap (λ (a : Along). a .made) (along-lived (newParty (v .n) (v .t) i (v .agreement) plan) rs))) k))
 
     board-took : (j : ℕ) (bytes : List ℕ) → Sound v bad j → Handed j bytes h → (m : Message) × (exactMessage bytes ≡ Exactly.One m) × TookFrom h i j m
     board-took j bytes d k =
@@ -208,11 +265,6 @@ module _ (v : Vote) (bad : Set) (script : List Action) (f : passes v bad script 
   pub complete : (plan : Plan) → full v plan bad (ending v script) ≡ true → Complete v plan bad h
   complete plan g = completed v plan bad (ending v script) h (shown v bad script f) (true→T g)
 
-  -- the premises hold, all is delivered, and these are the answers
-  pub concludes : (plan : Plan) (l : List Answer) → settled v bad ≡ true → planOf (v .plan) ≡ found plan → full v plan bad (ending v script) ≡ true
-      → listed 0 (length l) (answerIn v (ending v script)) ≡ l → Concludes v plan bad h l
-  concludes plan l e g d a = record { premises = premises-of v bad script f plan e g; complete = complete plan d; answer = answers v bad script f l a }
-
   module _ (i : ℕ) where
     abbrev records : List Record
     records = journalOf (boardOf (ending v script) i)
@@ -232,3 +284,21 @@ module _ (v : Vote) (bad : Set) (script : List Action) (f : passes v bad script 
     -- board i took m from board j
     pub took : (j : ℕ) (m : Message) → hasTaken j m records ≡ true → TookFrom h i j m
     took j m e = subst (λ (l : List Record). List·Memᴰ (Taken j m) l) same-records (hasTaken→ j m records (true→T e))
+
+-- a script that is lawful, ends with all delivered, and gives these answers
+module _ (v : Vote) (plan : Plan) (bad : Set) (script : List Action) (l : List Answer) (j : judge v plan bad (length l) script ≡ record { lawful = true; whole = true; said = l }) where
+  tests : _≡_ {A = Judged}
+      (record { lawful = passes v bad script; whole = full v plan bad (ending v script); said = listed 0 (length l) (answerIn v (ending v script)) })
+      (record { lawful = true; whole = true; said = l })
+  tests = sym (judging-tests v plan bad (length l) (beginning v) script) ∙ j
+
+  pub passed : passes v bad script ≡ true
+  passed = ap (λ (x : Judged). x .lawful) tests
+
+  -- the premises hold, all is delivered, and these are the answers
+  pub concludes : settled v bad ≡ true → planOf (v .plan) ≡ found plan → Concludes v plan bad (historyOf v script) l
+  concludes e g = record {
+    premises = premises-of v bad script passed plan e g;
+    complete = complete v bad script passed plan (ap (λ (x : Judged). x .whole) tests);
+    answer = answers v bad script passed l (ap (λ (x : Judged). x .said) tests);
+  }

@@ -7,6 +7,7 @@ use Rattle.agreement.specs.Demand.{Holds, Premises}
 use Rattle.agreement.proofs.Theorem.{demand3}
 use Rattle.histories.specs.Scripts.{historyOf}
 use Rattle.histories.specs.Alone as alone
+use Rattle.histories.specs.Deep as deep
 use Rattle.histories.specs.Cuts as cuts
 use Rattle.histories.specs.Liar as liar
 use Rattle.histories.specs.Neighbours as neighbours
@@ -14,6 +15,7 @@ use Rattle.histories.specs.Grades as grades
 use Rattle.histories.specs.Modes as modes
 use Rattle.histories.specs.Refusals as refusals
 use Rattle.histories.proofs.Alone as alone-run
+use Rattle.histories.proofs.Deep as deep-run
 use Rattle.histories.proofs.Cuts as cuts-run
 use Rattle.histories.proofs.Liar as liar-run
 use Rattle.histories.proofs.Neighbours as neighbours-run
@@ -30,6 +32,9 @@ alone-holds = holding (alone-run.conclusion .premises)
 
 pub largest-holds : Holds (alone.vote maxNumber) alone.plan alone.bad (historyOf (alone.vote maxNumber) (alone.script maxNumber))
 largest-holds = holding (alone-run.conclusion-largest .premises)
+
+pub deep-holds : Holds deep.vote deep.plan deep.bad (historyOf deep.vote deep.script)
+deep-holds = holding (deep-run.conclusion .premises)
 
 pub cuts-holds : Holds cuts.vote cuts.plan cuts.bad (historyOf cuts.vote cuts.script)
 cuts-holds = holding (cuts-run.conclusion .premises)

@@ -13,24 +13,19 @@ use Rattle.agreement.specs.Demand.{answerNow, TookFrom}
 use Rattle.histories.specs.Scripts.{says, historyOf, Concludes}
 use Rattle.histories.specs.Liar.{vote, plan, bad, opening, lie, early, late, fast, script}
 use Rattle.histories.proofs.Worlds.{passes, boardOf, listed, answerIn, ending, answers}
-use Rattle.histories.proofs.Delivery.{journalOf, hasTaken, full, concludes, took}
+use Rattle.histories.proofs.Delivery.{journalOf, hasTaken, judge, passed, concludes, took}
 use Rattle.histories.proofs.Computing.{computing}
 
-passing : passes vote bad script ≡ true
+judged : judge vote plan bad 3 script ≡ record { lawful = true; whole = true; said = Answer.At (pos 2) ∷ Answer.At (pos 3) ∷ Answer.At (pos 2) ∷ [] }
 unfolding computing opening lie early late
-passing = refl
-
-delivered : full vote plan bad (ending vote script) ≡ true
-unfolding computing opening lie early late
-delivered = refl
-
-answering : listed 0 3 (answerIn vote (ending vote script)) ≡ Answer.At (pos 2) ∷ Answer.At (pos 3) ∷ Answer.At (pos 2) ∷ []
-unfolding computing opening lie early late
-answering = refl
+judged = refl
 
 pub conclusion : Concludes vote plan bad (historyOf vote script) (Answer.At (pos 2) ∷ Answer.At (pos 3) ∷ Answer.At (pos 2) ∷ [])
 unfolding computing
-conclusion = concludes vote bad script passing plan (Answer.At (pos 2) ∷ Answer.At (pos 3) ∷ Answer.At (pos 2) ∷ []) refl refl delivered answering
+conclusion = concludes vote plan bad script (Answer.At (pos 2) ∷ Answer.At (pos 3) ∷ Answer.At (pos 2) ∷ []) judged refl refl
+
+passing : passes vote bad script ≡ true
+passing = passed vote plan bad script (Answer.At (pos 2) ∷ Answer.At (pos 3) ∷ Answer.At (pos 2) ∷ []) judged
 
 -- ---- what board 3 says has an effect
 

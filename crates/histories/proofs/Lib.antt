@@ -2,6 +2,7 @@ pub mod Worlds
 pub mod Delivery
 pub mod Computing
 pub mod Alone
+pub mod Deep
 pub mod Cuts
 pub mod Liar
 pub mod Neighbours

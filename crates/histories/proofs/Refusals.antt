@@ -9,9 +9,9 @@ use Rattle.message.specs.declared.Body.the-variants.{FirstEcho}
 use Rattle.board.specs.declared.Answer.{Answer}
 use Rattle.agreement.specs.History.{boardAfter, down}
 use Rattle.agreement.specs.Demand.{answerNow, StartedAt, Premises}
-use Rattle.histories.specs.Scripts.{says, historyOf}
+use Rattle.histories.specs.Scripts.{says, historyOf, Refusing}
 use Rattle.histories.specs.Refusals.{vote, plan, bad, opening, back, lost, again, rubbish, rest, early, script}
-use Rattle.histories.proofs.Worlds.{passes, boardOf, listed, answerIn, ending, answers, premises-of}
+use Rattle.histories.proofs.Worlds.{passes, boardOf, listed, answerIn, ending, answers, premises-of, refusals}
 use Rattle.histories.proofs.Delivery.{journalOf, startsIn, started, only-there}
 use Rattle.histories.proofs.Computing.{computing}
 
@@ -57,8 +57,13 @@ started-2 = started vote bad script passing 1 2 starts-of-1
 pub only-2 : (x : ℕ) → StartedAt (historyOf vote script) 1 x → x ≡ 2
 only-2 = only-there vote bad script passing 1 2 starts-of-1
 
--- ---- the refused calls: board 0's journal has its start only
+-- ---- the refused calls
 
+-- each is refused by the question that the script names
+pub by-question : Refusing vote [] script
+by-question = refusals vote bad script passing
+
+-- board 0's journal has its start only
 pub untouched : boardAfter (historyOf vote ((early ++ again) ++ rubbish)) 0 .journal ≡ 1 ∷ 1 ∷ 2 ∷ []
 unfolding computing opening back lost again rubbish
 untouched = refl

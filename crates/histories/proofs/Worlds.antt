@@ -24,9 +24,9 @@ use Rattle.message.proofs.RoundTrip.{body-same}
 use Rattle.board.specs.declared.Answer.{Answer}
 use Rattle.board.specs.Calls.{setUpOf, startQuestions, takeQuestions, answeredOf}
 use Rattle.board.specs.Restore.{restoreQuestions}
-use Rattle.agreement.specs.History.{Vote, Call, set-up, start, take-message, read-answer, restore, Step, History, Stage, waiting, running, down, Board, unborn, calls, hands, cut, whose, afterOwn, boardAfter, Sound, Handed, Refuses, Continues, Ours, May, Allowed}
+use Rattle.agreement.specs.History.{Vote, Call, set-up, start, take-message, read-answer, restore, Step, History, Stage, waiting, running, down, Board, unborn, calls, hands, cut, whose, afterOwn, boardAfter, Sound, Handed, RefusedBy, Continues, Ours, May, Allowed}
 use Rattle.agreement.specs.Demand.{partyBy, answerNow, Premises}
-use Rattle.histories.specs.Scripts.{Action, sets-up, starts, takes, reads, sends, cuts, restores, tries, actor, lent, stepOf, followed, historyOf}
+use Rattle.histories.specs.Scripts.{Action, sets-up, starts, takes, reads, sends, cuts, restores, tries, actor, lent, stepOf, followed, historyOf, saying, RefusedIn, Refusing}
 
 -- ---- all boards, and what was handed over
 
@@ -52,7 +52,7 @@ sentWith l (reads i) = l
 sentWith l (sends i m) = record { by = i; message = m } ∷ l
 sentWith l (cuts i k) = l
 sentWith l (restores i) = l
-sentWith l (tries i c) = l
+sentWith l (tries i k c) = l
 
 abbrev pub acted : Vote → World → Action → World
 acted v w a = record {
@@ -90,21 +90,21 @@ isRunning waiting = false
 isRunning running = true
 isRunning down = false
 
-abbrev pub refusal : Verdict → Bool
-refusal Verdict.Accepted = false
-refusal (Verdict.Refused number place) = true
+abbrev pub refusal : ℕ → Verdict → Bool
+refusal k Verdict.Accepted = false
+refusal k (Verdict.Refused number place) = eqb number k
 
-abbrev pub notFound : {A : Type 0} → Found A → Bool
-notFound (found x) = false
-notFound (refused number place) = true
+abbrev pub notFound : {A : Type 0} → ℕ → Found A → Bool
+notFound k (found x) = false
+notFound k (refused number place) = eqb number k
 
--- the call is refused
-abbrev pub isRefused : Call → Bool
-isRefused (set-up n t own agreement plan) = refusal (setUpOf n t own agreement plan .verdict)
-isRefused (start p input journal used out) = notFound (startQuestions p input (length journal) used out)
-isRefused (take-message p sender bytes journal used out) = notFound (takeQuestions p sender bytes (length journal) used out)
-isRefused (read-answer p) = refusal (answeredOf p .verdict)
-isRefused (restore n t own agreement plan journal out) = notFound (restoreQuestions n t own agreement plan journal out)
+-- question k refuses the call
+abbrev pub isRefused : ℕ → Call → Bool
+isRefused k (set-up n t own agreement plan) = refusal k (setUpOf n t own agreement plan .verdict)
+isRefused k (start p input journal used out) = notFound k (startQuestions p input (length journal) used out)
+isRefused k (take-message p sender bytes journal used out) = notFound k (takeQuestions p sender bytes (length journal) used out)
+isRefused k (read-answer p) = refusal k (answeredOf p .verdict)
+isRefused k (restore n t own agreement plan journal out) = notFound k (restoreQuestions n t own agreement plan journal out)
 
 abbrev pub fitsBoard : Vote → Set → List Handing → Board → Action → Bool
 fitsBoard v bad l b (sets-up i) = isWaiting (b .stage)
@@ -114,7 +114,7 @@ fitsBoard v bad l b (reads i) = isRunning (b .stage)
 fitsBoard v bad l b (sends i m) = isRunning (b .stage) && among m (b .outbox)
 fitsBoard v bad l b (cuts i k) = leb (b .guarded) k
 fitsBoard v bad l b (restores i) = not (isWaiting (b .stage))
-fitsBoard v bad l b (tries i c) = isRefused (c b)
+fitsBoard v bad l b (tries i k c) = isRefused k (c b)
 
 abbrev pub fits : Vote → Set → World → Action → Bool
 fits v bad w a = sound v bad (actor a) && fitsBoard v bad (w .sent) (boardOf w (actor a)) a
@@ -125,11 +125,8 @@ allFit v bad w (a ∷ rest) = fits v bad w a && allFit v bad (acted v w a) rest
 
 -- ---- what the tests tell
 
-abbrev pub messageWith : ℕ → ℕ → Body → Message
-messageWith a l b = record { number = a; level = l; body = b }
-
-message-same : {a x l y : ℕ} {b c : Body} → a ≡ x → l ≡ y → b ≡ c → messageWith a l b ≡ messageWith x y c
-message-same {a} {x} {l} {y} {b} {c} e f g = ap (λ (i : ℕ). messageWith i l b) e ∙ ap (λ (i : ℕ). messageWith x i b) f ∙ ap (messageWith x y) g
+message-same : {a x l y : ℕ} {b c : Body} → a ≡ x → l ≡ y → b ≡ c → saying a l b ≡ saying x y c
+message-same {a} {x} {l} {y} {b} {c} e f g = ap (λ (i : ℕ). saying i l b) e ∙ ap (λ (i : ℕ). saying x i b) f ∙ ap (saying x y) g
 
 -- a body is its kind and its value
 bodies-same : (b c : Body) → kindOf b ≡ kindOf c → valueOf b ≡ valueOf c → b ≡ c
@@ -195,20 +192,20 @@ running→ down h = absurd h
 not-waiting→ : (s : Stage) → T (not (isWaiting s)) → s ≡ waiting → ⊥
 not-waiting→ s h e = subst (λ (x : Stage). T (not (isWaiting x))) e h
 
-refusal→ : (x : Verdict) → T (refusal x) → (k : ℕ) × (at : ℕ) × (x ≡ Verdict.Refused k at)
-refusal→ Verdict.Accepted h = absurd h
-refusal→ (Verdict.Refused k at) h = (k, at, refl)
+refusal→ : (k : ℕ) (x : Verdict) → T (refusal k x) → (at : ℕ) × (x ≡ Verdict.Refused k at)
+refusal→ k Verdict.Accepted h = absurd h
+refusal→ k (Verdict.Refused number at) h = (at, ap (λ (y : ℕ). Verdict.Refused y at) (eqb→eq number k h))
 
-notFound→ : {A : Type 0} (x : Found A) → T (notFound x) → (k : ℕ) × (at : ℕ) × (x ≡ refused k at)
-notFound→ (found x) h = absurd h
-notFound→ (refused k at) h = (k, at, refl)
+notFound→ : {A : Type 0} (k : ℕ) (x : Found A) → T (notFound k x) → (at : ℕ) × (x ≡ refused k at)
+notFound→ k (found x) h = absurd h
+notFound→ k (refused number at) h = (at, ap (λ (y : ℕ). refused y at) (eqb→eq number k h))
 
-isRefused→ : (c : Call) → T (isRefused c) → Refuses c
-isRefused→ (set-up n t own agreement plan) h = refusal→ (setUpOf n t own agreement plan .verdict) h
-isRefused→ (start p input journal used out) h = notFound→ (startQuestions p input (length journal) used out) h
-isRefused→ (take-message p sender bytes journal used out) h = notFound→ (takeQuestions p sender bytes (length journal) used out) h
-isRefused→ (read-answer p) h = refusal→ (answeredOf p .verdict) h
-isRefused→ (restore n t own agreement plan journal out) h = notFound→ (restoreQuestions n t own agreement plan journal out) h
+isRefused→ : (k : ℕ) (c : Call) → T (isRefused k c) → RefusedBy k c
+isRefused→ k (set-up n t own agreement plan) h = refusal→ k (setUpOf n t own agreement plan .verdict) h
+isRefused→ k (start p input journal used out) h = notFound→ k (startQuestions p input (length journal) used out) h
+isRefused→ k (take-message p sender bytes journal used out) h = notFound→ k (takeQuestions p sender bytes (length journal) used out) h
+isRefused→ k (read-answer p) h = refusal→ k (answeredOf p .verdict) h
+isRefused→ k (restore n t own agreement plan journal out) h = notFound→ k (restoreQuestions n t own agreement plan journal out) h
 
 -- ---- a world shows a history
 
@@ -227,7 +224,7 @@ whose-action v b (reads j) = refl
 whose-action v b (sends j m) = refl
 whose-action v b (cuts j k) = refl
 whose-action v b (restores j) = refl
-whose-action v b (tries j c) = refl
+whose-action v b (tries j k c) = refl
 
 module _ (s : Step) (i : ℕ) (b : Board) where
   -- a step moves the board whose it is
@@ -291,7 +288,7 @@ module _ (v : Vote) (l : List Handing) (h : History) (b : Board) where
       go (inr r) = List·Memᴰ·tail (f i m r)
   handed-more f (cuts j k) i m x = List·Memᴰ·tail (f i m x)
   handed-more f (restores j) i m x = List·Memᴰ·tail (f i m x)
-  handed-more f (tries j c) i m x = List·Memᴰ·tail (f i m x)
+  handed-more f (tries j k c) i m x = List·Memᴰ·tail (f i m x)
 
   module _ (f : (i : ℕ) (bytes : List ℕ) → Handed i bytes h → Known l i bytes) where
     known-still : (i : ℕ) (bytes : List ℕ) (s : Step) → T (not (handsOver s)) → (hands i bytes ≡ s) ⊎ Handed i bytes h → Known l i bytes
@@ -313,7 +310,7 @@ module _ (v : Vote) (l : List Handing) (h : History) (b : Board) where
         go (inr r) = let k = f i bytes r in (k .0, List·Memᴰ·tail (k .1), k .2, k .3)
     known-more (cuts j k) i bytes x = known-still i bytes (stepOf v b (cuts j k)) tt (List·Memᴰ·cases-cons x)
     known-more (restores j) i bytes x = known-still i bytes (stepOf v b (restores j)) tt (List·Memᴰ·cases-cons x)
-    known-more (tries j c) i bytes x = known-still i bytes (stepOf v b (tries j c)) tt (List·Memᴰ·cases-cons x)
+    known-more (tries j k c) i bytes x = known-still i bytes (stepOf v b (tries j k c)) tt (List·Memᴰ·cases-cons x)
 
 shows-action : (v : Vote) (w : World) (h : History) (a : Action) → Shows v w h → actor a < v .n → Shows v (acted v w a) (stepOf v (boardAfter h (actor a)) a ∷ h)
 unfolding boardAfter
@@ -382,7 +379,18 @@ module _ (v : Vote) (bad : Set) (w : World) (h : History) (s : Shows v w h) wher
   may-board b (cuts i k) e o f = (o, subst (λ (c : Board). c .guarded ≤ k) e (leb→le (b .guarded) k f))
   may-board b (restores i) e o f =
       (o, inr (λ x. not-waiting→ (b .stage) f (ap (λ (c : Board). c .stage) e ∙ x), ours i, ap (λ (c : Board). c .journal) e))
-  may-board b (tries i c) e o f = (o, inl (isRefused→ (c b) f))
+  may-board b (tries i k c) e o f = (o, inl (k, isRefused→ k (c b) f))
+
+  -- an action that is to be refused is
+  refused-in : (b : Board) (a : Action) → T (fitsBoard v bad (w .sent) b a) → RefusedIn b a
+  refused-in b (sets-up i) f = tt
+  refused-in b (starts i z) f = tt
+  refused-in b (takes i j m) f = tt
+  refused-in b (reads i) f = tt
+  refused-in b (sends i m) f = tt
+  refused-in b (cuts i k) f = tt
+  refused-in b (restores i) f = tt
+  refused-in b (tries i k c) f = isRefused→ k (c b) f
 
   may : (a : Action) → T (fits v bad w a) → May v bad (stepOf v (boardAfter h (actor a)) a) h
   may a f =
@@ -391,19 +399,25 @@ module _ (v : Vote) (bad : Set) (w : World) (h : History) (s : Shows v w h) wher
       (sound→ v bad (actor a) (T-left (sound v bad (actor a)) (fitsBoard v bad (w .sent) (boardOf w (actor a)) a) f))
       (T-right (sound v bad (actor a)) (fitsBoard v bad (w .sent) (boardOf w (actor a)) a) f))
 
--- both at once, along the script
+-- all at once, along the script
 followed-fits : (v : Vote) (bad : Set) (w : World) (h : History) (script : List Action) → Shows v w h → Allowed v bad h → T (allFit v bad w script)
-    → Shows v (worldAfter v w script) (followed v h script) × Allowed v bad (followed v h script)
-unfolding allFit worldAfter followed
-followed-fits v bad w h [] s p f = (s, p)
+    → Shows v (worldAfter v w script) (followed v h script) × Allowed v bad (followed v h script) × Refusing v h script
+unfolding allFit worldAfter followed Refusing
+followed-fits v bad w h [] s p f = (s, p, tt)
 followed-fits v bad w h (a ∷ rest) s p f =
-    followed-fits v bad (acted v w a) (stepOf v (boardAfter h (actor a)) a ∷ h) rest
+    let r = followed-fits v bad (acted v w a) (stepOf v (boardAfter h (actor a)) a ∷ h) rest
     (shows-action v w h a s (sound→ v bad (actor a) (T-left (sound v bad (actor a)) (fitsBoard v bad (w .sent) (boardOf w (actor a)) a) first) .0))
     (may v bad w h s a first, p)
-    (T-right (fits v bad w a) (allFit v bad (acted v w a) rest) f)
+    (T-right (fits v bad w a) (allFit v bad (acted v w a) rest) f) in
+    (r .0, r .1, (refused-now, r .2))
   where
     first : T (fits v bad w a)
     first = T-left (fits v bad w a) (allFit v bad (acted v w a) rest) f
+
+    refused-now : RefusedIn (boardAfter h (actor a)) a
+    refused-now =
+        subst (λ (b : Board). RefusedIn b a) (s .board (actor a))
+        (refused-in v bad w h s (boardOf w (actor a)) a (T-right (sound v bad (actor a)) (fitsBoard v bad (w .sent) (boardOf w (actor a)) a) first))
 
 -- the world after a script
 abbrev pub ending : Vote → List Action → World
@@ -437,6 +451,10 @@ module _ (v : Vote) (bad : Set) (script : List Action) (f : passes v bad script 
 
   pub allowed : Allowed v bad (historyOf v script)
   allowed = followed-fits v bad (beginning v) [] script (shows-beginning v) tt (true→T f) .1
+
+  -- every call that is to be refused is refused by its question
+  pub refusals : Refusing v [] script
+  refusals = followed-fits v bad (beginning v) [] script (shows-beginning v) tt (true→T f) .2
 
   -- with settings and a plan that pass, demand 3's premises hold
   pub premises-of : (plan : Plan) → settled v bad ≡ true → planOf (v .plan) ≡ found plan → Premises v plan bad (historyOf v script)

@@ -24,12 +24,12 @@ unfoldable pub script : ℕ → List Action
 script a =
     sets-up 0
     ∷ starts 0 (pos 1)
-    ∷ sends 0 (saying a (FirstEcho 0))
-    ∷ takes 0 0 (saying a (FirstEcho 0))
-    ∷ sends 0 (saying a (FirstProposal 0))
-    ∷ takes 0 0 (saying a (FirstProposal 0))
-    ∷ sends 0 (saying a (SecondEcho 0))
-    ∷ takes 0 0 (saying a (SecondEcho 0))
-    ∷ sends 0 (saying a (SecondProposal 0))
-    ∷ takes 0 0 (saying a (SecondProposal 0))
+    ∷ sends 0 (saying a 0 (FirstEcho 0))
+    ∷ takes 0 0 (saying a 0 (FirstEcho 0))
+    ∷ sends 0 (saying a 0 (FirstProposal 0))
+    ∷ takes 0 0 (saying a 0 (FirstProposal 0))
+    ∷ sends 0 (saying a 0 (SecondEcho 0))
+    ∷ takes 0 0 (saying a 0 (SecondEcho 0))
+    ∷ sends 0 (saying a 0 (SecondProposal 0))
+    ∷ takes 0 0 (saying a 0 (SecondProposal 0))
     ∷ []

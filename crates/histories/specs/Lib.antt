@@ -1,5 +1,6 @@
 pub mod Scripts
 pub mod Alone
+pub mod Deep
 pub mod Cuts
 pub mod Liar
 pub mod Neighbours

@@ -32,18 +32,18 @@ startAt z b = start (b .party) z (lent (b .journal)) (length (b .journal)) outgo
 abbrev pub takeFrom : ℕ → Message → Board → Call
 takeFrom s m b = take-message (b .party) s (messageBytes m) (lent (b .journal)) (length (b .journal)) outgoingSize
 
--- refused: a set-up with too many faults (question 2), a reading before any set-up (19); after the set-up one with 17 boards (1), and a start off the plan (12)
+-- refused: a set-up with too many faults, a reading before any set-up; after the set-up one with 17 boards, a start off the plan, and a second start
 unfoldable pub opening : List Action
 opening =
-    tries 0 (λ _. set-up 4 2 0 1 (2 ∷ 0 ∷ 2 ∷ []))
-    ∷ tries 0 (λ b. read-answer (b .party))
+    tries 0 2 (λ _. set-up 4 2 0 1 (2 ∷ 0 ∷ 2 ∷ []))
+    ∷ tries 0 19 (λ b. read-answer (b .party))
     ∷ sets-up 0
     ∷ sets-up 1
     ∷ sets-up 2
-    ∷ tries 0 (λ _. set-up 17 0 0 1 (2 ∷ 0 ∷ 2 ∷ []))
-    ∷ tries 0 (startAt (pos 3))
+    ∷ tries 0 1 (λ _. set-up 17 0 0 1 (2 ∷ 0 ∷ 2 ∷ []))
+    ∷ tries 0 12 (startAt (pos 3))
     ∷ starts 0 (pos 2)
-    ∷ tries 0 (startAt (pos 0))
+    ∷ tries 0 13 (startAt (pos 0))
     ∷ sends 0 (says (FirstEcho 2))
     ∷ []
 
@@ -62,22 +62,22 @@ lost =
     ∷ cuts 1 1
     ∷ []
 
--- refused: a start before the restore (19), a restore with a byte of the plan missing (4); then it starts at 2
+-- refused: a start before the restore, a restore with a byte of the plan missing; then it starts at 2
 unfoldable pub again : List Action
 again =
-    tries 1 (startAt (pos 2))
-    ∷ tries 1 (λ b. restore 4 1 1 1 (2 ∷ 0 ∷ []) (b .journal) outgoingSize)
+    tries 1 19 (startAt (pos 2))
+    ∷ tries 1 4 (λ b. restore 4 1 1 1 (2 ∷ 0 ∷ []) (b .journal) outgoingSize)
     ∷ restores 1
     ∷ starts 1 (pos 2)
     ∷ sends 1 (says (FirstEcho 2))
     ∷ []
 
--- refused: a message of another vote that board 1 never handed over (16), one from a board that is none of the four (14), and three bytes of a message (15)
+-- refused: a message of another vote that board 1 never handed over, one from a board that is none of the four, and three bytes of a message
 unfoldable pub rubbish : List Action
 rubbish =
-    tries 0 (takeFrom 1 (saying 2 (FirstEcho 2)))
-    ∷ tries 0 (takeFrom 4 (says (FirstEcho 2)))
-    ∷ tries 0 (λ b. take-message (b .party) 1 (1 ∷ 0 ∷ 1 ∷ []) (lent (b .journal)) (length (b .journal)) outgoingSize)
+    tries 0 16 (takeFrom 1 (saying 2 0 (FirstEcho 2)))
+    ∷ tries 0 14 (takeFrom 4 (says (FirstEcho 2)))
+    ∷ tries 0 15 (λ b. take-message (b .party) 1 (1 ∷ 0 ∷ 1 ∷ []) (lent (b .journal)) (length (b .journal)) outgoingSize)
     ∷ []
 
 -- boards 0, 1 and 3 make every quorum

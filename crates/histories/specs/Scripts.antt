@@ -11,15 +11,15 @@ use Rattle.message.specs.declared.Body.{Body}
 use Rattle.message.specs.declared.Message.{Message}
 use Rattle.message.specs.Message.{messageBytes}
 use Rattle.board.specs.declared.Answer.{Answer}
-use Rattle.agreement.specs.History.{Vote, Call, Step, calls, hands, cut, set-up, start, take-message, read-answer, restore, History, Board, boardAfter}
+use Rattle.agreement.specs.History.{Vote, Call, Step, calls, hands, cut, set-up, start, take-message, read-answer, restore, History, Board, boardAfter, RefusedBy}
 use Rattle.agreement.specs.Demand.{answerNow, Complete, Premises}
 
--- a message at level 0 of the vote with this number, and of vote 1
-abbrev pub saying : ℕ → Body → Message
-saying a b = record { number = a; level = 0; body = b }
+-- a message of the vote with this number at this level, and one of vote 1 at level 0
+abbrev pub saying : ℕ → ℕ → Body → Message
+saying a l b = record { number = a; level = l; body = b }
 
 abbrev pub says : Body → Message
-says b = saying 1 b
+says b = saying 1 0 b
 
 -- what a sound board does, its number first
 pub data Action : Type 0 where
@@ -34,8 +34,8 @@ pub data Action : Type 0 where
   -- a cut leaves so many bytes of the journal
   cuts : ℕ → ℕ → Action
   restores : ℕ → Action
-  -- a call that is refused, given anything; what the board has may be used for it
-  tries : ℕ → (Board → Call) → Action
+  -- a call that the question with this number refuses, given anything; what the board has may be used for it
+  tries : ℕ → ℕ → (Board → Call) → Action
 
 abbrev pub actor : Action → ℕ
 actor (sets-up i) = i
@@ -45,7 +45,7 @@ actor (reads i) = i
 actor (sends i m) = i
 actor (cuts i k) = i
 actor (restores i) = i
-actor (tries i c) = i
+actor (tries i k c) = i
 
 -- the lent journal: the used bytes, and room for one more record
 abbrev pub lent : List ℕ → List ℕ
@@ -60,12 +60,28 @@ stepOf v b (reads i) = calls i (read-answer (b .party))
 stepOf v b (sends i m) = hands i (messageBytes m)
 stepOf v b (cuts i k) = cut i k
 stepOf v b (restores i) = calls i (restore (v .n) (v .t) i (v .agreement) (v .plan) (b .journal) outgoingSize)
-stepOf v b (tries i c) = calls i (c b)
+stepOf v b (tries i k c) = calls i (c b)
 
 -- the history h and then the actions
 unfoldable pub followed : Vote → History → List Action → History
 followed v h [] = h
 followed v h (a ∷ rest) = followed v (stepOf v (boardAfter h (actor a)) a ∷ h) rest
+
+-- where an action of a board that is b before it is a call to be refused, it is
+abbrev pub RefusedIn : Board → Action → Type 0
+RefusedIn b (sets-up i) = Unit {0}
+RefusedIn b (starts i z) = Unit {0}
+RefusedIn b (takes i s m) = Unit {0}
+RefusedIn b (reads i) = Unit {0}
+RefusedIn b (sends i m) = Unit {0}
+RefusedIn b (cuts i k) = Unit {0}
+RefusedIn b (restores i) = Unit {0}
+RefusedIn b (tries i k c) = RefusedBy k (c b)
+
+-- every call of the actions after h that is to be refused is refused by its question
+unfoldable pub Refusing : Vote → History → List Action → Type 0
+Refusing v h [] = Unit {0}
+Refusing v h (a ∷ rest) = RefusedIn (boardAfter h (actor a)) a × Refusing v (stepOf v (boardAfter h (actor a)) a ∷ h) rest
 
 -- "from boards not yet set up"
 abbrev pub historyOf : Vote → List Action → History
