@@ -9,14 +9,11 @@ use Rattle.base.specs.Limits.{maxBoards, maxDegree}
 use Rattle.base.specs.Sets.{count}
 use Rattle.message.specs.Message.{noneValue}
 use Rattle.message.specs.declared.Body.the-variants.{FirstEcho, FirstProposal, SecondEcho, SecondProposal, Side, Centre}
-use Rattle.senders.specs.Senders.{union, size, unionOver}
+use Rattle.senders.specs.Senders.{union, unionOver}
+pub use Rattle.counts.specs.Counts.{atLeast}
 use Rattle.level.specs.declared.Level.{Level}
 use Rattle.level.specs.declared.Context.{Context}
 use Rattle.level.specs.Level.{senders, notYet}
-
--- at least k senders
-abbrev pub atLeast : ℕ → ℕ → Bool
-atLeast k m = leb k (size m)
 
 -- the three thresholds: t + 1, 2t + 1, n - t
 abbrev pub weak : Context → ℕ

@@ -6,7 +6,6 @@ ghost use Rattle.message.specs.Message.{bodyInTable};
 ghost use Rattle.level.specs.Level.{blankLevel, withHeard, held};
 ghost use Rattle.level.specs.Rules;
 
-mod counts;
 mod rules;
 
 // Where the sets of senders of each kind of message begin: that of value v is v places on.
@@ -19,18 +18,12 @@ const SECOND_PROPOSALS: usize = 50;
 const SIDES: usize = 66;
 
 const CENTRES: usize = 82;
-// How many messages differ at a level: one set of senders for each.
-pub const SLOTS: usize = 83;
-// The values of an echo: 0 to 15, and none.
-const VALUES: usize = 17;
 // The sets of senders of none among the second echoes, and of side 1.
 const NONE_SECOND_ECHO: usize = 49;
 
 const FIRST_SIDE: usize = 67;
 // None, as a value of a level's fields.
 const NONE: u8 = 16;
-// The place of none among the values.
-const NONE_PLACE: usize = 16;
 // A value that is not there yet.
 pub const NOT_YET: u8 = 17;
 // An output that is not there yet.
@@ -38,7 +31,7 @@ pub const NO_OUTPUT: u32 = 65536;
 
 pub struct Level {
     // the senders of each message of this level, by its slot
-    pub sets: [u16; SLOTS],
+    pub sets: [u16; counts::SLOTS],
     // has the board entered the level, by which side of the level above (0 at level 0), and at which position?
     pub entered: bool,
     pub side: u8,
@@ -51,7 +44,7 @@ pub struct Level {
     // the first result, none, or NOT_YET
     pub first: u8,
     // second echoes made, by value
-    pub echoed: [bool; VALUES],
+    pub echoed: [bool; counts::VALUES],
     // the second proposal made, or NOT_YET
     pub second_proposal: u8,
     // the (second) result's value, none, or NOT_YET; a value's grade is 2 if sure, else 1
@@ -127,7 +120,7 @@ impl Level {
         ensures { λ r. ⌜ r ≡ blankLevel ⌝ }
     {
         Level {
-            sets: [0; SLOTS],
+            sets: [0; counts::SLOTS],
             entered: false,
             side: 0,
             position: 0,
@@ -135,7 +128,7 @@ impl Level {
             echoed_none: false,
             proposal: NOT_YET,
             first: NOT_YET,
-            echoed: [false; VALUES],
+            echoed: [false; counts::VALUES],
             second_proposal: NOT_YET,
             result: NOT_YET,
             sure: false,

@@ -13,7 +13,6 @@ use crate::NOT_YET;
 use crate::SECOND_ECHOES;
 use crate::SECOND_PROPOSALS;
 use crate::applies;
-use crate::counts::candidate;
 use message::Body;
 ghost use mathlib.Core.Path.{_≡_};
 ghost use mathlib.Core.Bool.{false, _&&_};
@@ -55,7 +54,8 @@ impl Level {
                 effect: Effect::Nothing,
             };
         }
-        if !senders::reaches(self.other_echoes(c), c.t + 1) {
+        let others = counts::other_echoes(&self.sets, c.degree as usize, c.port as usize);
+        if !senders::reaches(others, c.t + 1) {
             return Applied {
                 level: self,
                 effect: Effect::Nothing,
@@ -81,8 +81,9 @@ impl Level {
                 effect: Effect::Nothing,
             };
         }
-        let v = self.first_proposable(c);
-        if (c.degree as usize) < v {
+        let d = c.degree as usize;
+        let v = counts::first_proposable(&self.sets, d, c.t);
+        if d < v {
             return Applied {
                 level: self,
                 effect: Effect::Nothing,
@@ -110,7 +111,12 @@ impl Level {
             };
         }
         let d = c.degree as usize;
-        let v = self.first_reaching(FIRST_PROPOSALS, d + 1, c.n - c.t);
+        let v = counts::first_reaching(
+            &self.sets,
+            FIRST_PROPOSALS,
+            d + 1,
+            counts::quorum(c.n, c.t),
+        );
         let mut l = self;
         if v <= d {
             l.first = v as u8;
@@ -119,7 +125,7 @@ impl Level {
                 effect: Effect::Quiet,
             };
         }
-        if self.split(c) {
+        if counts::split(&self.sets, d, c.t) {
             l.first = NONE;
             return Applied {
                 level: l,
@@ -137,14 +143,14 @@ impl Level {
         requires { ⌜ InLimits c self ⌝ }
         ensures { λ r. ⌜ r ≡ Rules.rule5 c self ⌝ }
     {
-        let first = self.first;
-        if first == NOT_YET {
+        let w = self.first;
+        if w == NOT_YET {
             return Applied {
                 level: self,
                 effect: Effect::Nothing,
             };
         }
-        let i = first as usize;
+        let i = w as usize;
         if self.echoed[i] {
             return Applied {
                 level: self,
@@ -153,7 +159,7 @@ impl Level {
         }
         let mut l = self;
         l.echoed[i] = true;
-        let b = Body::SecondEcho(first);
+        let b = Body::SecondEcho(w);
         Applied {
             level: l,
             effect: Effect::Send(b),
@@ -172,17 +178,19 @@ impl Level {
             };
         }
         let d = c.degree as usize;
-        let i = self.first_unechoed(c);
+        let echoed = self.echoed;
+        let i = counts::first_unechoed(&self.sets, &echoed, SECOND_ECHOES, d, c.t + 1);
         if d + 2 <= i {
             return Applied {
                 level: self,
                 effect: Effect::Nothing,
             };
         }
-        let w = candidate(d, i);
+        let w = counts::candidate(d, i);
         let mut l = self;
         l.echoed[w] = true;
-        let b = Body::SecondEcho(w as u8);
+        let v = w as u8;
+        let b = Body::SecondEcho(v);
         Applied {
             level: l,
             effect: Effect::Send(b),
@@ -194,7 +202,8 @@ impl Level {
         requires { ⌜ InLimits c self ⌝ }
         ensures { λ r. ⌜ r ≡ Rules.rule7 c self ⌝ }
     {
-        if self.first == NOT_YET {
+        let first = self.first;
+        if first == NOT_YET {
             return Applied {
                 level: self,
                 effect: Effect::Nothing,
@@ -207,14 +216,14 @@ impl Level {
             };
         }
         let d = c.degree as usize;
-        let i = self.first_candidate(SECOND_ECHOES, d, 2 * c.t + 1);
+        let i = counts::first_candidate(&self.sets, SECOND_ECHOES, d, 2 * c.t + 1);
         if d + 2 <= i {
             return Applied {
                 level: self,
                 effect: Effect::Nothing,
             };
         }
-        let w = candidate(d, i) as u8;
+        let w = counts::candidate(d, i) as u8;
         let mut l = self;
         l.second_proposal = w;
         let b = Body::SecondProposal(w);
@@ -242,12 +251,12 @@ impl Level {
             };
         }
         let d = c.degree as usize;
-        let i = self.first_candidate(SECOND_PROPOSALS, d, c.n - c.t);
+        let i = counts::first_candidate(&self.sets, SECOND_PROPOSALS, d, counts::quorum(c.n, c.t));
         if d + 2 <= i {
             return self.rule8_grade1(c);
         }
         let mut l = self;
-        l.result = candidate(d, i) as u8;
+        l.result = counts::candidate(d, i) as u8;
         l.sure = i <= d;
         Applied {
             level: l,
@@ -267,14 +276,14 @@ impl Level {
             };
         }
         let d = c.degree as usize;
-        if self.count_reaching(SECOND_ECHOES, d + 1, c.t + 1) != 1 {
+        if counts::count_reaching(&self.sets, SECOND_ECHOES, d + 1, c.t + 1) != 1 {
             return Applied {
                 level: self,
                 effect: Effect::Nothing,
             };
         }
         let mut l = self;
-        l.result = self.first_reaching(SECOND_ECHOES, d + 1, c.t + 1) as u8;
+        l.result = counts::first_reaching(&self.sets, SECOND_ECHOES, d + 1, c.t + 1) as u8;
         l.sure = false;
         Applied {
             level: l,
@@ -387,16 +396,17 @@ impl Level {
             };
         }
         let d = c.degree as usize;
-        let i = self.first_reaching(FIRST_SIDE, d, c.t + 1);
+        let i = counts::first_reaching(&self.sets, FIRST_SIDE, d, c.t + 1);
         if d <= i {
             return Applied {
                 level: self,
                 effect: Effect::Nothing,
             };
         }
+        let k = i as u8 + 1;
         Applied {
             level: self,
-            effect: Effect::Enter(i as u8 + 1, false),
+            effect: Effect::Enter(k, false),
         }
     }
 

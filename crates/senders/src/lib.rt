@@ -27,6 +27,13 @@ pub fn reaches(m: u16, k: u32) -> bool
     k <= u16::count_ones(m)
 }
 
+// Have two sets together at least k senders? One that is in both counts once.
+pub fn together(a: u16, b: u16, k: u32) -> bool
+    ensures { λ r. ⌜ r ≡ leb k (size (union a b)) ⌝ }
+{
+    k <= u16::count_ones(a | b)
+}
+
 // The senders of either set.
 pub fn either(a: u16, b: u16) -> u16
     ensures { λ r. ⌜ r ≡ union a b ⌝ }

@@ -27,20 +27,20 @@ first-reaching-requires c κs = search needs
 returns-3 : tie.Need-returns-3
 unfolding rule12
 returns-3 c =
-    let a = c .before .before .before .before .before .before .before .args in
-    rw (← c .before .first-reaching .ensures ∙ sides (a .c) (a .self), eq-eqb _ _ (c .before .before .before .before .before .if1 .left), le-ltb _ _ (c .if3 .taken), c .before .before .before .before .if2 .left)
+    let a = c .before .before .before .before .before .before .before .before .args in
+    rw (← c .before .first-reaching .ensures ∙ sides (a .c) (a .t1), eq-eqb _ _ (c .before .before .before .before .before .before .before .if1 .left), le-ltb _ _ (c .if3 .taken), c .before .before .before .before .before .before .if2 .left)
 
-cast-t10 : tie.Need-cast-t10
-cast-t10 c = search needs
+cast-k : tie.Need-cast-k
+cast-k c = search needs
 
-add-t11 : tie.Need-add-t11
-add-t11 c = search needs
+add-k : tie.Need-add-k
+add-k c = search needs
 
 returns-4 : tie.Need-returns-4
 unfolding rule12
 returns-4 c =
-    let a = c .before .before .before .before .before .before .before .args in
-    rw (← c .before .first-reaching .ensures ∙ sides (a .c) (a .self), eq-eqb _ _ (c .before .before .before .before .before .if1 .left), lt-ltb _ _ (c .if3 .left), c .before .before .before .before .if2 .left)
+    let a = c .before .before .before .before .before .before .before .before .args in
+    rw (← c .before .first-reaching .ensures ∙ sides (a .c) (a .t1), eq-eqb _ _ (c .before .before .before .before .before .before .before .if1 .left), lt-ltb _ _ (c .if3 .left), c .before .before .before .before .before .before .if2 .left)
 
 pub rule12-spec : {M : Type 1} → statement M
 rule12-spec =
@@ -52,6 +52,6 @@ rule12-spec =
     add-first-reaching
     first-reaching-requires
     returns-3
-    cast-t10
-    add-t11
+    cast-k
+    add-k
     returns-4)

@@ -5,7 +5,7 @@ use borrow.Author.Tests.{eq-eqb, ne-eqb, lt-ltb, le-ltb}
 use Rattle.level.specs.Level.{senders, slot}
 use Rattle.level.specs.Counts.{echoedBy}
 use Rattle.level.specs.Rules.{rule7}
-use Rattle.level.proofs.Laws.{candidate-le}
+use Rattle.counts.proofs.Candidates.{candidate-le}
 use Rattle.level.proofs.Level.rule7.Statement.{statement}
 use Rattle.level.proofs.Level.rule7.Tie as tie
 
@@ -15,7 +15,7 @@ returns c = rw (eq-eqb _ _ (c .if1 .taken))
 
 returns-2 : tie.Need-returns-2
 unfolding rule7
-returns-2 c = rw (ne-eqb _ _ (c .before .before .if1 .left), ne-eqb _ _ (c .if2 .taken))
+returns-2 c = rw (ne-eqb _ _ (c .before .if1 .left), ne-eqb _ _ (c .if2 .taken))
 
 cast-d : tie.Need-cast-d
 cast-d c = search needs
@@ -34,7 +34,7 @@ add-if3 c = search needs
 
 returns-3 : tie.Need-returns-3
 unfolding rule7 echoedBy senders slot
-returns-3 c = rw (ne-eqb _ _ (c .before .before .before .before .before .before .if1 .left), eq-eqb _ _ (c .before .before .before .before .if2 .left), ← c .before .first-candidate .ensures, le-ltb _ _ (c .if3 .taken))
+returns-3 c = rw (ne-eqb _ _ (c .before .before .before .before .before .before .before .if1 .left), eq-eqb _ _ (c .before .before .before .before .before .before .if2 .left), ← c .before .first-candidate .ensures, le-ltb _ _ (c .if3 .taken))
 
 candidate-requires : tie.Need-candidate-requires
 candidate-requires c κs = search needs
@@ -46,7 +46,7 @@ cast-w c =
 
 returns-4 : tie.Need-returns-4
 unfolding rule7 echoedBy senders slot
-returns-4 c = rw (ne-eqb _ _ (c .before .before .before .before .before .before .before .if1 .left), eq-eqb _ _ (c .before .before .before .before .before .if2 .left), ← c .before .before .first-candidate .ensures, lt-ltb _ _ (c .before .if3 .left), c .candidate .ensures)
+returns-4 c = rw (ne-eqb _ _ (c .before .before .before .before .before .before .before .before .if1 .left), eq-eqb _ _ (c .before .before .before .before .before .before .before .if2 .left), ← c .before .before .first-candidate .ensures, lt-ltb _ _ (c .before .if3 .left), c .candidate .ensures)
 
 pub rule7-spec : {M : Type 1} → statement M
 rule7-spec =

@@ -5,7 +5,7 @@ use borrow.Author.Tests.{eq-eqb, ne-eqb, lt-ltb, le-ltb}
 use Rattle.level.specs.Level.{senders, slot}
 use Rattle.level.specs.Counts.{secondProposed}
 use Rattle.level.specs.Rules.{rule8}
-use Rattle.level.proofs.Laws.{candidate-le}
+use Rattle.counts.proofs.Candidates.{candidate-le}
 use Rattle.level.proofs.Level.rule8.Statement.{statement}
 use Rattle.level.proofs.Level.rule8.Tie as tie
 
@@ -15,13 +15,13 @@ returns c = rw (eq-eqb _ _ (c .if1 .taken))
 
 returns-2 : tie.Need-returns-2
 unfolding rule8
-returns-2 c = rw (ne-eqb _ _ (c .before .before .if1 .left), ne-eqb _ _ (c .if2 .taken))
+returns-2 c = rw (ne-eqb _ _ (c .before .if1 .left), ne-eqb _ _ (c .if2 .taken))
 
 cast-d : tie.Need-cast-d
 cast-d c = search needs
 
-sub-first-candidate : tie.Need-sub-first-candidate
-sub-first-candidate c = search needs
+quorum-requires : tie.Need-quorum-requires
+quorum-requires c κs = search needs
 
 first-candidate-requires : tie.Need-first-candidate-requires
 first-candidate-requires c κs = search needs
@@ -34,7 +34,7 @@ rule8-grade1-requires c κs = search needs
 
 returns-3 : tie.Need-returns-3
 unfolding rule8 secondProposed senders slot
-returns-3 c = rw (ne-eqb _ _ (c .before .before .before .before .before .before .before .if1 .left), eq-eqb _ _ (c .before .before .before .before .before .if2 .left), ← c .before .before .first-candidate .ensures, le-ltb _ _ (c .before .if3 .taken)) (c .rule8-grade1 .ensures)
+returns-3 c = rw (ne-eqb _ _ (c .before .before .before .before .before .before .before .before .if1 .left), eq-eqb _ _ (c .before .before .before .before .before .before .before .if2 .left), ← c .before .before .before .quorum .ensures, ← c .before .before .first-candidate .ensures, le-ltb _ _ (c .before .if3 .taken)) (c .rule8-grade1 .ensures)
 
 candidate-requires : tie.Need-candidate-requires
 candidate-requires c κs = search needs
@@ -46,7 +46,7 @@ cast-l c =
 
 returns-4 : tie.Need-returns-4
 unfolding rule8 secondProposed senders slot
-returns-4 c = rw (ne-eqb _ _ (c .before .before .before .before .before .before .before .if1 .left), eq-eqb _ _ (c .before .before .before .before .before .if2 .left), ← c .before .before .first-candidate .ensures, lt-ltb _ _ (c .before .if3 .left), c .candidate .ensures)
+returns-4 c = rw (ne-eqb _ _ (c .before .before .before .before .before .before .before .before .if1 .left), eq-eqb _ _ (c .before .before .before .before .before .before .before .if2 .left), ← c .before .before .before .quorum .ensures, ← c .before .before .first-candidate .ensures, lt-ltb _ _ (c .before .if3 .left), c .candidate .ensures)
 
 pub rule8-spec : {M : Type 1} → statement M
 rule8-spec =
@@ -55,7 +55,7 @@ rule8-spec =
     returns
     returns-2
     cast-d
-    sub-first-candidate
+    quorum-requires
     first-candidate-requires
     add-if3
     rule8-grade1-requires

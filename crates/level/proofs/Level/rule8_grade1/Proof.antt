@@ -36,7 +36,7 @@ count-reaching-requires c κs = search needs
 
 returns-2 : tie.Need-returns-2
 unfolding echoedBy echoedValues senders slot
-returns-2 c = rw (sym (c .before .before .before .before .before .reaches .ensures) ∙ not-false _ (c .before .before .before .before .if1 .left), ← c .before .count-reaching .ensures, ne-eqb _ _ (c .if2 .taken))
+returns-2 c = rw (sym (c .before .before .before .before .before .before .before .reaches .ensures) ∙ not-false _ (c .before .before .before .before .before .before .if1 .left), ← c .before .count-reaching .ensures, ne-eqb _ _ (c .if2 .taken))
 
 add-first-reaching : tie.Need-add-first-reaching
 add-first-reaching c = search needs
@@ -52,7 +52,7 @@ cast-l c = omega (arith, search-le _ _ _ (c .first-reaching .ensures))
 
 returns-3 : tie.Need-returns-3
 unfolding echoedBy echoedValues senders slot
-returns-3 c = rw (sym (c .before .before .before .before .before .before .before .reaches .ensures) ∙ not-false _ (c .before .before .before .before .before .before .if1 .left), ← c .before .before .before .count-reaching .ensures, eq-eqb _ _ (c .before .before .if2 .left), c .first-reaching .ensures)
+returns-3 c = rw (sym (c .before .before .before .before .before .before .before .before .before .before .before .reaches .ensures) ∙ not-false _ (c .before .before .before .before .before .before .before .before .before .before .if1 .left), ← c .before .before .before .before .before .count-reaching .ensures, eq-eqb _ _ (c .before .before .before .before .if2 .left), c .first-reaching .ensures)
 
 pub rule8-grade1-spec : {M : Type 1} → statement M
 rule8-grade1-spec =
