@@ -181,11 +181,11 @@ pub fn take(
     if run::held(p, s, m) {
         return accept(p, used, 0, 0);
     }
-    let record = journal::Record::Taken(s, m);
-    if journal.len() - used < journal::size(record) {
+    let taken = journal::Record::Taken(s, m);
+    if journal.len() - used < journal::size(taken) {
         return refuse(p, used, 17);
     }
-    let end = journal::append(journal, used, record);
+    let end = journal::append(journal, used, taken);
     let ran = run::take(p, d.chart, s, m, out, true);
     accept(ran.party, end, ran.sent, ran.rules)
 }

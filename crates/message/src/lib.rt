@@ -258,7 +258,7 @@ fn put_value(out: &mut [u8], at: usize, b: Body) -> usize
     varint::put(out, at, value_of(b) as u32)
 }
 
-// The message is written from `at` on; the place past it.
+// The message is written from `at` on; the place past it. Inner: callers have shown that there is room; `write` asks.
 pub fn put(out: &mut [u8], at: usize, m: Message) -> usize
     requires { ⌜ at + length (messageBytes m) ≤ length (now out) ⌝ }
     ensures { λ r. ⌜ (r ≡ at + length (messageBytes m)) × (now (out .exit) ≡ putAt (now (out .entry)) at (messageBytes m)) ⌝ }

@@ -9,3 +9,4 @@ pub mod Restores
 pub mod Scripts
 pub mod Bytes
 pub mod Laws
+pub mod Examples

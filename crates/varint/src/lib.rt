@@ -11,7 +11,7 @@ pub enum VarintRead {
     Value(u32, usize),
     // The bytes end inside it: the least value that further bytes could make of it.
     Short(u32),
-    // No further bytes could make it whole, in the fewest bytes and within its limit.
+    // No further bytes could make it whole, in the fewest bytes and within its limits.
     Malformed,
 }
 
@@ -74,7 +74,8 @@ pub fn read(s: &[u8], at: usize) -> VarintRead
     read_pieces(s, at, 5)
 }
 
-// The varint at `at`, if its value is from `low` to `high`.
+// The varint at `at`, malformed where its value is not from `low` to `high`. Where the bytes end inside it, it is malformed if the least value that
+// further bytes could make of it is above `high`, and else short: `low` is not asked.
 pub fn read_within(s: &[u8], at: usize, low: u32, high: u32) -> VarintRead
     ensures { λ r. ⌜ r ≡ varintWithin low high (now (s .entry)) at ⌝ }
 {
@@ -128,7 +129,7 @@ fn write_pieces(out: &mut [u8], v: u32, left: u32) -> usize
     write_pieces(&mut out[1..], v / 128, left - 1) + 1
 }
 
-// The varint of v is written from `at` on; the place past it.
+// The varint of v is written from `at` on; the place past it. Inner: callers have shown that there is room; `write` asks.
 pub fn put(out: &mut [u8], at: usize, v: u32) -> usize
     requires { ⌜ at + length (varintBytes v) ≤ length (now out) ⌝ }
     ensures { λ r. ⌜ (r ≡ at + length (varintBytes v)) × (now (out .exit) ≡ putAt (now (out .entry)) at (varintBytes v)) ⌝ }
