@@ -26,7 +26,7 @@ there : (v : ℕ) → v < notYet → eqb v notYet ≡ false
 there v l = not-T→false (eqb v notYet) (λ h. omega (arith, eqb→eq v notYet h))
 
 infixr 20 _and_
-_and_ : {A B : Type 0} → A → B → A × B
+pub _and_ : {A B : Type 0} → A → B → A × B
 a and b = (a, b)
 
 -- P4 and P5 are cases of the laws of intervals; what else the table claims is computed

@@ -1,1 +1,4 @@
 pub mod Sums
+pub mod Choices
+pub mod Orders
+pub mod Parties

@@ -1,1 +1,1 @@
-// Document 01's sums to check by hand, as one table with one theorem over it. No code.
+// Document 01's sums to check by hand, and rows for what its rules and plans choose: tables with one theorem over each. No code.
