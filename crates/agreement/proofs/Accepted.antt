@@ -37,9 +37,9 @@ use Rattle.board.specs.Calls.{Entry, again, fresh, startQuestions, takeQuestion
 use Rattle.board.specs.Restore.{restoreQuestions}
 use Rattle.board.proofs.Questions.{start-fits, take-held, take-fits}
 use Rattle.vote.specs.Machine.{Sent}
-use Rattle.agreement.specs.History.{Vote, start, take-message, calls, hands, History, running, boardAfter, Sound, Handed, Continues, Allowed}
+use Rattle.agreement.specs.History.{Vote, start, take-message, calls, hands, History, running, boardAfter, Sound, Handed, Lendable, Continues, Allowed}
 use Rattle.agreement.specs.Demand.{Shared, recordsOf, StartedAt, TookFrom, StartedWith}
-use Rattle.agreement.proofs.Restored.{livedReplay, restored-cut}
+use Rattle.agreement.proofs.Restored.{lendable-begins, livedReplay, restored-cut}
 use Rattle.agreement.proofs.Entries.{input-placed, exact-table, fits-limits}
 use Rattle.agreement.proofs.Tied.{newBoard, plan-valid}
 use Rattle.agreement.proofs.Histories.{TiedAfter, tied}
@@ -55,12 +55,13 @@ record-most (Start a x) (h, l) = omega (arith, start-length a x, pieces-most 4 a
 record-most (Taken s m) (h, t, l) = omega (arith, taken-length s m, length-last s (omega arith), message-length-most m t)
 
 module _ (v : Vote) (plan : Plan) (bad : Set) (f : Shared v plan) where
-  -- "Restore gives the party of the whole records": whatever a cut left of the journal can be restored
-  pub restore-accepted : (h : History) → Allowed v bad h → (i : ℕ) → i < v .n → (out : ℕ) → outgoingSize ≤ out
-      → restoreQuestions (v .n) (v .t) i (v .agreement) (v .plan) (boardAfter h i .journal) out ≡ found (livedReplay (newBoard v plan i) (recordsOf h i))
-  restore-accepted h a i k out long =
+  -- "Restore gives the party of the whole records": whatever a cut left of the journal can be restored, also with a torn record behind it
+  pub restore-accepted : (h : History) → Allowed v bad h → (i : ℕ) → i < v .n → (journal : List ℕ) → Lendable (boardAfter h i .journal) journal → (out : ℕ) → outgoingSize ≤ out
+      → restoreQuestions (v .n) (v .t) i (v .agreement) (v .plan) journal out ≡ found (livedReplay (newBoard v plan i) (recordsOf h i))
+  restore-accepted h a i k journal lent out long =
       let w : TiedAfter v plan bad f h i = tied v plan bad f h a i k in
-      restored-cut (v .n) (v .t) i (v .agreement) (v .plan) plan (f .boards) (f .faults) k (f .reads) (w .records) (w .life) (boardAfter h i .journal) (w .holds) out long
+      restored-cut (v .n) (v .t) i (v .agreement) (v .plan) plan (f .boards) (f .faults) k (f .reads) (w .records) (w .life) journal
+      (lendable-begins (boardAfter h i .journal) journal (w .records) (w .holds) lent) out long
       ∙ ap (λ (rs : List Record). found (livedReplay (newBoard v plan i) rs)) (sym (records-of v plan bad f h a i k))
 
   -- what a board handed over is of the vote

@@ -40,7 +40,7 @@ use Rattle.vote.specs.Invariant.{Inv}
 use Rattle.vote.proofs.Laws.{inv-new, inv-lived, inv-called, le-called, le-lived, made-sent, taken-heard, start-entered, start-lived}
 use Rattle.agreement.specs.History.{Vote, read-answer, Step, calls, whose, History, Stage, waiting, running, down, boardAfter, Sound, Refuses, Accepts, May, Allowed}
 use Rattle.agreement.specs.Demand.{Shared, recordsOf, StartedAt, TookFrom, Makes, partyBy, answerNow, Answers, Stands, Complete}
-use Rattle.agreement.proofs.Restored.{restored-cut}
+use Rattle.agreement.proofs.Restored.{holds-begins, restored-cut}
 use Rattle.agreement.proofs.Told.{machineOf, Tale, nothing, acts, gives, marks, cuts, answerTale, taleOf, added, told}
 use Rattle.agreement.proofs.Tied.{newBoard, Running, AtStage, Tied, plan-valid, settings-pass, board-regular, tied-read}
 use Rattle.agreement.proofs.Histories.{refused-answer, state-lived, tied, told-valid}
@@ -138,7 +138,7 @@ module _ (v : Vote) (plan : Plan) (bad : Set) (f : Shared v plan) where
         go running r = state-answer (boardAfter h i .party) (r .party ∙ sym state-records)
         go down _ =
             state-answer (partyBy v i (boardAfter h i) down)
-            (ap (λ (q : Found Replay). restoredOf q .party) (restored-cut (v .n) (v .t) i (v .agreement) (v .plan) plan (f .boards) (f .faults) k (f .reads) (w .records) (w .life) (boardAfter h i .journal) (w .holds) outgoingSize (omega arith))
+            (ap (λ (q : Found Replay). restoredOf q .party) (restored-cut (v .n) (v .t) i (v .agreement) (v .plan) plan (f .boards) (f .faults) k (f .reads) (w .records) (w .life) (boardAfter h i .journal) (holds-begins (w .holds)) outgoingSize (omega arith))
             ∙ sym state-records)
 
     -- ---- what its records tell
@@ -243,7 +243,5 @@ module _ (v : Vote) (plan : Plan) (bad : Set) (f : Shared v plan) where
     -- every sound board has heard what every sound board made
     pub complete-heard : Complete v plan bad h → (i j : ℕ) (m : Message) → Sound v bad i → Sound v bad j → Sent (stateOf v plan h j) m → Heard (stateOf v plan h i) j m
     complete-heard c i j m g k s =
-        let x = c .taken i j (messageBytes m) g k (c .handed j m k (makes-state h a j (k .0) m .1 s)) in
-        let e : Exactly.One m ≡ Exactly.One (x .0) = sym (sent-read h a j (k .0) m s) ∙ x .1 in
-        let z : x .0 ≡ m = cc in
-        took-state h a i (g .0) j m .0 (subst (TookFrom h i j) z (x .2))
+        took-state h a i (g .0) j m .0
+        (c .taken i j (messageBytes m) m g k (c .handed j m k (makes-state h a j (k .0) m .1 s)) (sent-read h a j (k .0) m s))

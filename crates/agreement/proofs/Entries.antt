@@ -1,5 +1,5 @@
 -- What an accepted start or take is: the record of a call that its party accepts, and what that call does.
-use mathlib.Core.Path.{_≡_, refl, sym, ap, subst}
+use mathlib.Core.Path.{_≡_, refl, sym, ap, _∙_, subst}
 use mathlib.Core.Logic.{_⊎_, inl, inr}
 use mathlib.Core.Bool.{Bool, true, false, not}
 use mathlib.Core.List.{List}
@@ -124,6 +124,16 @@ start-recorded p input room used out r ran e = go (input-placed (p .plan) input)
     go (inr h) =
         let f = fitted room used (Start (p .agreement) x) r (starting p x) ran (twelve .1) in
         (f .1, on, subst (λ (q : Record). Recorded p room used q ran) (f .1) (record { fits = (refl, T-not (started p) (thirteen .0), h); inside = f .0; does = f .2 }))
+
+-- at position x, so the call finds the record of a start at x and what that does
+pub start-at : (p : Party) (input : ℤ) (room used out x : ℕ) (r : Record) (ran : Ran) → startQuestions p input room used out ≡ found (fresh r ran)
+    → positionOf (p .plan) input ≡ x → startQuestions p input room used out ≡ found (fresh (Start (p .agreement) x) (starting p x))
+unfolding replayed
+start-at p input room used out x r ran e at =
+    let g = start-recorded p input room used out r ran e in
+    let s : r ≡ Start (p .agreement) x = sym (g .0) ∙ ap (Start (p .agreement)) at in
+    let does : ran ≡ starting p x = sym (g .2 .does) ∙ ap (replayed p) s in
+    e ∙ (λ z. found (fresh (s z) (does z)))
 
 pub take-recorded : (p : Party) (s : ℕ) (bytes : List ℕ) (room used out : ℕ) (r : Record) (ran : Ran) → takeQuestions p s bytes room used out ≡ found (fresh r ran)
     → (m : Message) × (exactMessage bytes ≡ Exactly.One m) × (Taken s m ≡ r) × Recorded p room used r ran

@@ -35,7 +35,7 @@ use Rattle.vote.specs.Machine.{Sent, voteMachine, eventOf}
 use Rattle.vote.proofs.Laws.{after-lived}
 use Rattle.agreement.specs.History.{Vote, Call, set-up, start, take-message, read-answer, restore, Step, calls, hands, cut, whose, History, Stage, waiting, running, down, Board, afterSetUp, afterEntry, afterAnswer, afterRestore, afterCall, afterCut, afterOwn, boardAfter, Refuses, Accepts, May, Allowed}
 use Rattle.agreement.specs.Demand.{Shared}
-use Rattle.agreement.proofs.Restored.{livedReplay, restored-found}
+use Rattle.agreement.proofs.Restored.{Begins, lendable-begins, livedReplay, restored-found}
 use Rattle.agreement.proofs.Entries.{Recorded, start-recorded, take-recorded}
 use Rattle.agreement.proofs.Lent.{entered, start-entered, take-entered}
 use Rattle.agreement.proofs.Told.{machineOf, Tale, nothing, entryTale, answerTale, restoreTale, callTale, handTale, cutTale, wholeRecords, taleOf, logAfter, heldAfter, told, log-added, held-added, handed-told, MayTell, valid-added}
@@ -97,11 +97,12 @@ module _ (v : Vote) (plan : Plan) (bad : Set) (f : Shared v plan) where
     by-answer (Answer.At z) e =
         record { tied = tied-guarding v plan f i seat b (log M i H) (held M i H) w e (afterAnswer b (Answer.At z) .guarded) (omega arith); may = tt }
 
-    by-restore : (q : Found Replay) → ((r : Replay) → q ≡ found r → r ≡ livedReplay (newBoard v plan i) (w .records)) → Goes i (afterRestore b (b .journal) q) (restoreTale q) H
-    by-restore (found r) g =
-        subst (λ (y : Replay). Goes i (afterRestore b (b .journal) (found y)) (restoreTale (found y)) H) (sym (g r refl))
-        (record { tied = tied-restored v plan f i seat b (log M i H) (held M i H) w; may = tt })
-    by-restore (refused number place) g = stays
+    by-restore : (j : List ℕ) → Begins j (w .records) → (q : Found Replay) → ((r : Replay) → q ≡ found r → r ≡ livedReplay (newBoard v plan i) (w .records))
+        → Goes i (afterRestore b j q) (restoreTale q) H
+    by-restore j l (found r) g =
+        subst (λ (y : Replay). Goes i (afterRestore b j (found y)) (restoreTale (found y)) H) (sym (g r refl))
+        (record { tied = tied-restored v plan f i seat b (log M i H) (held M i H) w j l; may = tt })
+    by-restore j l (refused number place) g = stays
 
     by-cut : (s : Stage) (k : ℕ) → b .guarded ≤ k → Goes i (afterCut b s k) (cutTale s (wholeRecords (take k (b .journal)))) H
     by-cut waiting k g = stays
@@ -157,11 +158,11 @@ module _ (v : Vote) (plan : Plan) (bad : Set) (f : Shared v plan) where
           subst (λ (y : Record). FairH M (v .n) bad (eventOf y) H) (x .2) (λ g. handed-told v plan h sender bytes (x .0) (from g) (x .1)),
         )))
     by-call (read-answer p) e = by-answer i seat b H w (answeredOf p .answer) (e .0)
-    by-call (restore n t a g bytes journal out) (e, o, ej) =
-        subst (λ (y : List ℕ). Goes i (afterRestore b y (restoreQuestions n t a g bytes journal out)) (callTale (restore n t a g bytes journal out)) H) (sym ej)
-        (by-restore i seat b H w (restoreQuestions n t a g bytes journal out) (λ r x.
-        restored-found (v .n) (v .t) i (v .agreement) (v .plan) plan (f .boards) (f .faults) seat (f .reads) (w .records) (w .life) (b .journal) (w .holds) out r
-        (sym (λ z. restoreQuestions (o .boards z) (o .faults z) (o .seat z) (o .number z) (o .bytes z) (ej z) out) ∙ x)))
+    by-call (restore n t a g bytes journal out) (e, o, lent) =
+        let l : Begins journal (w .records) = lendable-begins (b .journal) journal (w .records) (w .holds) lent in
+        by-restore i seat b H w journal l (restoreQuestions n t a g bytes journal out) (λ r x.
+        restored-found (v .n) (v .t) i (v .agreement) (v .plan) plan (f .boards) (f .faults) seat (f .reads) (w .records) (w .life) journal l out r
+        (sym (λ z. restoreQuestions (o .boards z) (o .faults z) (o .seat z) (o .number z) (o .bytes z) journal out) ∙ x))
 
   -- ---- steps
 

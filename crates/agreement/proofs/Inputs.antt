@@ -1,6 +1,6 @@
 -- A start in a board's journal is a call with the input that the caller gave.
 use mathlib.Core.Path.{_≡_, refl, sym, ap, _∙_, subst}
-use mathlib.Core.Logic.{_⊎_, inl, inr}
+use mathlib.Core.Logic.{_⊎_, inl, inr, _↔_}
 use mathlib.Core.Bool.{Bool, true, false, not}
 use mathlib.Core.List.{List, [], _∷_, List·Memᴰ, List·Memᴰ·head, List·Memᴰ·tail, List·Memᴰ·cases-cons, List·Memᴰ·not-nil}
 use Prim.Native.Nat.{ℕ, zero, suc, _+_, _-_, _<_}
@@ -23,6 +23,7 @@ use Rattle.level.specs.Level.{noOutput}
 use Rattle.journal.specs.declared.Record.{Record}
 use Rattle.journal.specs.declared.Record.the-variants.{Start}
 use Rattle.party.specs.declared.Party.{Party}
+use Rattle.party.specs.Run.{starting}
 use Rattle.board.specs.declared.Answer.{Answer}
 use Rattle.board.specs.Answers.{onPlan, vertexOf, rangePosition, positionOf}
 use Rattle.board.specs.Calls.{Entry, again, fresh, startQuestions, takeQuestions, answeredOf}
@@ -32,8 +33,8 @@ use Rattle.execution.specs.Machine.{Event}
 use Rattle.execution.specs.History.{log}
 use Rattle.vote.specs.Machine.{eventOf, eventsOf}
 use Rattle.agreement.specs.History.{Vote, set-up, start, take-message, read-answer, restore, Step, calls, hands, cut, whose, History, Stage, waiting, running, down, boardAfter, Refuses, Accepts, May, Allowed}
-use Rattle.agreement.specs.Demand.{Shared, StartedAt, StartedWith}
-use Rattle.agreement.proofs.Entries.{start-recorded, take-recorded}
+use Rattle.agreement.specs.Demand.{Shared, StartedAt, Stands, AcceptedStart, StartedWith}
+use Rattle.agreement.proofs.Entries.{start-recorded, start-at, take-recorded}
 use Rattle.agreement.proofs.Told.{machineOf, Tale, nothing, acts, gives, marks, cuts, entryTale, answerTale, restoreTale, handTale, cutTale, taleOf, logAfter, told, log-added}
 use Rattle.agreement.proofs.Histories.{tied}
 use Rattle.agreement.proofs.Boards.{running-state, state-plan, records-of, started-position}
@@ -143,20 +144,24 @@ idle : {t : Tale} {e : Event Message ℕ} → T (not (acting t)) → t ≡ acts 
 idle h e = subst (λ (y : Tale). T (not (acting y))) e h
 
 module _ (v : Vote) (plan : Plan) (bad : Set) (f : Shared v plan) where
-  -- a start of board i in the list, at the position x of its input
+  -- an accepted start of board i in the list, at the position x of its input
   abbrev Given : History → ℕ → ℕ → Type 0
-  Given h i x = (z : ℤ) × (positionOf plan z ≡ x) × (x ≡ noOutput → ⊥)
-      × ((p : Party) × (journal : List ℕ) × (used : ℕ) × (out : ℕ) × List·Memᴰ (calls i (start p z journal used out)) h)
+  Given h i x = (z : ℤ) × (positionOf plan z ≡ x) × (x ≡ noOutput → ⊥) × AcceptedStart h i x z
 
   given-later : (s : Step) (h : History) (i x : ℕ) → Given h i x → Given (s ∷ h) i x
-  given-later s h i x (z, e, d, (p, j, u, o, m)) = (z, e, d, (p, j, u, o, List·Memᴰ·tail m))
+  given-later s h i x (z, e, d, c) = (
+    z,
+    e,
+    d,
+    record { party = c .party; journal = c .journal; used = c .used; out = c .out; call = List·Memᴰ·tail (c .call); accepted = c .accepted },
+  )
 
   module _ (h : History) (a : Allowed v bad h) (i : ℕ) (k : i < v .n) where
     -- the start is accepted, so its party is the board's
     by-start : (p : Party) (z : ℤ) (journal : List ℕ) (used out x : ℕ)
         → Refuses (start p z journal used out) ⊎ Accepts v bad i h (boardAfter h i) (start p z journal used out)
         → (q : Found Entry) → startQuestions p z (length journal) used out ≡ q → entryTale q ≡ acts (machine.start x)
-        → (positionOf plan z ≡ x) × (x ≡ noOutput → ⊥)
+        → (positionOf plan z ≡ x) × (x ≡ noOutput → ⊥) × (startQuestions p z (length journal) used out ≡ found (fresh (Start (p .agreement) x) (starting p x)))
     by-start p z journal used out x m (found again) e t = absurd (idle tt t)
     by-start p z journal used out x m (refused number place) e t = absurd (idle tt t)
     by-start p z journal used out x (inl r) (found (fresh c ran)) e t =
@@ -165,7 +170,7 @@ module _ (v : Vote) (plan : Plan) (bad : Set) (f : Shared v plan) where
         let g = start-recorded p z (length journal) used out r ran e in
         let same : p .plan ≡ plan = ap (λ (y : Party). y .plan) (c .same ∙ running-state v plan bad f h a i k (c .up)) ∙ state-plan v plan bad f h a i k in
         let at : positionOf (p .plan) z ≡ x = ap startAt (ap eventOf (g .0) ∙ ap acted t) in
-        (ap (λ (y : Plan). positionOf y z) (sym same) ∙ at, λ n. g .1 (at ∙ n))
+        (ap (λ (y : Plan). positionOf y z) (sym same) ∙ at, λ n. g .1 (at ∙ n), start-at p z (length journal) used out x r ran e at)
 
     by-take : (p : Party) (s : ℕ) (bytes journal : List ℕ) (used out x : ℕ)
         → (q : Found Entry) → takeQuestions p s bytes (length journal) used out ≡ q → entryTale q ≡ acts (machine.start x) → ⊥
@@ -203,8 +208,19 @@ module _ (v : Vote) (plan : Plan) (bad : Set) (f : Shared v plan) where
     by-step (calls j (start p z journal used out)) e m x t =
         let g = by-start p z journal used out x
         (subst (λ (y : ℕ). Refuses (start p z journal used out) ⊎ Accepts v bad y h (boardAfter h y) (start p z journal used out)) e (m .1))
-        (startQuestions p z (length journal) used out) refl t in
-        (z, g .0, g .1, (p, journal, used, out, List·Memᴰ·head (ap (λ (y : ℕ). calls y (start p z journal used out)) (sym e))))
+        (startQuestions p z (length journal) used out) refl t in (
+          z,
+          g .0,
+          g .1,
+          record {
+            party = p;
+            journal = journal;
+            used = used;
+            out = out;
+            call = List·Memᴰ·head (ap (λ (y : ℕ). calls y (start p z journal used out)) (sym e));
+            accepted = g .2;
+          },
+        )
 
   given : (h : History) → Allowed v bad h → (i : ℕ) → i < v .n → (x : ℕ) → List·Memᴰ (machine.start x) (log (machineOf v plan) i (told v plan h)) → Given h i x
   unfolding told log
@@ -242,3 +258,14 @@ module _ (v : Vote) (plan : Plan) (bad : Set) (f : Shared v plan) where
           kept = (b, m);
         },
       )
+
+  -- ---- the accepted call
+
+  -- Naming any start of the list with the input z, perhaps a refused one, says the same: an accepted call wrote the record that is kept.
+  pub started-by-some : (h : History) → Allowed v bad h → (i : ℕ) → i < v .n → (x : ℕ) (z : ℤ)
+      → StartedWith plan h i x z
+      ↔ (((p : Party) × (journal : List ℕ) × (used : ℕ) × (out : ℕ) × List·Memᴰ (calls i (start p z journal used out)) h) × Stands plan x z × StartedAt h i x)
+  started-by-some h a i k x z = (
+    λ w. let c = w .call in ((c .party, c .journal, c .used, c .out, c .call), w .stands, w .kept),
+    λ w. let g = started-with h a i k x (w .2) in subst (StartedWith plan h i x) (sym (g .1 .stands .1) ∙ w .1 .1) (g .1),
+  )

@@ -9,4 +9,5 @@ pub mod Inputs
 pub mod Words
 pub mod Accepted
 pub mod Theorem
+pub mod Ranges
 pub mod Life

@@ -13,7 +13,6 @@ use Rattle.plan.specs.declared.Plan.{Plan}
 use Rattle.plan.proofs.Shape.{shape}
 use Rattle.journal.specs.declared.Record.{Record}
 use Rattle.journal.specs.Records.{AllInLimits, journalBytes}
-use Rattle.journal.proofs.Records.{holds-used}
 use Rattle.party.specs.declared.Party.{Party}
 use Rattle.party.specs.Run.{Ran, bytesOf}
 use Rattle.life.specs.Life.{replayed, lived, Life}
@@ -21,9 +20,9 @@ use Rattle.board.specs.declared.Called.{Called}
 use Rattle.board.specs.Restore.{Replay, restoreQuestions, restoredOf, restoreOutgoing}
 use Rattle.vote.specs.Order.{Le}
 use Rattle.vote.proofs.Laws.{le-lived}
-use Rattle.agreement.specs.History.{Vote, History, running, Board, afterRestore, boardAfter, Continues, Allowed}
+use Rattle.agreement.specs.History.{Vote, History, running, Board, afterRestore, boardAfter, Lendable, Continues, Allowed}
 use Rattle.agreement.specs.Demand.{Shared}
-use Rattle.agreement.proofs.Restored.{restored, restored-cut, restored-found}
+use Rattle.agreement.proofs.Restored.{Begins, holds-begins, begins-used, lendable-begins, restored, restored-cut, restored-found}
 use Rattle.agreement.proofs.Entries.{fits-limits}
 use Rattle.agreement.proofs.Tied.{newBoard, Running, AtStage, plan-valid, board-regular}
 use Rattle.agreement.proofs.Histories.{TiedAfter, tied}
@@ -76,14 +75,16 @@ module _ (v : Vote) (plan : Plan) (f : Shared v plan) (i : ℕ) (seat : i < v .n
         let r = restoredOf (restoreQuestions (v .n) (v .t) i (v .agreement) (v .plan) (boardAfter h i .journal) out) in
         (r .verdict ≡ Verdict.Accepted) × (r .party ≡ boardAfter h i .party) × (r .used ≡ length (boardAfter h i .journal))
     running-restored up out room =
-        let e = restored-cut (v .n) (v .t) i (v .agreement) (v .plan) plan (f .boards) (f .faults) seat (f .reads) (w .records) (w .life) (b .journal) (w .holds) out room in
+        let e = restored-cut (v .n) (v .t) i (v .agreement) (v .plan) plan (f .boards) (f .faults) seat (f .reads) (w .records) (w .life) (b .journal) (holds-begins (w .holds)) out room in
         let u : Running v plan i (boardAfter h i) (w .records) = subst (AtStage v plan i b (w .records)) up (w .stage) in
         (ap (λ (q : Found Replay). restoredOf q .verdict) e, ap (λ (q : Found Replay). restoredOf q .party) e ∙ sym (u .party), ap (λ (q : Found Replay). restoredOf q .used) e ∙ ap length (sym (u .journal)))
 
     -- "each later call gets the record, journal and used length as the call before left them", after an accepted restore
-    pub restore-continues : (out : ℕ) (r : Replay) → restoreQuestions (v .n) (v .t) i (v .agreement) (v .plan) (boardAfter h i .journal) out ≡ found r
-        → Continues (afterRestore (boardAfter h i) (boardAfter h i .journal) (found r)) (restoredOf (found r) .party) (boardAfter h i .journal) (restoredOf (found r) .used)
-    restore-continues out r e =
-        let x = restored-found (v .n) (v .t) i (v .agreement) (v .plan) plan (f .boards) (f .faults) seat (f .reads) (w .records) (w .life) (b .journal) (w .holds) out r e in
-        subst (λ (y : Replay). Continues (afterRestore b (b .journal) (found y)) (restoredOf (found y) .party) (b .journal) (restoredOf (found y) .used)) (sym x)
-        (record { up = refl; same = refl; at = ap length (sym (holds-used (w .holds))); kept = refl })
+    pub restore-continues : (journal : List ℕ) → Lendable (boardAfter h i .journal) journal → (out : ℕ) (r : Replay)
+        → restoreQuestions (v .n) (v .t) i (v .agreement) (v .plan) journal out ≡ found r
+        → Continues (afterRestore (boardAfter h i) journal (found r)) (restoredOf (found r) .party) journal (restoredOf (found r) .used)
+    restore-continues journal lent out r e =
+        let l : Begins journal (w .records) = lendable-begins (b .journal) journal (w .records) (w .holds) lent in
+        let x = restored-found (v .n) (v .t) i (v .agreement) (v .plan) plan (f .boards) (f .faults) seat (f .reads) (w .records) (w .life) journal l out r e in
+        subst (λ (y : Replay). Continues (afterRestore b journal (found y)) (restoredOf (found y) .party) journal (restoredOf (found y) .used)) (sym x)
+        (record { up = refl; same = refl; at = ap length (sym (begins-used l)); kept = refl })

@@ -1,11 +1,13 @@
 -- Restoring what a life wrote gives that life's party.
 use mathlib.Core.Path.{_≡_, refl, sym, ap, ap₂, _∙_, subst}
+use mathlib.Core.Logic.{inl, inr}
 use mathlib.Core.Bool.{Bool, true, false, not}
 use mathlib.Core.List.{List, [], _∷_, _++_}
 use Prim.Native.Nat.{ℕ, zero, suc, _+_, _-_, _*_, _≤_, _<_}
 use native.Mathlib.Omega.{arith}
 use lib.Dec.{T, leb, ltb, eqb, not-T, lt→ltb, le→leb, eqb-refl}
-use lib.ListN.{length, length-append}
+use lib.ListN.{length, take, drop, length-append, take-append-drop}
+use lib.Seq.{take-at}
 use borrow.Author.Tests.{lt-leb}
 use Rattle.base.specs.Pick.{pick}
 use Rattle.base.specs.Limits.{maxBoards, outgoingSize}
@@ -19,12 +21,13 @@ use Rattle.journal.specs.declared.Record.the-variants.{Start, Taken}
 use Rattle.journal.specs.declared.RecordRead.{RecordRead}
 use Rattle.journal.specs.Journal.{recordBytes, recordAt}
 use Rattle.journal.specs.Records.{AllInLimits, journalBytes}
-use Rattle.journal.proofs.Records.{Holds, holds-whole, holds-end, journal-none, journal-before, journal-record, journal-length, record-pos, records-fewer}
+use Rattle.journal.proofs.Records.{Holds, holds-whole, holds-records, holds-end, journal-none, journal-before, journal-record, journal-length, record-pos, records-fewer}
 use Rattle.party.specs.declared.Party.{Party}
 use Rattle.party.specs.Party.{newParty, started}
 use Rattle.party.specs.Run.{Ran, resting}
 use Rattle.life.specs.Life.{replayed, following, lived, Fits, Life}
 use Rattle.board.specs.Restore.{recordFits, Replay, replayFrom, onPlanRead, restoreQuestions}
+use Rattle.agreement.specs.History.{recordsIn, Lendable}
 
 -- ---- one record
 
@@ -77,12 +80,41 @@ replay-through p (r ∷ rs) q f (h, hs) (l, ls) =
     ∙ replay-read f j (length b) (lived p rs) r (length (journalBytes (r ∷ rs))) k (journal-record r rs q h)
     ∙ fits-pass (lived p rs .party) (length b) r _ l
 
+-- the bytes j begin with the records rs, in their limits, and after them comes a torn one or nothing
+pub record Begins (j : List ℕ) (rs : List Record) : Type 0 where
+  pub limits : AllInLimits rs
+  pub tail : List ℕ
+  pub bytes : j ≡ journalBytes rs ++ tail
+  pub torn : recordAt j (length (journalBytes rs)) ≡ RecordRead.Torn
+
+pub holds-begins : {j : List ℕ} {rs : List Record} → Holds j rs → Begins j rs
+holds-begins h = record { limits = h .limits; tail = h .tail; bytes = h .bytes; torn = holds-end h }
+
+-- their bytes
+pub begins-used : {j : List ℕ} {rs : List Record} → Begins j rs → take (length (journalBytes rs)) j ≡ journalBytes rs
+begins-used {rs = rs} h = ap (take (length (journalBytes rs))) (h .bytes) ∙ take-at (journalBytes rs) (h .tail) (length (journalBytes rs)) refl
+
+-- what a restore may be lent begins with the same records as the used bytes
+pub lendable-begins : (used journal : List ℕ) (rs : List Record) → Holds used rs → Lendable used journal → Begins journal rs
+lendable-begins used journal rs h (inl e) = holds-begins (subst (λ (j : List ℕ). Holds j rs) (sym e) h)
+lendable-begins used journal rs h (inr t) = go (recordsIn used) (holds-records h) (t .kept) (t .torn)
+  where
+    go : (ts : List Record) → ts ≡ rs → take (length (journalBytes ts)) journal ≡ journalBytes ts → recordAt journal (length (journalBytes ts)) ≡ RecordRead.Torn
+        → Begins journal rs
+    go ts e k d =
+        subst (Begins journal) e (record {
+          limits = subst AllInLimits (sym e) (h .limits);
+          tail = drop (length (journalBytes ts)) journal;
+          bytes = sym (take-append-drop (length (journalBytes ts)) journal) ∙ ap (λ (x : List ℕ). x ++ drop (length (journalBytes ts)) journal) k;
+          torn = d;
+        })
+
 -- what the records of a life give: their party, rules and last messages, and where they end
 abbrev pub livedReplay : Party → List Record → Replay
 livedReplay p rs = record { ran = lived p rs; used = length (journalBytes rs) }
 
 -- a journal that holds a life's records, and perhaps a torn one
-pub replay-life : (p : Party) (rs : List Record) (j : List ℕ) → Holds j rs → Life p rs → replayFrom (length j) j 0 (resting p) ≡ found (livedReplay p rs)
+pub replay-life : (p : Party) (rs : List Record) (j : List ℕ) → Begins j rs → Life p rs → replayFrom (length j) j 0 (resting p) ≡ found (livedReplay p rs)
 replay-life p rs j h l =
     let b : List ℕ = journalBytes rs ++ h .tail in
     let f : ℕ = length b - length rs in
@@ -90,7 +122,7 @@ replay-life p rs j h l =
     ap (λ (x : List ℕ). replayFrom (length x) x 0 (resting p)) (h .bytes)
     ∙ ap (λ (m : ℕ). replayFrom m b 0 (resting p)) n
     ∙ replay-through p rs (h .tail) f (h .limits) l
-    ∙ replay-torn f b (length (journalBytes rs)) (lived p rs) (ap (λ (x : List ℕ). recordAt x (length (journalBytes rs))) (sym (h .bytes)) ∙ holds-end h)
+    ∙ replay-torn f b (length (journalBytes rs)) (lived p rs) (ap (λ (x : List ℕ). recordAt x (length (journalBytes rs))) (sym (h .bytes)) ∙ h .torn)
 
 -- ---- the call
 
@@ -101,7 +133,7 @@ module _ (n t own agreement : ℕ) (bytes : List ℕ) (plan : Plan) (most : n �
 
   module _ (rs : List Record) (life : Life (newParty n t own agreement plan) rs) where
     -- "Restore gives the party of the whole records, in order, their length in bytes, and the messages of the last whole record again", also after a cut
-    pub restored-cut : (j : List ℕ) → Holds j rs → (out : ℕ) → outgoingSize ≤ out
+    pub restored-cut : (j : List ℕ) → Begins j rs → (out : ℕ) → outgoingSize ≤ out
         → restoreQuestions n t own agreement bytes j out ≡ found (livedReplay (newParty n t own agreement plan) rs)
     unfolding restoreQuestions
     restored-cut j h out room =
@@ -112,10 +144,10 @@ module _ (n t own agreement : ℕ) (bytes : List ℕ) (plan : Plan) (most : n �
     -- Restoring what a life wrote gives that life's party.
     pub restored : AllInLimits rs → (out : ℕ) → outgoingSize ≤ out
         → restoreQuestions n t own agreement bytes (journalBytes rs) out ≡ found (livedReplay (newParty n t own agreement plan) rs)
-    restored h = restored-cut (journalBytes rs) (holds-whole rs (journalBytes rs) h refl)
+    restored h = restored-cut (journalBytes rs) (holds-begins (holds-whole rs (journalBytes rs) h refl))
 
     -- whatever an accepted restore gives is that
-    pub restored-found : (j : List ℕ) → Holds j rs → (out : ℕ) (r : Replay) → restoreQuestions n t own agreement bytes j out ≡ found r
+    pub restored-found : (j : List ℕ) → Begins j rs → (out : ℕ) (r : Replay) → restoreQuestions n t own agreement bytes j out ≡ found r
         → r ≡ livedReplay (newParty n t own agreement plan) rs
     unfolding restoreQuestions
     restored-found j h out r e =

@@ -22,7 +22,7 @@ use Rattle.message.proofs.RoundTrip.{exact-message-read}
 use Rattle.journal.specs.declared.Record.{Record}
 use Rattle.journal.specs.Journal.{recordBytes}
 use Rattle.journal.specs.Records.{InLimits, journalBytes}
-use Rattle.journal.proofs.Records.{Holds, holds-whole, holds-records, holds-used, holds-cut, journal-none, journal-more}
+use Rattle.journal.proofs.Records.{Holds, holds-whole, holds-records, holds-cut, journal-none, journal-more}
 use Rattle.party.specs.declared.Party.{Party}
 use Rattle.party.specs.Party.{newParty}
 use Rattle.party.specs.Run.{Ran}
@@ -37,7 +37,7 @@ use Rattle.vote.specs.Order.{Le}
 use Rattle.vote.proofs.Laws.{Passes, le-sent, regular-new, regular-lived, le-record, le-lived, tells-replayed, sent-proper}
 use Rattle.agreement.specs.History.{Vote, Stage, waiting, running, down, Board, unborn, afterSetUp, afterRestore, afterCut}
 use Rattle.agreement.specs.Demand.{Shared}
-use Rattle.agreement.proofs.Restored.{settled, livedReplay}
+use Rattle.agreement.proofs.Restored.{Begins, begins-used, settled, livedReplay}
 use Rattle.agreement.proofs.Entries.{Recorded, fits-limits}
 use Rattle.agreement.proofs.Lent.{entered}
 use Rattle.agreement.proofs.Told.{wholeRecords}
@@ -228,16 +228,16 @@ module _ (v : Vote) (plan : Plan) (f : Shared v plan) (i : ℕ) (seat : i < v .n
 
     -- ---- an accepted restore
 
-    pub tied-restored : Tied v plan i (afterRestore b (b .journal) (found (livedReplay (newBoard v plan i) (w .records)))) l (length l)
-    tied-restored = record {
+    pub tied-restored : (j : List ℕ) → Begins j (w .records) → Tied v plan i (afterRestore b j (found (livedReplay (newBoard v plan i) (w .records)))) l (length l)
+    tied-restored j h = record {
       records = rs;
       events = w .events;
       life = w .life;
-      holds = holds-whole rs (take (length (journalBytes rs)) (b .journal)) (w .holds .limits) (holds-used (w .holds));
+      holds = holds-whole rs (take (length (journalBytes rs)) j) (w .holds .limits) (begins-used h);
       loose = 0;
       guards = omega arith;
       kept = omega (arith, ap length (w .events), events-length rs);
-      stage = record { party = refl; journal = holds-used (w .holds); outbox = last-sent rs (w .life) };
+      stage = record { party = refl; journal = begins-used h; outbox = last-sent rs (w .life) };
     }
 
     -- ---- a cut

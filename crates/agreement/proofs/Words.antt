@@ -1,6 +1,6 @@
 -- Demand 3 says "started", "taken", "made" and "handed over" by the records of a board's journal. Here is what a board's calls make of them.
 use mathlib.Core.Path.{_≡_, refl, sym, ap, _∙_, subst}
-use mathlib.Core.Logic.{_⊎_, inl, inr}
+use mathlib.Core.Logic.{_⊎_, inl, inr, _↔_}
 use mathlib.Core.Bool.{Bool, true, false}
 use mathlib.Core.List.{List, [], _∷_, _++_, List·Memᴰ, List·Memᴰ·head, List·Memᴰ·cases-cons, List·Memᴰ·not-nil}
 use Prim.Native.Nat.{ℕ, _+_, _<_}
@@ -24,8 +24,8 @@ use Rattle.level.specs.Level.{noOutput, senders, held}
 use Rattle.journal.specs.declared.Record.{Record}
 use Rattle.journal.specs.declared.Record.the-variants.{Start, Taken}
 use Rattle.journal.specs.Journal.{recordBytes}
-use Rattle.journal.specs.Records.{recordsFrom, journalBytes}
-use Rattle.journal.proofs.Records.{holds-whole, holds-records, holds-used, holds-cut}
+use Rattle.journal.specs.Records.{journalBytes}
+use Rattle.journal.proofs.Records.{holds-whole, holds-records, holds-cut}
 use Rattle.party.specs.declared.Party.{Party}
 use Rattle.party.specs.Party.{levelAt, heldBy}
 use Rattle.party.specs.Run.{Ran, taking}
@@ -36,10 +36,10 @@ use Rattle.board.specs.Restore.{Replay, restoreQuestions}
 use Rattle.execution.proofs.Logs.{handed-sent}
 use Rattle.vote.specs.Machine.{Heard}
 use Rattle.vote.proofs.Laws.{vote-lawful}
-use Rattle.agreement.specs.History.{Vote, Call, set-up, start, take-message, read-answer, restore, Step, calls, hands, cut, whose, History, Stage, waiting, running, down, Board, afterSetUp, afterEntry, afterAnswer, afterRestore, afterCall, afterOwn, afterCut, boardAfter, Handed, Refuses, Accepts, Continues, May, Allowed}
+use Rattle.agreement.specs.History.{Vote, Call, set-up, start, take-message, read-answer, restore, Step, calls, hands, cut, whose, History, Stage, waiting, running, down, Board, afterSetUp, afterEntry, afterAnswer, afterRestore, afterCall, afterOwn, afterCut, boardAfter, Handed, Refuses, recordsIn, Accepts, Continues, May, Allowed}
 use Rattle.agreement.specs.Demand.{Shared, recordsOf, StartedAt, TookFrom, Makes, StartedWith}
-use Rattle.agreement.proofs.Restored.{livedReplay, restored-found}
-use Rattle.agreement.proofs.Entries.{past-door, Recorded, start-recorded, take-recorded, exact-table}
+use Rattle.agreement.proofs.Restored.{Begins, begins-used, lendable-begins, livedReplay, restored-found}
+use Rattle.agreement.proofs.Entries.{past-door, Recorded, start-recorded, start-at, take-recorded, exact-table}
 use Rattle.agreement.proofs.Lent.{entered, start-entered, take-entered}
 use Rattle.agreement.proofs.Told.{machineOf, told, handed-told}
 use Rattle.agreement.proofs.Tied.{newBoard, AtStage, Running, shared-passes, tied-read, tied-fresh, fresh-records}
@@ -49,7 +49,7 @@ use Rattle.agreement.proofs.Inputs.{position-reading}
 
 -- the records that a board's journal holds
 abbrev kept : Board → List Record
-kept b = recordsFrom (length (b .journal)) (b .journal) 0 []
+kept b = recordsIn (b .journal)
 
 -- a step's own board after it
 own : (s : Step) (h : History) → boardAfter (s ∷ h) (whose s) ≡ afterOwn (boardAfter h (whose s)) s
@@ -155,7 +155,14 @@ module _ (v : Vote) (plan : Plan) (bad : Set) (f : Shared v plan) where
       pub start-counts : Allowed v bad (startStep ∷ h) → (r : Record) (ran : Ran) → startQuestions p z (length journal) used out ≡ found (fresh r ran)
           → StartedWith plan (startStep ∷ h) i (positionOf plan z) z
       start-counts (m, a) r ran e = record {
-        call = (p, journal, used, out, List·Memᴰ·head refl);
+        call = record {
+          party = p;
+          journal = journal;
+          used = used;
+          out = out;
+          call = List·Memᴰ·head refl;
+          accepted = start-at p z (length journal) used out (positionOf plan z) r ran e (ap (λ (y : Plan). positionOf y z) (same (m .1)));
+        };
         stands = (started-position v plan bad f (startStep ∷ h) (m, a) i (m .0 .0) (positionOf plan z) there, position-reading plan z (at .1));
         kept = there;
       }
@@ -234,7 +241,7 @@ module _ (v : Vote) (plan : Plan) (bad : Set) (f : Shared v plan) where
       after : (s : Stage) → boardAfter h i .stage ≡ s → boardAfter (cut i left ∷ h) i ≡ afterCut (boardAfter h i) s left
       after s e = own (cut i left) h ∙ ap (λ (y : Stage). afterCut (boardAfter h i) y left) e
 
-      lost : (d : ℕ) × (recordsFrom (length (take left (boardAfter h i .journal))) (take left (boardAfter h i .journal)) 0 [] ≡ drop d (recordsOf h i))
+      lost : (d : ℕ) × (recordsIn (take left (boardAfter h i .journal)) ≡ drop d (recordsOf h i))
       lost =
           let c = holds-cut (boardAfter h i .journal) (w .records) left (w .holds) in
           (c .0, holds-records (c .1) ∙ ap (drop (c .0)) (sym (records-of v plan bad f h a i (m .0 .0))))
@@ -250,8 +257,8 @@ module _ (v : Vote) (plan : Plan) (bad : Set) (f : Shared v plan) where
   pub restore-records : (h : History) (i n t own agreement : ℕ) (bytes journal : List ℕ) (out : ℕ) → Allowed v bad (calls i (restore n t own agreement bytes journal out) ∷ h)
       → recordsOf (calls i (restore n t own agreement bytes journal out) ∷ h) i ≡ recordsOf h i
   restore-records h i n t seat agreement bytes journal out ((o, inl x), a) = ap kept (refused-nothing h i (restore n t seat agreement bytes journal out) x)
-  restore-records h i n t seat agreement bytes journal out ((o, inr (up, s, ej)), a) =
-      ap kept (own (calls i (restore n t seat agreement bytes journal out)) h ∙ ap (λ (j : List ℕ). afterRestore b j q) ej) ∙ go q refl
+  restore-records h i n t seat agreement bytes journal out ((o, inr (up, s, lent)), a) =
+      ap kept (own (calls i (restore n t seat agreement bytes journal out)) h) ∙ go q refl
     where
       b : Board
       b = boardAfter h i
@@ -262,16 +269,19 @@ module _ (v : Vote) (plan : Plan) (bad : Set) (f : Shared v plan) where
       q : Found Replay
       q = restoreQuestions n t seat agreement bytes journal out
 
-      lived-records : kept (afterRestore b (b .journal) (found (livedReplay (newBoard v plan i) (x .records)))) ≡ recordsOf h i
+      l : Begins journal (x .records)
+      l = lendable-begins (b .journal) journal (x .records) (x .holds) lent
+
+      lived-records : kept (afterRestore b journal (found (livedReplay (newBoard v plan i) (x .records)))) ≡ recordsOf h i
       lived-records =
-          holds-records (holds-whole (x .records) (take (length (journalBytes (x .records))) (b .journal)) (x .holds .limits) (holds-used (x .holds)))
+          holds-records (holds-whole (x .records) (take (length (journalBytes (x .records))) journal) (x .holds .limits) (begins-used l))
           ∙ sym (records-of v plan bad f h a i (o .0))
 
-      go : (y : Found Replay) → q ≡ y → kept (afterRestore b (b .journal) y) ≡ recordsOf h i
+      go : (y : Found Replay) → q ≡ y → kept (afterRestore b journal y) ≡ recordsOf h i
       go (found r) e =
-          ap (λ (y : Replay). kept (afterRestore b (b .journal) (found y)))
-          (restored-found (v .n) (v .t) i (v .agreement) (v .plan) plan (f .boards) (f .faults) (o .0) (f .reads) (x .records) (x .life) (b .journal) (x .holds) out r
-          (sym (λ z. restoreQuestions (s .boards z) (s .faults z) (s .seat z) (s .number z) (s .bytes z) (ej z) out) ∙ e))
+          ap (λ (y : Replay). kept (afterRestore b journal (found y)))
+          (restored-found (v .n) (v .t) i (v .agreement) (v .plan) plan (f .boards) (f .faults) (o .0) (f .reads) (x .records) (x .life) journal l out r
+          (sym (λ z. restoreQuestions (s .boards z) (s .faults z) (s .seat z) (s .number z) (s .bytes z) journal out) ∙ e))
           ∙ lived-records
       go (refused number place) e = refl
 
@@ -295,6 +305,14 @@ module _ (v : Vote) (plan : Plan) (bad : Set) (f : Shared v plan) where
       go : (hands i bytes ≡ s) ⊎ Handed i bytes h → (Handed i bytes h → Reads) → Reads
       go (inl e) ih = now (subst (λ (y : Step). May v bad y h) (sym e) m)
       go (inr y) ih = ih y
+
+  -- "has taken every message that sound boards handed over": whatever message the bytes read as was taken, which is that they read as one and it was taken
+  pub taken-one : (h : History) → Allowed v bad h → (i j : ℕ) (bytes : List ℕ) → Handed j bytes h
+      → ((m : Message) → exactMessage bytes ≡ Exactly.One m → TookFrom h i j m) ↔ ((m : Message) × (exactMessage bytes ≡ Exactly.One m) × TookFrom h i j m)
+  taken-one h a i j bytes x = (
+    λ t. let y = handed-one h a j bytes x .1 in (y .0, y .2, t (y .0) (y .2)),
+    λ t m e. let f : Exactly.One (t .0) ≡ Exactly.One m = sym (t .1) ∙ e in let g : t .0 ≡ m = cc in subst (TookFrom h i j) g (t .2),
+  )
 
   -- "a lost call has handed nothing over": what a board handed over, a call of it that is not lost made
   pub handed-made : (h : History) → Allowed v bad h → (i : ℕ) (bytes : List ℕ) → Handed i bytes h → (m : Message) × (bytes ≡ messageBytes m) × Makes v plan h i m

@@ -1,7 +1,7 @@
 -- Demand 3, sentence by sentence.
 use mathlib.Core.Path.{_≡_}
 use mathlib.Core.Logic.{_⊎_}
-use mathlib.Core.List.{List, [], List·Memᴰ}
+use mathlib.Core.List.{List, List·Memᴰ}
 use Prim.Native.Nat.{ℕ, _*_, _≤_, _<_}
 use lib.IntN.{ℤ}
 use lib.ListN.{length}
@@ -18,20 +18,20 @@ use Rattle.message.specs.declared.Exactly.{Exactly}
 use Rattle.message.specs.Message.{messageBytes, exactMessage}
 use Rattle.journal.specs.declared.Record.{Record}
 use Rattle.journal.specs.declared.Record.the-variants.{Start, Taken}
-use Rattle.journal.specs.Records.{recordsFrom}
 use Rattle.party.specs.declared.Party.{Party}
 use Rattle.party.specs.Party.{newParty}
+use Rattle.party.specs.Run.{starting}
 use Rattle.life.specs.Life.{madeAlong}
 use Rattle.board.specs.declared.Answer.{Answer}
-use Rattle.board.specs.Calls.{answeredOf, noParty}
+use Rattle.board.specs.Calls.{fresh, startQuestions, answeredOf, noParty}
 use Rattle.board.specs.Restore.{restoreQuestions, restoredOf}
-use Rattle.agreement.specs.History.{Vote, start, read-answer, calls, History, Stage, waiting, running, down, Board, boardAfter, Sound, Handed, Allowed}
+use Rattle.agreement.specs.History.{Vote, start, read-answer, calls, History, Stage, waiting, running, down, Board, boardAfter, Sound, Handed, recordsIn, Allowed}
 
 -- ---- a board's journal
 
 -- the records of board i's calls that are not lost: "a start or message whose record is lost counts as not made or taken"
 abbrev pub recordsOf : History → ℕ → List Record
-recordsOf h i = recordsFrom (length (boardAfter h i .journal)) (boardAfter h i .journal) 0 []
+recordsOf h i = recordsIn (boardAfter h i .journal)
 
 -- "Started and taken mean in an accepted call not lost": board i started at position x; it took message m from board s
 abbrev pub StartedAt : History → ℕ → ℕ → Type 0
@@ -63,7 +63,7 @@ Answers v h i z =
 
 -- ---- the demand
 
--- "at most one edge apart": the same, or joined by an edge of the plan
+-- "at most one edge apart": the same, or joined by an edge of the plan; on a range, readings at most 1 apart (Ranges, `near-readings`)
 abbrev pub Near : Plan → ℕ → ℕ → Type 0
 Near p x y = (x ≡ y) ⊎ Adjacent (edgesOf p) x y
 
@@ -71,10 +71,19 @@ Near p x y = (x ≡ y) ⊎ Adjacent (edgesOf p) x y
 abbrev pub Stands : Plan → ℕ → ℤ → Type 0
 Stands p x z = (x < p .count) × (readingOf p x ≡ z)
 
--- board i's caller gave it the input z, which is position x, in a start of the list, and the record of a start at x is not lost
--- Right after each accepted start the position of its record stands for that call's own input (Words, `start-counts`).
+-- an accepted start of board i in the list: its caller gave the input z, and the call's record is of a start at position x
+pub record AcceptedStart (h : History) (i x : ℕ) (z : ℤ) : Type 0 where
+  pub party : Party
+  pub journal : List ℕ
+  pub used : ℕ
+  pub out : ℕ
+  pub call : List·Memᴰ (calls i (start party z journal used out)) h
+  pub accepted : startQuestions party z (length journal) used out ≡ found (fresh (Start (party .agreement) x) (starting party x))
+
+-- board i started with the input z of its caller: in an accepted call, at the position x of z, and the record of a start at x is not lost.
+-- Right after each accepted start it has started with that call's own input (Words, `start-counts`).
 pub record StartedWith (plan : Plan) (h : History) (i x : ℕ) (z : ℤ) : Type 0 where
-  pub call : (p : Party) × (journal : List ℕ) × (used : ℕ) × (out : ℕ) × List·Memᴰ (calls i (start p z journal used out)) h
+  pub call : AcceptedStart h i x z
   pub stands : Stands plan x z
   pub kept : StartedAt h i x
 
@@ -85,12 +94,12 @@ BetweenInputs v plan bad h y =
     × Walk (Adjacent (edgesOf plan)) (λ _. Unit {0}) a b × OnPath (Adjacent (edgesOf plan)) a b y
 
 -- "If every sound board has started, has handed over all that its calls made, and has taken every message that sound boards handed over"
--- What was handed over are bytes; the message taken is the one that they read as.
+-- What was handed over are bytes, and they read as one message (Words, `handed-one`).
 pub record Complete (v : Vote) (plan : Plan) (bad : Set) (h : History) : Type 0 where
   pub started : (i : ℕ) → Sound v bad i → (x : ℕ) × StartedAt h i x
   pub handed : (i : ℕ) (m : Message) → Sound v bad i → Makes v plan h i m → Handed i (messageBytes m) h
-  pub taken : (i j : ℕ) (bytes : List ℕ) → Sound v bad i → Sound v bad j → Handed j bytes h
-      → (m : Message) × (exactMessage bytes ≡ Exactly.One m) × TookFrom h i j m
+  pub taken : (i j : ℕ) (bytes : List ℕ) (m : Message) → Sound v bad i → Sound v bad j → Handed j bytes h → exactMessage bytes ≡ Exactly.One m
+      → TookFrom h i j m
 
 -- what holds after a list of steps
 pub record Holds (v : Vote) (plan : Plan) (bad : Set) (h : History) : Type 0 where

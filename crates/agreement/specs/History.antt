@@ -13,6 +13,10 @@ use Rattle.base.specs.declared.Verdict.{Verdict}
 use Rattle.base.specs.Found.{Found, found, refused}
 use Rattle.message.specs.declared.Message.{Message}
 use Rattle.message.specs.Message.{messageBytes}
+use Rattle.journal.specs.declared.Record.{Record}
+use Rattle.journal.specs.declared.RecordRead.{RecordRead}
+use Rattle.journal.specs.Journal.{recordAt}
+use Rattle.journal.specs.Records.{journalBytes, recordsFrom}
 use Rattle.party.specs.declared.Party.{Party}
 use Rattle.board.specs.declared.Answer.{Answer}
 use Rattle.board.specs.Calls.{Entry, again, fresh, setUpOf, startQuestions, takeQuestions, calledOf, journalAfter, answeredOf, noParty}
@@ -179,6 +183,20 @@ pub record Ours (v : Vote) (i n t own agreement : ℕ) (plan : List ℕ) : Type 
   pub number : agreement ≡ v .agreement
   pub bytes : plan ≡ v .plan
 
+-- the whole records that a journal begins with, the latest first
+abbrev pub recordsIn : List ℕ → List Record
+recordsIn j = recordsFrom (length j) j 0 []
+
+-- The journal has the whole records of the used bytes, and after them a torn one or nothing. A torn record that a restore dropped still stands behind the
+-- used bytes if the power fails before the next record is written, and the next restore may be lent it again.
+pub record TornAfter (used journal : List ℕ) : Type 0 where
+  pub kept : take (length (journalBytes (recordsIn used))) journal ≡ journalBytes (recordsIn used)
+  pub torn : recordAt journal (length (journalBytes (recordsIn used))) ≡ RecordRead.Torn
+
+-- what a restore may be lent: exactly the used bytes, or their whole records and then a torn one, which covers more histories
+abbrev pub Lendable : List ℕ → List ℕ → Type 0
+Lendable used journal = (journal ≡ used) ⊎ TornAfter used journal
+
 -- an accepted call of board i
 abbrev pub Accepts : Vote → Set → ℕ → History → Board → Call → Type 0
 -- "A sound board's first call of a vote is its one set-up"
@@ -188,7 +206,7 @@ Accepts v bad i h b (start p input journal used out) = Continues b p journal use
 Accepts v bad i h b (take-message p sender bytes journal used out) = Continues b p journal used × (Sound v bad sender → Handed sender bytes h)
 Accepts v bad i h b (read-answer p) = (b .stage ≡ running) × (p ≡ b .party)
 -- "each restore has the same settings, and after a cut later than the set-up only a restore goes on, from what the cut left"
-Accepts v bad i h b (restore n t own agreement plan journal out) = (b .stage ≡ waiting → ⊥) × Ours v i n t own agreement plan × (journal ≡ b .journal)
+Accepts v bad i h b (restore n t own agreement plan journal out) = (b .stage ≡ waiting → ⊥) × Ours v i n t own agreement plan × Lendable (b .journal) journal
 
 -- a step after the history h
 abbrev pub May : Vote → Set → Step → History → Type 0

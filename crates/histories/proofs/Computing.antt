@@ -19,7 +19,7 @@ use Rattle.level.specs.Level.{slot, senders, held, withHeard}
 use Rattle.level.specs.Counts.{otherEchoes, mayPropose, proposed, digitEchoes, splitAt, split, echoedBy, secondProposed, echoedValues, sided}
 use Rattle.level.specs.Rules.{rule1, rule2, rule3, rule4, rule5, rule6, rule7, rule8, rule9, rule10, rule11, rule12, rule13, rule14, lowestRule}
 use Rattle.journal.specs.Journal.{recordBytes, recordAt}
-use Rattle.journal.specs.Records.{recordsFrom}
+use Rattle.journal.specs.Records.{journalBytes, recordsFrom}
 use Rattle.party.specs.Party.{levelAt, withLevel, componentOf, sending, contextOf, entering, entered, heldBy, hearing}
 use Rattle.party.specs.Run.{ruleAt, openAt, openLevel, afterRule, runUpTo, run, starting, taking}
 use Rattle.party.specs.Valid.{everyLevel, setsPass, levelPasses, partyValid}
@@ -29,10 +29,10 @@ use Rattle.board.specs.Calls.{setUpOf, startQuestions, takeQuestions, answeredO
 use Rattle.board.specs.Restore.{replayFrom, restoreQuestions}
 use Rattle.agreement.specs.History.{boardAfter}
 use Rattle.histories.specs.Scripts.{followed}
-use Rattle.histories.proofs.Worlds.{worldAfter, among, sentBy, allFit, listed}
+use Rattle.histories.proofs.Worlds.{worldAfter, among, sentBy, sameBytes, allFit, listed}
 use Rattle.histories.proofs.Delivery.{startsIn, hasTaken, further, onward, along, allSent, allTaken, firstThen, judging}
 
 -- a proof that unfolds this unfolds all of them
 unfoldable pub computing : Unit {0}
-unfolding ones onesIn smallest putAt count pieces piecesAt varintWithin label joined adjacent ends edgesAt reached sweep sweeps edgesFrom rows upto without part heavy light centre neighbours degree rank neighbour side gateway port pathEdges edgesOf readingOf column planFrom settledPlan rowFits rowsFit allZero planValid messageBytes bodyAt messageAt exactMessage isIn withSender unionOver slot senders held withHeard otherEchoes mayPropose proposed digitEchoes splitAt split echoedBy secondProposed echoedValues sided rule1 rule2 rule3 rule4 rule5 rule6 rule7 rule8 rule9 rule10 rule11 rule12 rule13 rule14 lowestRule recordBytes recordAt recordsFrom levelAt withLevel componentOf sending contextOf entering entered heldBy hearing ruleAt openAt openLevel afterRule runUpTo run starting taking everyLevel setsPass levelPasses partyValid replayed positionOf answerOf setUpOf startQuestions takeQuestions answeredOf replayFrom restoreQuestions boardAfter followed worldAfter among sentBy allFit listed startsIn hasTaken further onward along allSent allTaken firstThen judging
+unfolding ones onesIn smallest putAt count pieces piecesAt varintWithin label joined adjacent ends edgesAt reached sweep sweeps edgesFrom rows upto without part heavy light centre neighbours degree rank neighbour side gateway port pathEdges edgesOf readingOf column planFrom settledPlan rowFits rowsFit allZero planValid messageBytes bodyAt messageAt exactMessage isIn withSender unionOver slot senders held withHeard otherEchoes mayPropose proposed digitEchoes splitAt split echoedBy secondProposed echoedValues sided rule1 rule2 rule3 rule4 rule5 rule6 rule7 rule8 rule9 rule10 rule11 rule12 rule13 rule14 lowestRule recordBytes recordAt journalBytes recordsFrom levelAt withLevel componentOf sending contextOf entering entered heldBy hearing ruleAt openAt openLevel afterRule runUpTo run starting taking everyLevel setsPass levelPasses partyValid replayed positionOf answerOf setUpOf startQuestions takeQuestions answeredOf replayFrom restoreQuestions boardAfter followed worldAfter among sentBy sameBytes allFit listed startsIn hasTaken further onward along allSent allTaken firstThen judging
 computing = tt

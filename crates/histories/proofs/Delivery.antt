@@ -144,7 +144,7 @@ unfolding along onward further lived madeAlong
 along-lived p [] = refl
 along-lived p (r ∷ rs) = ap (λ (a : Along). onward a r) (along-lived p rs)
 
-in-starts : (a x : ℕ) (rs : List Record) → List·Memᴰ (Start a x) rs → List·Memᴰ x (startsIn rs)
+pub in-starts : (a x : ℕ) (rs : List Record) → List·Memᴰ (Start a x) rs → List·Memᴰ x (startsIn rs)
 unfolding startsIn
 in-starts a x [] h = absurd (List·Memᴰ·not-nil h)
 in-starts a x (Start b y ∷ rs) h = go (in-starts a x rs) (List·Memᴰ·cases-cons h)
@@ -239,22 +239,21 @@ module _ (v : Vote) (plan : Plan) (bad : Set) (w : World) (h : History) (s : Sho
     board-handed m k = s .handed i m (allSent→ i made (w .sent) (T-left (allSent i made (w .sent)) (allTaken v bad rs (w .sent)) rest) m
         (subst (λ (l : List Message). List·Memᴰ m l) (sym (ap (λ (a : Along). a .made) (along-lived (newParty (v .n) (v .t) i (v .agreement) plan) rs))) k))
 
-    board-took : (j : ℕ) (bytes : List ℕ) → Sound v bad j → Handed j bytes h → (m : Message) × (exactMessage bytes ≡ Exactly.One m) × TookFrom h i j m
-    board-took j bytes d k =
+    board-took : (j : ℕ) (bytes : List ℕ) (m : Message) → Sound v bad j → Handed j bytes h → exactMessage bytes ≡ Exactly.One m → TookFrom h i j m
+    board-took j bytes m d k e =
         let x = s .known j bytes k in
         let fine : Bool = readable (x .0 .message) in
         let had : Bool = hasTaken (x .0 .by) (x .0 .message) rs in
         let t : T (fine && had) =
         unless (sound v bad (x .0 .by)) (fine && had)
         (allTaken→ v bad rs (w .sent) (T-right (allSent i made (w .sent)) (allTaken v bad rs (w .sent)) rest) (x .0) (x .1))
-        (subst (λ (y : ℕ). T (sound v bad y)) (x .2) (→sound v bad j d)) in (
-          x .0 .message,
-          ap exactMessage (x .3) ∙ readable→ (x .0 .message) (T-left fine had t),
-          Memᴰ·cast (ap (λ (y : ℕ). Taken y (x .0 .message)) (x .2)) (hasTaken→ (x .0 .by) (x .0 .message) rs (T-right fine had t)),
-        )
+        (subst (λ (y : ℕ). T (sound v bad y)) (x .2) (→sound v bad j d)) in
+        let f : Exactly.One m ≡ Exactly.One (x .0 .message) = sym e ∙ ap exactMessage (x .3) ∙ readable→ (x .0 .message) (T-left fine had t) in
+        let g : m ≡ x .0 .message = cc in
+        Memᴰ·cast (ap₂ Taken (x .2) g) (hasTaken→ (x .0 .by) (x .0 .message) rs (T-right fine had t))
 
   pub completed : Complete v plan bad h
-  completed = record { started = board-started; handed = λ i m o k. board-handed i o m k; taken = λ i j bytes o d k. board-took i o j bytes d k }
+  completed = record { started = board-started; handed = λ i m o k. board-handed i o m k; taken = λ i j bytes m o d k e. board-took i o j bytes m d k e }
 
 -- after a script that passes
 module _ (v : Vote) (bad : Set) (script : List Action) (f : passes v bad script ≡ true) where

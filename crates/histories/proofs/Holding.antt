@@ -1,24 +1,31 @@
 -- Demand 3 of every example: its premises hold, so what it promises does.
+use mathlib.Core.Path.{refl}
 use Rattle.base.specs.Limits.{maxNumber}
 use Rattle.base.specs.Sets.{Set}
 use Rattle.plan.specs.declared.Plan.{Plan}
 use Rattle.agreement.specs.History.{Vote, History}
 use Rattle.agreement.specs.Demand.{Holds, Premises}
+use Rattle.agreement.specs.Ranges.{HoldsOnRange}
 use Rattle.agreement.proofs.Theorem.{demand3}
+use Rattle.agreement.proofs.Ranges.{on-range}
 use Rattle.histories.specs.Scripts.{historyOf}
 use Rattle.histories.specs.Alone as alone
 use Rattle.histories.specs.Deep as deep
 use Rattle.histories.specs.Cuts as cuts
+use Rattle.histories.specs.Restores as restores
 use Rattle.histories.specs.Liar as liar
 use Rattle.histories.specs.Neighbours as neighbours
+use Rattle.histories.specs.Negative as negative
 use Rattle.histories.specs.Grades as grades
 use Rattle.histories.specs.Modes as modes
 use Rattle.histories.specs.Refusals as refusals
 use Rattle.histories.proofs.Alone as alone-run
 use Rattle.histories.proofs.Deep as deep-run
 use Rattle.histories.proofs.Cuts as cuts-run
+use Rattle.histories.proofs.Restores as restores-run
 use Rattle.histories.proofs.Liar as liar-run
 use Rattle.histories.proofs.Neighbours as neighbours-run
+use Rattle.histories.proofs.Negative as negative-run
 use Rattle.histories.proofs.Grades as grades-run
 use Rattle.histories.proofs.Modes as modes-run
 use Rattle.histories.proofs.Refusals as refusals-run
@@ -39,11 +46,21 @@ deep-holds = holding (deep-run.conclusion .premises)
 pub cuts-holds : Holds cuts.vote cuts.plan cuts.bad (historyOf cuts.vote cuts.script)
 cuts-holds = holding (cuts-run.conclusion .premises)
 
+pub restores-holds : Holds restores.vote restores.plan restores.bad (historyOf restores.vote restores.script)
+restores-holds = holding (restores-run.conclusion .premises)
+
 pub liar-holds : Holds liar.vote liar.plan liar.bad (historyOf liar.vote liar.script)
 liar-holds = holding (liar-run.conclusion .premises)
 
 pub neighbours-holds : Holds neighbours.vote neighbours.plan neighbours.bad (historyOf neighbours.vote neighbours.script)
 neighbours-holds = holding (neighbours-run.conclusion .premises)
+
+pub negative-holds : Holds negative.vote negative.plan negative.bad (historyOf negative.vote negative.script)
+negative-holds = holding (negative-run.conclusion .premises)
+
+-- on this range, by readings alone
+pub negative-range : HoldsOnRange negative.vote negative.plan negative.bad (historyOf negative.vote negative.script)
+negative-range = on-range negative.vote negative.plan negative.bad (historyOf negative.vote negative.script) refl negative-holds
 
 pub grades-holds : Holds grades.vote grades.plan grades.bad (historyOf grades.vote grades.script)
 grades-holds = holding (grades-run.conclusion .premises)

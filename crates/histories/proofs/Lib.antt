@@ -4,8 +4,10 @@ pub mod Computing
 pub mod Alone
 pub mod Deep
 pub mod Cuts
+pub mod Restores
 pub mod Liar
 pub mod Neighbours
+pub mod Negative
 pub mod Grades
 pub mod Modes
 pub mod Refusals

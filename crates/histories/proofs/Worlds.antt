@@ -2,12 +2,12 @@
 use mathlib.Core.Path.{_≡_, refl, sym, ap, ap₂, _∙_, subst}
 use mathlib.Core.Logic.{_⊎_, inl, inr}
 use mathlib.Core.Bool.{Bool, true, false, not, _&&_, _||_}
-use mathlib.Core.List.{List, [], _∷_, List·Memᴰ, List·Memᴰ·head, List·Memᴰ·tail, List·Memᴰ·not-nil, List·Memᴰ·cases-cons}
+use mathlib.Core.List.{List, [], _∷_, _++_, List·Memᴰ, List·Memᴰ·head, List·Memᴰ·tail, List·Memᴰ·not-nil, List·Memᴰ·cases-cons}
 use Prim.Native.Nat.{ℕ, zero, suc, _+_, _*_, _≤_, _<_}
 use native.Mathlib.Decide.{decLt, ℕ-discrete}
 use native.Mathlib.Omega.{arith}
 use lib.Dec.{T, leb, ltb, eqb, leb→le, ltb→lt, lt→ltb, eqb→eq, eqb-refl, T-not}
-use lib.ListN.{length, getD, set, replicate, length-set, length-replicate, getD-replicate, List·getD-eq-default}
+use lib.ListN.{length, getD, set, take, replicate, length-set, length-replicate, getD-replicate, List·getD-eq-default}
 use lib.Seq.{take-append-seam, getD-set-same, getD-set-other}
 use Rattle.base.specs.Pick.{pick}
 use Rattle.base.specs.Sets.{Set, count}
@@ -21,12 +21,15 @@ use Rattle.message.specs.declared.Body.{Body}
 use Rattle.message.specs.declared.Message.{Message}
 use Rattle.message.specs.Message.{kindOf, valueOf, bodyOf, messageBytes}
 use Rattle.message.proofs.RoundTrip.{body-same}
+use Rattle.journal.specs.declared.RecordRead.{RecordRead}
+use Rattle.journal.specs.Journal.{recordAt}
+use Rattle.journal.specs.Records.{journalBytes}
 use Rattle.board.specs.declared.Answer.{Answer}
 use Rattle.board.specs.Calls.{setUpOf, startQuestions, takeQuestions, answeredOf}
 use Rattle.board.specs.Restore.{restoreQuestions}
-use Rattle.agreement.specs.History.{Vote, Call, set-up, start, take-message, read-answer, restore, Step, History, Stage, waiting, running, down, Board, unborn, calls, hands, cut, whose, afterOwn, boardAfter, Sound, Handed, RefusedBy, Continues, Ours, May, Allowed}
+use Rattle.agreement.specs.History.{Vote, Call, set-up, start, take-message, read-answer, restore, Step, History, Stage, waiting, running, down, Board, unborn, calls, hands, cut, whose, afterOwn, boardAfter, Sound, Handed, RefusedBy, Continues, Ours, recordsIn, TornAfter, May, Allowed}
 use Rattle.agreement.specs.Demand.{partyBy, answerNow, Premises}
-use Rattle.histories.specs.Scripts.{Action, sets-up, starts, takes, reads, sends, cuts, restores, tries, actor, lent, stepOf, followed, historyOf, saying, RefusedIn, Refusing}
+use Rattle.histories.specs.Scripts.{Action, sets-up, starts, takes, reads, sends, cuts, restores, restores-torn, tries, actor, lent, stepOf, followed, historyOf, saying, RefusedIn, Refusing}
 
 -- ---- all boards, and what was handed over
 
@@ -52,6 +55,7 @@ sentWith l (reads i) = l
 sentWith l (sends i m) = record { by = i; message = m } ∷ l
 sentWith l (cuts i k) = l
 sentWith l (restores i) = l
+sentWith l (restores-torn i tail) = l
 sentWith l (tries i k c) = l
 
 abbrev pub acted : Vote → World → Action → World
@@ -106,6 +110,21 @@ isRefused k (take-message p sender bytes journal used out) = notFound k (takeQue
 isRefused k (read-answer p) = refusal k (answeredOf p .verdict)
 isRefused k (restore n t own agreement plan journal out) = notFound k (restoreQuestions n t own agreement plan journal out)
 
+unfoldable pub sameBytes : List ℕ → List ℕ → Bool
+sameBytes [] [] = true
+sameBytes [] (y ∷ r) = false
+sameBytes (x ∷ l) [] = false
+sameBytes (x ∷ l) (y ∷ r) = eqb x y && sameBytes l r
+
+abbrev pub isTorn : RecordRead → Bool
+isTorn (RecordRead.Read r next) = false
+isTorn RecordRead.Torn = true
+isTorn RecordRead.Bad = false
+
+-- the journal has the bytes `whole`, and then a torn record
+abbrev pub tornBehind : List ℕ → List ℕ → Bool
+tornBehind whole journal = sameBytes (take (length whole) journal) whole && isTorn (recordAt journal (length whole))
+
 abbrev pub fitsBoard : Vote → Set → List Handing → Board → Action → Bool
 fitsBoard v bad l b (sets-up i) = isWaiting (b .stage)
 fitsBoard v bad l b (starts i z) = isRunning (b .stage)
@@ -114,6 +133,7 @@ fitsBoard v bad l b (reads i) = isRunning (b .stage)
 fitsBoard v bad l b (sends i m) = isRunning (b .stage) && among m (b .outbox)
 fitsBoard v bad l b (cuts i k) = leb (b .guarded) k
 fitsBoard v bad l b (restores i) = not (isWaiting (b .stage))
+fitsBoard v bad l b (restores-torn i tail) = not (isWaiting (b .stage)) && tornBehind (journalBytes (recordsIn (b .journal))) (b .journal ++ tail)
 fitsBoard v bad l b (tries i k c) = isRefused k (c b)
 
 abbrev pub fits : Vote → Set → World → Action → Bool
@@ -192,6 +212,27 @@ running→ down h = absurd h
 not-waiting→ : (s : Stage) → T (not (isWaiting s)) → s ≡ waiting → ⊥
 not-waiting→ s h e = subst (λ (x : Stage). T (not (isWaiting x))) e h
 
+sameBytes→ : (l r : List ℕ) → T (sameBytes l r) → l ≡ r
+unfolding sameBytes
+sameBytes→ [] [] h = refl
+sameBytes→ [] (y ∷ r) h = absurd h
+sameBytes→ (x ∷ l) [] h = absurd h
+sameBytes→ (x ∷ l) (y ∷ r) h = ap₂ (λ (z : ℕ) (s : List ℕ). z ∷ s) (eqb→eq x y (T-left (eqb x y) (sameBytes l r) h)) (sameBytes→ l r (T-right (eqb x y) (sameBytes l r) h))
+
+torn→ : (r : RecordRead) → T (isTorn r) → r ≡ RecordRead.Torn
+torn→ (RecordRead.Read r next) h = absurd h
+torn→ RecordRead.Torn h = refl
+torn→ RecordRead.Bad h = absurd h
+
+torn-behind→ : (used journal : List ℕ) → T (tornBehind (journalBytes (recordsIn used)) journal) → TornAfter used journal
+torn-behind→ used journal h = record {
+  kept = sameBytes→ (take (length whole) journal) whole (T-left (sameBytes (take (length whole) journal) whole) (isTorn (recordAt journal (length whole))) h);
+  torn = torn→ (recordAt journal (length whole)) (T-right (sameBytes (take (length whole) journal) whole) (isTorn (recordAt journal (length whole))) h);
+}
+  where
+    whole : List ℕ
+    whole = journalBytes (recordsIn used)
+
 refusal→ : (k : ℕ) (x : Verdict) → T (refusal k x) → (at : ℕ) × (x ≡ Verdict.Refused k at)
 refusal→ k Verdict.Accepted h = absurd h
 refusal→ k (Verdict.Refused number at) h = (at, ap (λ (y : ℕ). Verdict.Refused y at) (eqb→eq number k h))
@@ -224,6 +265,7 @@ whose-action v b (reads j) = refl
 whose-action v b (sends j m) = refl
 whose-action v b (cuts j k) = refl
 whose-action v b (restores j) = refl
+whose-action v b (restores-torn j tail) = refl
 whose-action v b (tries j k c) = refl
 
 module _ (s : Step) (i : ℕ) (b : Board) where
@@ -235,7 +277,7 @@ module _ (s : Step) (i : ℕ) (b : Board) where
   other-stays : (whose s ≡ i → ⊥) → pick (eqb (whose s) i) (afterOwn b s) b ≡ b
   other-stays d = rw (not-T→false (eqb (whose s) i) (λ h. d (eqb→eq (whose s) i h))) refl
 
-shows-beginning : (v : Vote) → Shows v (beginning v) []
+pub shows-beginning : (v : Vote) → Shows v (beginning v) []
 unfolding boardAfter
 shows-beginning v = record {
   many = length-replicate (v .n) unborn;
@@ -288,6 +330,7 @@ module _ (v : Vote) (l : List Handing) (h : History) (b : Board) where
       go (inr r) = List·Memᴰ·tail (f i m r)
   handed-more f (cuts j k) i m x = List·Memᴰ·tail (f i m x)
   handed-more f (restores j) i m x = List·Memᴰ·tail (f i m x)
+  handed-more f (restores-torn j tail) i m x = List·Memᴰ·tail (f i m x)
   handed-more f (tries j k c) i m x = List·Memᴰ·tail (f i m x)
 
   module _ (f : (i : ℕ) (bytes : List ℕ) → Handed i bytes h → Known l i bytes) where
@@ -310,9 +353,10 @@ module _ (v : Vote) (l : List Handing) (h : History) (b : Board) where
         go (inr r) = let k = f i bytes r in (k .0, List·Memᴰ·tail (k .1), k .2, k .3)
     known-more (cuts j k) i bytes x = known-still i bytes (stepOf v b (cuts j k)) tt (List·Memᴰ·cases-cons x)
     known-more (restores j) i bytes x = known-still i bytes (stepOf v b (restores j)) tt (List·Memᴰ·cases-cons x)
+    known-more (restores-torn j tail) i bytes x = known-still i bytes (stepOf v b (restores-torn j tail)) tt (List·Memᴰ·cases-cons x)
     known-more (tries j k c) i bytes x = known-still i bytes (stepOf v b (tries j k c)) tt (List·Memᴰ·cases-cons x)
 
-shows-action : (v : Vote) (w : World) (h : History) (a : Action) → Shows v w h → actor a < v .n → Shows v (acted v w a) (stepOf v (boardAfter h (actor a)) a ∷ h)
+pub shows-action : (v : Vote) (w : World) (h : History) (a : Action) → Shows v w h → actor a < v .n → Shows v (acted v w a) (stepOf v (boardAfter h (actor a)) a ∷ h)
 unfolding boardAfter
 shows-action v w h a s l = record {
   many = length-set (w .boards) (actor a) new ∙ s .many;
@@ -378,7 +422,21 @@ module _ (v : Vote) (bad : Set) (w : World) (h : History) (s : Shows v w h) wher
   )
   may-board b (cuts i k) e o f = (o, subst (λ (c : Board). c .guarded ≤ k) e (leb→le (b .guarded) k f))
   may-board b (restores i) e o f =
-      (o, inr (λ x. not-waiting→ (b .stage) f (ap (λ (c : Board). c .stage) e ∙ x), ours i, ap (λ (c : Board). c .journal) e))
+      (o, inr (λ x. not-waiting→ (b .stage) f (ap (λ (c : Board). c .stage) e ∙ x), ours i, inl (ap (λ (c : Board). c .journal) e)))
+  may-board b (restores-torn i tail) e o f = (
+    o,
+    inr (
+      λ x. not-waiting→ (b .stage) (T-left up torn f) (ap (λ (c : Board). c .stage) e ∙ x),
+      ours i,
+      inr (subst (λ (c : Board). TornAfter (c .journal) (b .journal ++ tail)) e (torn-behind→ (b .journal) (b .journal ++ tail) (T-right up torn f))),
+    ),
+  )
+    where
+      up : Bool
+      up = not (isWaiting (b .stage))
+
+      torn : Bool
+      torn = tornBehind (journalBytes (recordsIn (b .journal))) (b .journal ++ tail)
   may-board b (tries i k c) e o f = (o, inl (k, isRefused→ k (c b) f))
 
   -- an action that is to be refused is
@@ -390,9 +448,10 @@ module _ (v : Vote) (bad : Set) (w : World) (h : History) (s : Shows v w h) wher
   refused-in b (sends i m) f = tt
   refused-in b (cuts i k) f = tt
   refused-in b (restores i) f = tt
+  refused-in b (restores-torn i tail) f = tt
   refused-in b (tries i k c) f = isRefused→ k (c b) f
 
-  may : (a : Action) → T (fits v bad w a) → May v bad (stepOf v (boardAfter h (actor a)) a) h
+  pub may : (a : Action) → T (fits v bad w a) → May v bad (stepOf v (boardAfter h (actor a)) a) h
   may a f =
       subst (λ (b : Board). May v bad (stepOf v b a) h) (s .board (actor a))
       (may-board (boardOf w (actor a)) a (s .board (actor a))

@@ -1,4 +1,5 @@
--- Scripts: histories told action by action, the oldest first. Each call but those refused gets the record, the journal and its used length as the call before left them.
+-- Scripts: histories told action by action, the oldest first. Each call but those refused gets the record, the journal and its used length as the call before
+-- left them; one kind of restore is lent a torn record behind them.
 use mathlib.Core.Path.{_≡_}
 use mathlib.Core.List.{List, [], _∷_, _++_}
 use Prim.Native.Nat.{ℕ, _<_}
@@ -34,6 +35,8 @@ pub data Action : Type 0 where
   -- a cut leaves so many bytes of the journal
   cuts : ℕ → ℕ → Action
   restores : ℕ → Action
+  -- lent these bytes behind the used ones: a torn record
+  restores-torn : ℕ → List ℕ → Action
   -- a call that the question with this number refuses, given anything; what the board has may be used for it
   tries : ℕ → ℕ → (Board → Call) → Action
 
@@ -45,6 +48,7 @@ actor (reads i) = i
 actor (sends i m) = i
 actor (cuts i k) = i
 actor (restores i) = i
+actor (restores-torn i tail) = i
 actor (tries i k c) = i
 
 -- the lent journal: the used bytes, and room for one more record
@@ -60,6 +64,7 @@ stepOf v b (reads i) = calls i (read-answer (b .party))
 stepOf v b (sends i m) = hands i (messageBytes m)
 stepOf v b (cuts i k) = cut i k
 stepOf v b (restores i) = calls i (restore (v .n) (v .t) i (v .agreement) (v .plan) (b .journal) outgoingSize)
+stepOf v b (restores-torn i tail) = calls i (restore (v .n) (v .t) i (v .agreement) (v .plan) (b .journal ++ tail) outgoingSize)
 stepOf v b (tries i k c) = calls i (c b)
 
 -- the history h and then the actions
@@ -76,6 +81,7 @@ RefusedIn b (reads i) = Unit {0}
 RefusedIn b (sends i m) = Unit {0}
 RefusedIn b (cuts i k) = Unit {0}
 RefusedIn b (restores i) = Unit {0}
+RefusedIn b (restores-torn i tail) = Unit {0}
 RefusedIn b (tries i k c) = RefusedBy k (c b)
 
 -- every call of the actions after h that is to be refused is refused by its question

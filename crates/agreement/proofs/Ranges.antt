@@ -1,0 +1,155 @@
+-- On a range, at most one edge apart is readings at most 1 apart, and on the path between two positions is between their readings.
+use mathlib.Core.Path.{_≡_, refl, sym, ap, ap₂, _∙_, subst, subst₂}
+use mathlib.Core.Logic.{_⊎_, inl, inr, _↔_}
+use mathlib.Core.Bool.{Bool, true, false, cond}
+use Prim.Native.Nat.{ℕ, zero, suc, _+_, _-_, min, max, _≤_, _<_}
+use native.Mathlib.Decide.{ℕ-discrete, decLe}
+use native.Mathlib.Omega.{arith}
+use borrow.Author.Tests.{ltb-true, ltb-false}
+use lib.Dec.{T, ltb, leb→le, le→leb}
+use lib.IntN.{ℤ, pos, negsuc, negℤ, natAbs, _+ℤ_, _-ℤ_, +ℤ-comm, +ℤ-assoc, +ℤ-negℤ-cancel, negℤ-+ℤ}
+use lib.Signed.{leZ, _≤ℤ_}
+use Rattle.base.specs.Sets.{Set}
+use Rattle.signed.specs.Signed.{fromOffset}
+use Rattle.tree.specs.Walk.{OnPath}
+use Rattle.tree.specs.Edges.{Edges, Adjacent}
+use Rattle.tree.specs.Path.{pathEdges}
+use Rattle.tree.proofs.PathEdges.{Next, Along, path-adjacent, path-along}
+use Rattle.tree.proofs.PathWalk.{between}
+use Rattle.plan.specs.declared.Plan.{Plan}
+use Rattle.plan.specs.Positions.{edgesOf}
+use Rattle.plan.proofs.Readings.{reading-sum}
+use Rattle.plan.proofs.Shape.{edges-range}
+use Rattle.agreement.specs.History.{Vote, History}
+use Rattle.agreement.specs.Demand.{Near, Stands, Premises, Holds}
+use Rattle.agreement.specs.Ranges.{apart, Between, Input, HoldsOnRange}
+use Rattle.agreement.proofs.Theorem.{demand3}
+
+-- ---- readings from one low reading on
+
+-- two of them differ as their positions do
+difference : (low : ℤ) (x w : ℕ) → apart (low +ℤ pos x) (low +ℤ pos w) ≡ natAbs (pos x -ℤ pos w)
+difference low x w =
+    ap natAbs
+    (ap (λ (z : ℤ). (low +ℤ pos x) +ℤ z) (negℤ-+ℤ low (pos w))
+    ∙ sym (+ℤ-assoc (low +ℤ pos x) (negℤ low) (negℤ (pos w)))
+    ∙ ap (λ (z : ℤ). z +ℤ negℤ (pos w)) (ap (λ (z : ℤ). z -ℤ low) (+ℤ-comm low (pos x)) ∙ +ℤ-negℤ-cancel (pos x) low))
+
+-- at most 1 apart as numbers
+abbrev Close : ℕ → ℕ → Type 0
+Close x w = (x ≤ suc w) × (w ≤ suc x)
+
+close : (x w : ℕ) → (natAbs (pos x -ℤ pos w) ≤ 1) ↔ Close x w
+close x zero = (λ h. (omega arith, omega arith), λ h. omega (arith, h .0))
+close x (suc w) = go (ltb x (suc w)) refl
+  where
+    go : (b : Bool) → ltb x (suc w) ≡ b → (natAbs (cond b (negsuc (suc w - suc x)) (pos (x - suc w))) ≤ 1) ↔ Close x (suc w)
+    go true e = let l = ltb-true x (suc w) e in (λ h. (omega arith, omega arith), λ h. omega (arith, h .1))
+    go false e = let l = ltb-false x (suc w) e in (λ h. (omega arith, omega arith), λ h. omega (arith, h .0))
+
+-- and are in the same order
+order : (low : ℤ) (x w : ℕ) → ((low +ℤ pos x) ≤ℤ (low +ℤ pos w)) ↔ (x ≤ w)
+order (pos l) x w = (λ h. omega (arith, leb→le (l + x) (l + w) (h .le)), λ h. record { le = le→leb (l + x) (l + w) (omega arith) })
+order (negsuc l) x w = let r = go (ltb x (suc l)) refl (ltb w (suc l)) refl in (λ h. r .0 (h .le), λ h. record { le = r .1 h })
+  where
+    go : (b : Bool) → ltb x (suc l) ≡ b → (c : Bool) → ltb w (suc l) ≡ c
+        → T (leZ (cond b (negsuc (suc l - suc x)) (pos (x - suc l))) (cond c (negsuc (suc l - suc w)) (pos (w - suc l)))) ↔ (x ≤ w)
+    go true e true f =
+        let i = ltb-true x (suc l) e in
+        let j = ltb-true w (suc l) f in
+        (λ h. omega (arith, leb→le (suc l - suc w) (suc l - suc x) h), λ h. le→leb (suc l - suc w) (suc l - suc x) (omega arith))
+    go true e false f = let i = ltb-true x (suc l) e in let j = ltb-false w (suc l) f in (λ h. omega arith, λ h. tt)
+    go false e true f = let i = ltb-false x (suc l) e in let j = ltb-true w (suc l) f in (λ h. absurd h, λ h. omega arith)
+    go false e false f =
+        let i = ltb-false x (suc l) e in
+        let j = ltb-false w (suc l) f in
+        (λ h. omega (arith, leb→le (x - suc l) (w - suc l) h), λ h. le→leb (x - suc l) (w - suc l) (omega arith))
+
+-- ---- positions and readings of a range
+
+module _ (p : Plan) (k : p .kind ≡ 2) where
+  -- a reading is low + its position
+  stands-sum : (x : ℕ) (z : ℤ) → Stands p x z → z ≡ fromOffset (p .low) +ℤ pos x
+  stands-sum x z s = sym (s .1) ∙ reading-sum p k x
+
+  -- one edge apart at most
+  near-close : (x w : ℕ) → x < p .count → w < p .count → Near p x w ↔ Close x w
+  near-close x w l m = (λ h. to (subst Joined (edges-range p k) h), λ h. subst Joined (sym (edges-range p k)) (from (h .0) (h .1) (ℕ-discrete x w)))
+    where
+      Joined : Edges → Type 0
+      Joined E = (x ≡ w) ⊎ Adjacent E x w
+
+      next : Next x w → Close x w
+      next (inl e) = (omega arith, omega arith)
+      next (inr e) = (omega arith, omega arith)
+
+      to : Joined (pathEdges (p .count - 1)) → Close x w
+      to (inl e) = (omega arith, omega arith)
+      to (inr h) = next (path-adjacent (p .count - 1) x w .0 h .0)
+
+      beside : x ≤ suc w → w ≤ suc x → (x ≡ w → ⊥) → Dec (x ≤ w) → Next x w
+      beside a b d (yes i) = inl (omega arith)
+      beside a b d (no i) = inr (omega arith)
+
+      from : x ≤ suc w → w ≤ suc x → Dec (x ≡ w) → Joined (pathEdges (p .count - 1))
+      from a b (yes e) = inl e
+      from a b (no d) = inr (path-adjacent (p .count - 1) x w .1 (beside a b d (decLe x w), omega arith, omega arith))
+
+  -- At most one edge apart on a range is readings at most 1 apart.
+  pub near-readings : (x w : ℕ) (y z : ℤ) → Stands p x y → Stands p w z → Near p x w ↔ (apart y z ≤ 1)
+  near-readings x w y z s t =
+      let e : apart y z ≡ natAbs (pos x -ℤ pos w) = ap₂ apart (stands-sum x y s) (stands-sum w z t) ∙ difference (fromOffset (p .low)) x w in
+      let n = near-close x w (s .0) (t .0) in
+      let c = close x w in
+      (λ h. subst (λ (d : ℕ). d ≤ 1) (sym e) (c .1 (n .0 h)), λ h. n .1 (c .0 (subst (λ (d : ℕ). d ≤ 1) e h)))
+
+  -- readings are in the order of their positions
+  pub readings-order : (x w : ℕ) (y z : ℤ) → Stands p x y → Stands p w z → (y ≤ℤ z) ↔ (x ≤ w)
+  readings-order x w y z s t = subst₂ (λ (c d : ℤ). (c ≤ℤ d) ↔ (x ≤ w)) (sym (stands-sum x y s)) (sym (stands-sum w z t)) (order (fromOffset (p .low)) x w)
+
+  -- On the path between two positions of a range is between their readings.
+  pub path-readings : (a b x : ℕ) (c d y : ℤ) → Stands p a c → Stands p b d → Stands p x y → OnPath (Adjacent (edgesOf p)) a b x ↔ Between c d y
+  path-readings a b x c d y s t u = (λ h. to (inside .0 h) (decLe a b), λ h. inside .1 (from h))
+    where
+      n : suc (p .count - 1) ≡ p .count
+      n = omega (arith, s .0)
+
+      along : Along (p .count) (edgesOf p)
+      along = subst₂ Along n (sym (edges-range p k)) (path-along (p .count - 1))
+
+      inside : OnPath (Adjacent (edgesOf p)) a b x ↔ ((min a b ≤ x) × (x ≤ max a b))
+      inside = between (p .count) (edgesOf p) along a b x (s .0) (t .0)
+
+      to : (min a b ≤ x) × (x ≤ max a b) → Dec (a ≤ b) → Between c d y
+      to h (yes l) = inl (readings-order a x c y s u .1 (omega (arith, h .0)), readings-order x b y d u t .1 (omega (arith, h .1)))
+      to h (no l) = inr (readings-order b x d y t u .1 (omega (arith, h .0)), readings-order x a y c u s .1 (omega (arith, h .1)))
+
+      from : Between c d y → (min a b ≤ x) × (x ≤ max a b)
+      from (inl (i, j)) = let l = readings-order a x c y s u .0 i in let m = readings-order x b y d u t .0 j in (omega arith, omega arith)
+      from (inr (i, j)) = let l = readings-order b x d y t u .0 i in let m = readings-order x a y c u s .0 j in (omega arith, omega arith)
+
+-- ---- demand 3 on a range
+
+module _ (v : Vote) (plan : Plan) (bad : Set) (h : History) (k : plan .kind ≡ 2) where
+  -- what demand 3 promises, by readings
+  pub on-range : Holds v plan bad h → HoldsOnRange v plan bad h
+  on-range o = record {
+    near = λ i j y z gi gj p q.
+        let r = o .near i j y z gi gj p q in
+        near-readings plan k (r .0) (r .1) y z (r .2) (r .3) .0 (r .4);
+    validity = λ i y g p.
+        let r = o .validity i y g p in
+        let b = r .2 in
+        ordered (b .4) (b .5) y (b .0, b .2, b .6, b .8) (b .1, b .3, b .7, b .9)
+        (path-readings plan k (b .2) (b .3) (r .0) (b .4) (b .5) y (b .8 .stands) (b .9 .stands) (r .1) .0 (b .11));
+  }
+    where
+      -- the smaller of the two first
+      ordered : (p q y : ℤ) → Input v plan bad h p → Input v plan bad h q → Between p q y
+          → (p : ℤ) × (q : ℤ) × Input v plan bad h p × Input v plan bad h q × (p ≤ℤ y) × (y ≤ℤ q)
+      ordered p q y m n (inl (a, b)) = (p, q, m, n, a, b)
+      ordered p q y m n (inr (a, b)) = (q, p, n, m, a, b)
+
+-- Demand 3 on a range.
+pub demand3-range : (v : Vote) (plan : Plan) (bad : Set) (h : History) → Premises v plan bad h → plan .kind ≡ 2 → HoldsOnRange v plan bad h
+demand3-range v plan bad h given k = on-range v plan bad h k (demand3 v plan bad h given)
