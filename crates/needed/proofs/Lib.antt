@@ -1,0 +1,12 @@
+pub mod Running
+pub mod Starts
+pub mod Failing
+pub mod Messages
+pub mod Guards
+pub mod Lent
+pub mod Settings
+pub mod Needed
+pub mod Premises
+pub mod Conclusions
+pub mod Ends
+pub mod Machines
