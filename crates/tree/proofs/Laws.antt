@@ -90,3 +90,6 @@ unfoldable pub use Rattle.tree.proofs.Levels.{inner}
 pub use Rattle.tree.proofs.Levels.{inner-halves}
 -- of at most 2 ^ (L + 1) positions, a component of three or more is at a level below L, and any at level L at most
 pub use Rattle.tree.proofs.Levels.{three-level, last-level}
+-- at level l three or more are left only of 3 · 2 ^ l positions or more; a path of as many has such a level, with its last position in it
+pub use Rattle.tree.proofs.Levels.{three-needs}
+pub use Rattle.tree.proofs.PathLevels.{path-level, path-levels}

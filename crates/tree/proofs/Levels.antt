@@ -55,6 +55,10 @@ module _ (E : Edges) (ok : Acyclic E) (n : ℕ) (S : Set) (C : Component E n S) 
       let c : s * 2 ^ suc (length ks) ≡ s * 2 * 2 ^ length ks = ap (λ z. s * z) (pow-suc 2 (length ks) ∙ mul-comm (2 ^ length ks) 2) ∙ sym (mul-assoc s 2 (2 ^ length ks)) in
       omega (arith, inner-halves ks (t .3))
 
+  -- so three or more at level l are left only of 3 · 2 ^ l or more
+  pub three-needs : (ks : List ℕ) → Entered E n S ks → 3 ≤ count n (inner E n S ks) → 3 * 2 ^ length ks ≤ count n S
+  three-needs ks t three = omega (arith, mul-le-mul-right (2 ^ length ks) three, inner-halves ks t)
+
   -- of at most 2 ^ (L + 1) positions, a component of three or more is at a level below L
   pub three-level : (L : ℕ) (ks : List ℕ) → Entered E n S ks → count n S ≤ 2 ^ suc L → 3 ≤ count n (inner E n S ks) → length ks < L
   three-level L ks t top three = few (count n (inner E n S ks)) (length ks) L three (omega (arith, inner-halves ks t))

@@ -23,6 +23,7 @@ pub mod PathWalk
 pub mod PathInterval
 pub mod PathCentre
 pub mod PathSides
+pub mod PathLevels
 pub mod Same
 pub mod SamePath
 pub mod Laws

@@ -1,0 +1,5 @@
+pub mod Round
+pub mod Alone
+pub mod Histories
+pub mod Sizes
+pub mod Laws

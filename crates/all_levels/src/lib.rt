@@ -1,0 +1,1 @@
+// Theorems only: 65,536 positions need all fifteen levels.
