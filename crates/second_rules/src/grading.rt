@@ -110,13 +110,21 @@ fn echo_again(t: &mut Table, level: usize, w: usize) -> bool {
     say(t, wire::SECOND_ECHO, w)
 }
 
-// Rule 5: first result there: second echo of it, once.
+// Whether the first result is there and second-echoed.
+fn has_echoed_first(t: &Table, level: usize) -> bool {
+    if table::is_set(t, level, table::FIRST_THERE) {
+        let w = table::at(t, level, table::FIRST);
+        return table::is_set(t, level, num::add(table::ECHOED_AGAIN, w));
+    }
+    false
+}
+
+// Rule 5: first result there: second echo of it, once. What was echoed is kept by value only.
 pub fn rule_5(t: &mut Table, level: usize) -> bool {
-    if table::is_set(t, level, table::ECHOED_FIRST) {
+    if has_echoed_first(t, level) {
         return false;
     }
     if table::is_set(t, level, table::FIRST_THERE) {
-        table::set(t, level, table::ECHOED_FIRST, 1);
         let w = table::at(t, level, table::FIRST);
         return echo_again(t, level, w);
     }
@@ -150,7 +158,7 @@ fn next_echo(t: &Table, level: usize) -> usize {
 
 // Rule 6, after rule 5: t+1 second echoes of w, not yet echoed: echo it.
 pub fn rule_6(t: &mut Table, level: usize) -> bool {
-    if table::is_set(t, level, table::ECHOED_FIRST) {
+    if has_echoed_first(t, level) {
         let w = next_echo(t, level);
         if w != heard::ABSENT {
             return echo_again(t, level, w);
@@ -161,7 +169,7 @@ pub fn rule_6(t: &mut Table, level: usize) -> bool {
 
 // Rule 7, after rule 5: no second proposal yet, 2t+1 second echoes of w: propose w.
 pub fn rule_7(t: &mut Table, level: usize) -> bool {
-    if table::is_set(t, level, table::ECHOED_FIRST) {
+    if has_echoed_first(t, level) {
         let w = heard::smallest_or_none(t, level, wire::SECOND_ECHO, table::MANY);
         if w != heard::ABSENT {
             return say_once(t, level, table::PROPOSED_AGAIN, wire::SECOND_PROPOSAL, w);

@@ -100,8 +100,6 @@ pub const FIRST_THERE: usize = 12;
 
 pub const FIRST: usize = 13;
 
-pub const ECHOED_FIRST: usize = 14;
-
 pub const PROPOSED_AGAIN: usize = 15;
 
 pub const SECOND_THERE: usize = 16;

@@ -1,14 +1,15 @@
 // Document 01's cases at the limits: boards, faults, vertices and width, on both implementations.
 use crate::calls;
-use crate::judge;
-use crate::plans;
 use crate::report;
-use crate::state;
-use crate::state::State;
+use votes_draw::plans;
+use votes_judge::judge;
+use votes_state::call;
+use votes_state::state;
+use votes_state::state::State;
 
 // The number and place of a refusal, or that there was none.
 fn write_result(s: &State, area: usize) {
-    let number = state::of(s, area, calls::NUMBER);
+    let number = state::of(s, area, call::NUMBER);
     if number == 0 {
         report::text(b" accepted");
         return;
@@ -16,15 +17,14 @@ fn write_result(s: &State, area: usize) {
     report::text(b" refused");
     report::number(number);
     report::text(b" at");
-    report::number(state::of(s, area, calls::PLACE));
+    report::number(state::of(s, area, call::PLACE));
 }
 
 // The set-up on both, and what they gave.
 fn set_up(s: &mut State, words: &[u8], limit: usize) {
     judge::clear(s);
-    state::set(s, state::CALL, calls::SET_UP);
-    calls::try_first(s);
-    calls::try_second(s);
+    state::set(s, state::CALL, call::SET_UP);
+    calls::try_set_up(s);
     report::text(words);
     report::number(limit);
     report::text(b":");
@@ -42,7 +42,7 @@ fn settings(s: &mut State, n: usize, t: usize) {
 
 // A range from 0 on.
 fn range(s: &mut State, width: usize) {
-    let length = plans::put_range(s, state::PLAN, plans::ZERO, width);
+    let length = plans::put_range(s, state::PLAN, call::ZERO, width);
     state::set(s, state::CALL_PLAN_LENGTH, length);
 }
 

@@ -8,7 +8,7 @@ abbrev Inv-loop : tie.InvT-loop
 Inv-loop s₀ ja₀ jb₀ oa₀ ob₀ counter₀ s ja jb oa ob counter = 0 ≤ counter
 
 abbrev μ-loop : tie.MeasureT-loop
-μ-loop s₀ ja₀ jb₀ oa₀ ob₀ counter₀ s ja jb oa ob counter = 4000 - counter
+μ-loop s₀ ja₀ jb₀ oa₀ ob₀ counter₀ s ja jb oa ob counter = 2000 - counter
 
 loop-holds : tie.Need-loop-holds Inv-loop μ-loop
 loop-holds c = search needs

@@ -1,0 +1,3 @@
+// What a call did is compared, kept, and held to demand 3.
+pub mod demand;
+pub mod judge;
