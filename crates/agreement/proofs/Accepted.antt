@@ -30,13 +30,13 @@ use Rattle.party.specs.declared.Party.{Party}
 use Rattle.party.specs.Party.{levelAt, started, heldBy}
 use Rattle.party.specs.Run.{Ran, starting, taking}
 use Rattle.party.specs.Valid.{partyValid}
-use Rattle.partylaw.proofs.Laws.{SameBoard}
-use Rattle.life.specs.Life.{Fits}
+use Rattle.party_laws.proofs.Laws.{SameBoard}
+use Rattle.party_life.specs.Life.{Fits}
 use Rattle.board.specs.Answers.{positionOf}
 use Rattle.board.specs.Calls.{Entry, again, fresh, startQuestions, takeQuestions}
 use Rattle.board.specs.Restore.{restoreQuestions}
 use Rattle.board.proofs.Questions.{start-fits, take-held, take-fits}
-use Rattle.vote.specs.Machine.{Sent}
+use Rattle.vote_machine.specs.Machine.{Sent}
 use Rattle.agreement.specs.History.{Vote, start, take-message, calls, hands, History, running, boardAfter, Sound, Handed, Lendable, Continues, Allowed}
 use Rattle.agreement.specs.Demand.{Shared, recordsOf, StartedAt, TookFrom, StartedWith}
 use Rattle.agreement.proofs.Restored.{lendable-begins, livedReplay, restored-cut}

@@ -24,9 +24,9 @@ use Rattle.journal.proofs.Records.{holds-records}
 use Rattle.party.specs.declared.Party.{Party}
 use Rattle.party.specs.Party.{newParty, levelAt, started, outputOf}
 use Rattle.party.specs.Valid.{partyValid}
-use Rattle.partylaw.proofs.Laws.{SameBoard, Output, Formed, level-holds, output-stays}
-use Rattle.partylaw.proofs.Calls.{new-level}
-use Rattle.life.specs.Life.{lived, madeAlong}
+use Rattle.party_laws.proofs.Laws.{SameBoard, Output, Formed, level-holds, output-stays}
+use Rattle.party_laws.proofs.Calls.{new-level}
+use Rattle.party_life.specs.Life.{lived, madeAlong}
 use Rattle.board.specs.declared.Answer.{Answer}
 use Rattle.board.specs.Answers.{answerOf}
 use Rattle.board.specs.Calls.{answeredOf, noParty}
@@ -35,9 +35,9 @@ use Rattle.execution.specs.Machine.{Event, Machine}
 use Rattle.execution.specs.History as logs
 use Rattle.execution.specs.History.{HStep, log, held, Seen}
 use Rattle.execution.proofs.Logs.{still}
-use Rattle.vote.specs.Machine.{Heard, Sent, voteMachine}
-use Rattle.vote.specs.Invariant.{Inv}
-use Rattle.vote.proofs.Laws.{inv-new, inv-lived, inv-called, le-called, le-lived, made-sent, taken-heard, start-entered, start-lived}
+use Rattle.vote_machine.specs.Machine.{Heard, Sent, voteMachine}
+use Rattle.vote_machine.specs.Invariant.{Inv}
+use Rattle.vote_machine.proofs.Laws.{inv-new, inv-lived, inv-called, le-called, le-lived, made-sent, taken-heard, start-entered, start-lived}
 use Rattle.agreement.specs.History.{Vote, read-answer, Step, calls, whose, History, Stage, waiting, running, down, boardAfter, Sound, Refuses, Accepts, May, Allowed}
 use Rattle.agreement.specs.Demand.{Shared, recordsOf, StartedAt, TookFrom, Makes, partyBy, answerNow, Answers, Stands, Complete}
 use Rattle.agreement.proofs.Restored.{holds-begins, restored-cut}

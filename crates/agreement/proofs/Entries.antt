@@ -28,7 +28,7 @@ use Rattle.party.specs.declared.Party.{Party}
 use Rattle.party.specs.Party.{started, heldBy}
 use Rattle.party.specs.Run.{Ran, starting, taking}
 use Rattle.party.specs.Valid.{partyValid}
-use Rattle.life.specs.Life.{replayed, Fits}
+use Rattle.party_life.specs.Life.{replayed, Fits}
 use Rattle.board.specs.Answers.{onPlan, rangePosition, positionOf}
 use Rattle.board.specs.Calls.{Entry, again, fresh, atDoor, fitting, startQuestions, takeMessage, takeQuestions}
 

@@ -21,7 +21,7 @@ use Rattle.party.specs.declared.Party.{Party}
 use Rattle.party.specs.Party.{outputOf}
 use Rattle.party.specs.Run.{Ran}
 use Rattle.party.specs.Valid.{partyValid}
-use Rattle.life.specs.Life.{lived}
+use Rattle.party_life.specs.Life.{lived}
 use Rattle.board.specs.declared.Answer.{Answer}
 use Rattle.board.specs.declared.Answered.{Answered}
 use Rattle.board.specs.declared.SetUp.{SetUp}
@@ -31,8 +31,8 @@ use Rattle.board.specs.Restore.{Replay, restoreQuestions}
 use Rattle.execution.specs.Machine.{Event, Machine}
 use Rattle.execution.specs.History as logs
 use Rattle.execution.specs.History.{HStep, log, held, FairH, ValidH}
-use Rattle.vote.specs.Machine.{Sent, voteMachine, eventOf}
-use Rattle.vote.proofs.Laws.{after-lived}
+use Rattle.vote_machine.specs.Machine.{Sent, voteMachine, eventOf}
+use Rattle.vote_machine.proofs.Laws.{after-lived}
 use Rattle.agreement.specs.History.{Vote, Call, set-up, start, take-message, read-answer, restore, Step, calls, hands, cut, whose, History, Stage, waiting, running, down, Board, afterSetUp, afterEntry, afterAnswer, afterRestore, afterCall, afterCut, afterOwn, boardAfter, Refuses, Accepts, May, Allowed}
 use Rattle.agreement.specs.Demand.{Shared}
 use Rattle.agreement.proofs.Restored.{Begins, lendable-begins, livedReplay, restored-found}

@@ -31,7 +31,7 @@ use Rattle.board.specs.Restore.{Replay, restoreQuestions}
 use Rattle.execution.specs.Machine as machine
 use Rattle.execution.specs.Machine.{Event}
 use Rattle.execution.specs.History.{log}
-use Rattle.vote.specs.Machine.{eventOf, eventsOf}
+use Rattle.vote_machine.specs.Machine.{eventOf, eventsOf}
 use Rattle.agreement.specs.History.{Vote, set-up, start, take-message, read-answer, restore, Step, calls, hands, cut, whose, History, Stage, waiting, running, down, boardAfter, Refuses, Accepts, May, Allowed}
 use Rattle.agreement.specs.Demand.{Shared, StartedAt, Stands, AcceptedStart, StartedWith}
 use Rattle.agreement.proofs.Entries.{start-recorded, start-at, take-recorded}

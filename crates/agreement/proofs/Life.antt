@@ -15,11 +15,11 @@ use Rattle.journal.specs.declared.Record.{Record}
 use Rattle.journal.specs.Records.{AllInLimits, journalBytes}
 use Rattle.party.specs.declared.Party.{Party}
 use Rattle.party.specs.Run.{Ran, bytesOf}
-use Rattle.life.specs.Life.{replayed, lived, Life}
+use Rattle.party_life.specs.Life.{replayed, lived, Life}
 use Rattle.board.specs.declared.Called.{Called}
 use Rattle.board.specs.Restore.{Replay, restoreQuestions, restoredOf, restoreOutgoing}
-use Rattle.vote.specs.Order.{Le}
-use Rattle.vote.proofs.Laws.{le-lived}
+use Rattle.vote_machine.specs.Order.{Le}
+use Rattle.vote_machine.proofs.Laws.{le-lived}
 use Rattle.agreement.specs.History.{Vote, History, running, Board, afterRestore, boardAfter, Lendable, Continues, Allowed}
 use Rattle.agreement.specs.Demand.{Shared}
 use Rattle.agreement.proofs.Restored.{Begins, holds-begins, begins-used, lendable-begins, restored, restored-cut, restored-found}

@@ -25,7 +25,7 @@ use Rattle.journal.proofs.Records.{Holds, holds-whole, holds-records, holds-end
 use Rattle.party.specs.declared.Party.{Party}
 use Rattle.party.specs.Party.{newParty, started}
 use Rattle.party.specs.Run.{Ran, resting}
-use Rattle.life.specs.Life.{replayed, following, lived, Fits, Life}
+use Rattle.party_life.specs.Life.{replayed, following, lived, Fits, Life}
 use Rattle.board.specs.Restore.{recordFits, Replay, replayFrom, onPlanRead, restoreQuestions}
 use Rattle.agreement.specs.History.{recordsIn, Lendable}
 

@@ -7,13 +7,13 @@ use Rattle.tree.specs.Edges.{Adjacent}
 use Rattle.tree.specs.Component.{upto}
 use Rattle.tree.proofs.Walks.{mono}
 use Rattle.plan.specs.Positions.{edgesOf}
-use Rattle.partylaw.proofs.Laws.{plan-whole}
+use Rattle.party_laws.proofs.Laws.{plan-whole}
 use Rattle.base.specs.Sets.{Set, count}
 use Rattle.plan.specs.declared.Plan.{Plan}
 use Rattle.party.specs.declared.Party.{Party}
 use Rattle.party.specs.Party.{outputOf}
-use Rattle.vote.proofs.Laws.{Passes}
-use Rattle.consensus.proofs.Laws.{InputAt, near, between, ends}
+use Rattle.vote_machine.proofs.Laws.{Passes}
+use Rattle.log_agreement.proofs.Laws.{InputAt, near, between, ends}
 use Rattle.agreement.specs.History.{Vote, History, Sound, Allowed}
 use Rattle.agreement.specs.Demand.{Shared, Premises, Holds, Demand3, StartedWith}
 use Rattle.agreement.proofs.Told.{told}

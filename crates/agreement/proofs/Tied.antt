@@ -27,14 +27,14 @@ use Rattle.party.specs.declared.Party.{Party}
 use Rattle.party.specs.Party.{newParty}
 use Rattle.party.specs.Run.{Ran}
 use Rattle.party.specs.Valid.{settingsPass}
-use Rattle.partylaw.proofs.Laws.{→settings}
-use Rattle.life.specs.Life.{replayed, lived, Fits, Life}
+use Rattle.party_laws.proofs.Laws.{→settings}
+use Rattle.party_life.specs.Life.{replayed, lived, Fits, Life}
 use Rattle.board.specs.Calls.{fresh, setUpOf, setUpAnswer}
 use Rattle.execution.specs.Machine.{Event}
-use Rattle.vote.specs.Machine.{Sent, eventOf, eventsOf}
-use Rattle.vote.specs.Invariant.{Regular}
-use Rattle.vote.specs.Order.{Le}
-use Rattle.vote.proofs.Laws.{Passes, le-sent, regular-new, regular-lived, le-record, le-lived, tells-replayed, sent-proper}
+use Rattle.vote_machine.specs.Machine.{Sent, eventOf, eventsOf}
+use Rattle.vote_machine.specs.Invariant.{Regular}
+use Rattle.vote_machine.specs.Order.{Le}
+use Rattle.vote_machine.proofs.Laws.{Passes, le-sent, regular-new, regular-lived, le-record, le-lived, tells-replayed, sent-proper}
 use Rattle.agreement.specs.History.{Vote, Stage, waiting, running, down, Board, unborn, afterSetUp, afterRestore, afterCut}
 use Rattle.agreement.specs.Demand.{Shared}
 use Rattle.agreement.proofs.Restored.{Begins, begins-used, settled, livedReplay}

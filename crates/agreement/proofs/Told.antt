@@ -20,7 +20,7 @@ use Rattle.board.specs.Restore.{Replay, restoreQuestions}
 use Rattle.execution.specs.Machine.{Event, Machine}
 use Rattle.execution.specs.History as logs
 use Rattle.execution.specs.History.{HStep, act, hand, mark, log, held, FairH, ValidH}
-use Rattle.vote.specs.Machine.{voteMachine, eventOf}
+use Rattle.vote_machine.specs.Machine.{voteMachine, eventOf}
 use Rattle.agreement.specs.History.{Vote, Call, set-up, start, take-message, read-answer, restore, Step, calls, hands, cut, whose, History, Stage, waiting, running, down, Board, boardAfter, Handed}
 
 -- the vote as a machine

@@ -29,13 +29,13 @@ use Rattle.journal.proofs.Records.{holds-whole, holds-records, holds-cut}
 use Rattle.party.specs.declared.Party.{Party}
 use Rattle.party.specs.Party.{levelAt, heldBy}
 use Rattle.party.specs.Run.{Ran, taking}
-use Rattle.life.specs.Life.{replayed, lived, madeAlong}
+use Rattle.party_life.specs.Life.{replayed, lived, madeAlong}
 use Rattle.board.specs.Answers.{positionOf}
 use Rattle.board.specs.Calls.{Entry, again, fresh, fitting, setUpOf, startQuestions, takeMessage, takeQuestions}
 use Rattle.board.specs.Restore.{Replay, restoreQuestions}
 use Rattle.execution.proofs.Logs.{handed-sent}
-use Rattle.vote.specs.Machine.{Heard}
-use Rattle.vote.proofs.Laws.{vote-lawful}
+use Rattle.vote_machine.specs.Machine.{Heard}
+use Rattle.vote_machine.proofs.Laws.{vote-lawful}
 use Rattle.agreement.specs.History.{Vote, Call, set-up, start, take-message, read-answer, restore, Step, calls, hands, cut, whose, History, Stage, waiting, running, down, Board, afterSetUp, afterEntry, afterAnswer, afterRestore, afterCall, afterOwn, afterCut, boardAfter, Handed, Refuses, recordsIn, Accepts, Continues, May, Allowed}
 use Rattle.agreement.specs.Demand.{Shared, recordsOf, StartedAt, TookFrom, Makes, StartedWith}
 use Rattle.agreement.proofs.Restored.{Begins, begins-used, lendable-begins, livedReplay, restored-found}

@@ -21,7 +21,7 @@ use Rattle.journal.specs.declared.Record.the-variants.{Start, Taken}
 use Rattle.party.specs.declared.Party.{Party}
 use Rattle.party.specs.Party.{newParty}
 use Rattle.party.specs.Run.{starting}
-use Rattle.life.specs.Life.{madeAlong}
+use Rattle.party_life.specs.Life.{madeAlong}
 use Rattle.board.specs.declared.Answer.{Answer}
 use Rattle.board.specs.Calls.{fresh, startQuestions, answeredOf, noParty}
 use Rattle.board.specs.Restore.{restoreQuestions, restoredOf}

@@ -11,8 +11,8 @@ use Rattle.journal.specs.declared.Record.{Record}
 use Rattle.party.specs.declared.Party.{Party}
 use Rattle.party.specs.Party.{newParty}
 use Rattle.party.specs.Valid.{settingsPass}
-use Rattle.life.specs.Life.{replayed, lived, Life, madeAlong}
-use Rattle.bounds.proofs.Laws.{Sized, sized-new, sized-lived, messagesLeft, messages-most, replayed-within}
+use Rattle.party_life.specs.Life.{replayed, lived, Life, madeAlong}
+use Rattle.party_bounds.proofs.Laws.{Sized, sized-new, sized-lived, messagesLeft, messages-most, replayed-within}
 
 -- what was made and what may still be made
 made-left : (p : Party) → Sized p → (rs : List Record) → Life p rs

@@ -20,10 +20,10 @@ use Rattle.party.specs.declared.Chart.{Chart}
 use Rattle.party.specs.Run.{Ran, resting}
 use Rattle.party.specs.Valid.{partyValid}
 use Rattle.party.specs.Chart.{Charts}
-use Rattle.life.specs.Life.{replayed, following, Fits}
-use Rattle.bounds.proofs.Laws.{Sized}
-use Rattle.run.specs.Gives.{Gives}
-use Rattle.run.specs.declared.Ran as Running
+use Rattle.party_life.specs.Life.{replayed, following, Fits}
+use Rattle.party_bounds.proofs.Laws.{Sized}
+use Rattle.party_run.specs.Gives.{Gives}
+use Rattle.party_run.specs.declared.Ran as Running
 use Rattle.board.specs.Inner.{New, One, Many, none, more, Replays}
 use Rattle.board.proofs.Replays.{new-sized, one-record, one-read, many-sized, many-le, many-first, many-last, many-then, many-rules}
 

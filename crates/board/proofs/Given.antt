@@ -28,8 +28,8 @@ use Rattle.party.specs.declared.Chart.{Chart}
 use Rattle.party.specs.Party.{newParty, started, heldBy}
 use Rattle.party.specs.Run.{Ran, resting}
 use Rattle.party.specs.Valid.{partyValid}
-use Rattle.life.specs.Life.{replayed, Fits}
-use Rattle.partylaw.proofs.Laws.{Formed, formed-starting, formed-taking, valid→}
+use Rattle.party_life.specs.Life.{replayed, Fits}
+use Rattle.party_laws.proofs.Laws.{Formed, formed-starting, formed-taking, valid→}
 use Rattle.board.specs.declared.Door.{Door}
 use Rattle.board.specs.Answers.{positionOf}
 use Rattle.board.specs.Calls.{Entry, fresh, noParty, setUpAnswer, setUpOf, startQuestions, takeQuestions, calledOf}

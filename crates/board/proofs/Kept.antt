@@ -15,7 +15,7 @@ use Rattle.journal.specs.Journal.{recordAt}
 use Rattle.journal.proofs.RoundTrip.{record-was-written}
 use Rattle.party.specs.Party.{started}
 use Rattle.party.specs.Run.{Ran}
-use Rattle.life.specs.Life.{replayed, following, Fits}
+use Rattle.party_life.specs.Life.{replayed, following, Fits}
 use Rattle.board.specs.Restore.{Replay, replayFrom}
 use Rattle.board.specs.Inner.{faultOf}
 use Rattle.board.proofs.Replays.{replay-end, replay-torn, replay-bad, replay-read, fits-by-fault, fault-fits}

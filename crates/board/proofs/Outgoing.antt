@@ -38,9 +38,9 @@ use Rattle.party.specs.Party.{newParty, started, heldBy}
 use Rattle.party.specs.Run.{Ran, resting, starting, taking, bytesOf}
 use Rattle.party.specs.Valid.{partyValid}
 use Rattle.party.proofs.Party as PartyType
-use Rattle.run.proofs.Typed.{typed-sized}
-use Rattle.life.specs.Life.{replayed, following, Fits}
-use Rattle.bounds.proofs.Laws.{Sized, Within, replayed-within, sized-replayed}
+use Rattle.party_run.proofs.Typed.{typed-sized}
+use Rattle.party_life.specs.Life.{replayed, following, Fits}
+use Rattle.party_bounds.proofs.Laws.{Sized, Within, replayed-within, sized-replayed}
 use Rattle.board.specs.declared.Called.{Called}
 use Rattle.board.specs.Answers.{positionOf}
 use Rattle.board.specs.Calls.{Entry, again, fresh, atDoor, fitting, startQuestions, takeMessage, takeQuestions, calledOf, outgoingAfter}

@@ -32,7 +32,7 @@ use Rattle.party.specs.Party.{newParty, started, heldBy, outputOf}
 use Rattle.party.specs.Run.{Ran, starting, taking, bytesOf}
 use Rattle.party.specs.Valid.{partyValid}
 use Rattle.party.specs.Chart.{Charts}
-use Rattle.partylaw.proofs.Valid.{valid→}
+use Rattle.party_laws.proofs.Valid.{valid→}
 use Rattle.board.specs.declared.Door.{Door}
 use Rattle.board.specs.declared.SetUp.{SetUp}
 use Rattle.board.specs.declared.Called.{Called}
@@ -42,8 +42,8 @@ use Rattle.board.specs.Answers.{positionOf, answerOf}
 use Rattle.board.specs.Calls.{Entry, again, fresh, noParty, setUpAnswer, setUpOf, atDoor, fitting, startQuestions, takeMessage, takeQuestions, calledOf, journalAfter, outgoingAfter, answeredOf}
 use Rattle.board.specs.Results.{CallGives}
 use Rattle.board.specs.Inner.{AtDoor}
-use Rattle.run.specs.Gives.{Gives}
-use Rattle.run.specs.declared.Ran as Running
+use Rattle.party_run.specs.Gives.{Gives}
+use Rattle.party_run.specs.declared.Ran as Running
 
 -- ---- set-up
 

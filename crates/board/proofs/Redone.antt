@@ -14,9 +14,9 @@ use Rattle.party.specs.declared.Chart.{Chart}
 use Rattle.party.specs.Party.{heldBy}
 use Rattle.party.specs.Run.{Ran, resting, starting, taking, bytesOf}
 use Rattle.party.specs.Chart.{Charts}
-use Rattle.life.specs.Life.{replayed}
-use Rattle.run.specs.Gives.{voiced, Gives}
-use Rattle.run.specs.declared.Ran as Running
+use Rattle.party_life.specs.Life.{replayed}
+use Rattle.party_run.specs.Gives.{voiced, Gives}
+use Rattle.party_run.specs.declared.Ran as Running
 
 module _ (p : Party) (x : Record) where
   pub replayed-start : {a y : ℕ} → x ≡ Start a y → replayed p x ≡ starting p y

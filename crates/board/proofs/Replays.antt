@@ -16,7 +16,7 @@ use Rattle.message.specs.declared.Message.{Message}
 use Rattle.message.specs.Message.{inTable}
 use Rattle.level.specs.declared.Level.{Level}
 use Rattle.level.specs.Level.{blankLevel, withHeard, withEntry}
-use Rattle.levellaw.proofs.Grows.{move-unmoved}
+use Rattle.level_laws.proofs.Grows.{move-unmoved}
 use Rattle.journal.specs.declared.Record.{Record}
 use Rattle.journal.specs.declared.Record.the-variants.{Start, Taken}
 use Rattle.journal.specs.declared.RecordRead.{RecordRead}
@@ -27,10 +27,10 @@ use Rattle.party.specs.declared.Party.{Party}
 use Rattle.party.specs.Party.{newParty, levelAt, withLevel, componentOf, contextOf, started, entering, entered, hearing}
 use Rattle.party.specs.Run.{Ran, resting, openAt, stepAt, starting, taking}
 use Rattle.party.specs.Valid.{partyValid}
-use Rattle.life.specs.Life.{replayed, following, lived, Fits, Life}
-use Rattle.partylaw.proofs.Laws.{SameBoard, board-refl, board-trans, Step, changes, enters, open-step, level-field, entry-other, entry-level, run-kept, starting-kept, taking-kept, starting-keeps, taking-keeps}
-use Rattle.partylaw.proofs.Calls.{new-level}
-use Rattle.bounds.proofs.Laws.{Sized, sized-new, sized-replayed, set-up-rules}
+use Rattle.party_life.specs.Life.{replayed, following, lived, Fits, Life}
+use Rattle.party_laws.proofs.Laws.{SameBoard, board-refl, board-trans, Step, changes, enters, open-step, level-field, entry-other, entry-level, run-kept, starting-kept, taking-kept, starting-keeps, taking-keeps}
+use Rattle.party_laws.proofs.Calls.{new-level}
+use Rattle.party_bounds.proofs.Laws.{Sized, sized-new, sized-replayed, set-up-rules}
 use Rattle.board.specs.Restore.{recordFits, Replay, replayFrom}
 use Rattle.board.specs.Inner.{New, faultOf, startedBy, One, one, Many, none, more}
 

@@ -30,10 +30,10 @@ use Rattle.party.specs.Party.{newParty}
 use Rattle.party.specs.Run.{Ran, resting, bytesOf}
 use Rattle.party.specs.Valid.{settingsPass, partyValid}
 use Rattle.party.specs.Chart.{Charts}
-use Rattle.life.specs.Life.{replayed, following, Fits}
-use Rattle.bounds.proofs.Laws.{Sized}
-use Rattle.run.specs.Gives.{voiced, Gives}
-use Rattle.run.specs.declared.Ran as Running
+use Rattle.party_life.specs.Life.{replayed, following, Fits}
+use Rattle.party_bounds.proofs.Laws.{Sized}
+use Rattle.party_run.specs.Gives.{voiced, Gives}
+use Rattle.party_run.specs.declared.Ran as Running
 use Rattle.board.specs.declared.Called.{Called}
 use Rattle.board.specs.Calls.{noParty}
 use Rattle.board.specs.Restore.{Replay, replayFrom, onPlanRead, restoreQuestions, restoredOf, restoreOutgoing}

@@ -15,8 +15,8 @@ use Rattle.journal.proofs.RoundTrip.{record-was-written}
 use Rattle.party.specs.declared.Party.{Party}
 use Rattle.party.specs.Party.{started}
 use Rattle.party.specs.Run.{Ran, resting}
-use Rattle.life.specs.Life.{replayed, following, Fits}
-use Rattle.bounds.proofs.Laws.{Sized}
+use Rattle.party_life.specs.Life.{replayed, following, Fits}
+use Rattle.party_bounds.proofs.Laws.{Sized}
 use Rattle.board.specs.declared.restoring.Scan.{Scan}
 use Rattle.board.specs.Restore.{Replay, replayFrom}
 use Rattle.board.specs.Inner.{New, faultOf, startedBy, One, one, Many, none, more, Whole, Scanned}

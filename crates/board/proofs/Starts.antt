@@ -25,7 +25,7 @@ use Rattle.party.specs.declared.Party.{Party}
 use Rattle.party.specs.Party.{started}
 use Rattle.party.specs.Run.{starting}
 use Rattle.party.specs.Valid.{partyValid}
-use Rattle.partylaw.proofs.Laws.{valid→}
+use Rattle.party_laws.proofs.Laws.{valid→}
 use Rattle.board.specs.Calls.{fresh, startQuestions}
 use Rattle.board.proofs.Inputs.{reading-position, offset-fits}
 use Rattle.board.proofs.Questions.{start-fits}

@@ -20,8 +20,8 @@ use Rattle.party.specs.declared.Chart.{Chart}
 use Rattle.party.specs.Run.{Ran, resting}
 use Rattle.party.specs.Valid.{settingsPass, partyValid}
 use Rattle.party.specs.Chart.{Charts}
-use Rattle.life.specs.Life.{replayed, following, Fits}
-use Rattle.run.specs.declared.Ran as Running
+use Rattle.party_life.specs.Life.{replayed, following, Fits}
+use Rattle.party_run.specs.declared.Ran as Running
 use Rattle.board.specs.declared.Door.{Door}
 use Rattle.board.specs.declared.restoring.Scan.{Scan}
 use Rattle.board.specs.Calls.{Entry, atDoor}

@@ -19,7 +19,7 @@ use Rattle.journal.specs.Journal.{recordAt}
 use Rattle.party.specs.declared.Party.{Party}
 use Rattle.party.specs.Party.{newParty, started}
 use Rattle.party.specs.Run.{Ran, resting, bytesOf}
-use Rattle.life.specs.Life.{replayed, following}
+use Rattle.party_life.specs.Life.{replayed, following}
 use Rattle.board.specs.declared.Called.{Called}
 use Rattle.board.specs.Calls.{noParty}
 

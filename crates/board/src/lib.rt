@@ -56,7 +56,7 @@ fn no_party() -> party::Party
 pub fn set_up(n: u32, t: u32, own: u32, agreement: u32, bytes: &[u8]) -> SetUp
     ensures { λ r. ⌜ r ≡ setUpOf n t own agreement (now (bytes .entry)) ⌝ }
 {
-    let r = planreader::settle(n, t, own, bytes);
+    let r = plan_reader::settle(n, t, own, bytes);
     let v = r.verdict;
     let plan = r.plan;
     match v {
@@ -102,7 +102,7 @@ fn accept(p: party::Party, used: usize, sent: usize, rules: u32) -> Called
 fn at_door(p: party::Party, room: usize, used: usize, out: usize) -> Door
     ensures { λ r. ⌜ AtDoor p room used out r ⌝ }
 {
-    let i = inspect::inspect(p);
+    let i = party_inspect::inspect(p);
     let chart = i.chart;
     if !i.ok {
         return Door {
@@ -149,7 +149,7 @@ pub fn start(p: party::Party, input: i64, journal: &mut [u8], used: usize, out: 
         return refuse(p, used, 17);
     }
     let end = journal::append(journal, used, record);
-    let ran = run::start(p, d.chart, x, out, true);
+    let ran = party_run::start(p, d.chart, x, out, true);
     accept(ran.party, end, ran.sent, ran.rules)
 }
 
@@ -178,7 +178,7 @@ pub fn take(
         return refuse(p, used, 16);
     }
     let s = sender as u8;
-    if run::held(p, s, m) {
+    if party_run::held(p, s, m) {
         return accept(p, used, 0, 0);
     }
     let taken = journal::Record::Taken(s, m);
@@ -186,7 +186,7 @@ pub fn take(
         return refuse(p, used, 17);
     }
     let end = journal::append(journal, used, taken);
-    let ran = run::take(p, d.chart, s, m, out, true);
+    let ran = party_run::take(p, d.chart, s, m, out, true);
     accept(ran.party, end, ran.sent, ran.rules)
 }
 
@@ -205,7 +205,7 @@ pub fn restore(
     if out.len() < base::OUTGOING {
         return restoring::unrestored(18, 0);
     }
-    let r = planreader::settle(n, t, own, bytes);
+    let r = plan_reader::settle(n, t, own, bytes);
     let v = r.verdict;
     let plan = r.plan;
     match v {
@@ -221,7 +221,7 @@ pub fn restore(
 pub fn read_answer(p: party::Party) -> Answered
     ensures { λ r. ⌜ r ≡ answeredOf p ⌝ }
 {
-    let i = inspect::inspect(p);
+    let i = party_inspect::inspect(p);
     if !i.ok {
         let v = base::Verdict::Refused(19, 0);
         let none = Answer::None;

@@ -2,7 +2,7 @@
 use crate::Called;
 use crate::accept;
 use crate::no_party;
-use run::Ran;
+use party_run::Ran;
 ghost use mathlib.Core.Path.{_≡_};
 ghost use Prim.Native.Nat.{_≤_};
 ghost use mathlib.Core.Bool.{false};
@@ -11,8 +11,8 @@ ghost use lib.ListN.{length};
 ghost use Rattle.base.specs.Limits.{outgoingSize};
 ghost use Rattle.party.specs.Valid.{partyValid};
 ghost use Rattle.party.specs.Chart.{Charts};
-ghost use Rattle.life.specs.Life.{replayed, Fits};
-ghost use Rattle.run.specs.Gives.{Gives};
+ghost use Rattle.party_life.specs.Life.{replayed, Fits};
+ghost use Rattle.party_run.specs.Gives.{Gives};
 ghost use Rattle.base.specs.Found.{refused};
 ghost use Rattle.party.specs.Run.{resting};
 ghost use Rattle.party.specs.Run as Rules;
@@ -125,9 +125,9 @@ fn replay_record(
     ensures { λ g. ⌜ Gives (replayed p r) loud (now (out .entry)) g (now (out .exit)) ⌝ }
 {
     match r {
-        journal::Record::Start(_, x) => run::start(p, c, x, out, loud),
+        journal::Record::Start(_, x) => party_run::start(p, c, x, out, loud),
         journal::Record::Taken(s, m) => {
-            if run::held(p, s, m) {
+            if party_run::held(p, s, m) {
                 return Ran {
                     party: p,
                     chart: c,
@@ -135,7 +135,7 @@ fn replay_record(
                     sent: 0,
                 };
             }
-            run::take(p, c, s, m, out, loud)
+            party_run::take(p, c, s, m, out, loud)
         }
     }
 }
@@ -204,7 +204,7 @@ pub(crate) fn restore_on(p: party::Party, journal: &[u8], out: &mut [u8]) -> Cal
     if s.end == 0 {
         return accept(p, 0, 0, 0);
     }
-    let i = inspect::inspect(p);
+    let i = party_inspect::inspect(p);
     let before = replay_before(p, i.chart, journal, s.place, out);
     let journal::RecordRead::Read(r, end) = journal::read_at(journal, s.place) else {
         return unrestored(21, s.place);

@@ -23,7 +23,7 @@ use Rattle.plan.specs.Valid.{planValid}
 use Rattle.plan.proofs.Parts.{tree-parts}
 use Rattle.plan.proofs.Shape.{Kinds, tree, range, kinds, fit-grown, shape, edges-tree}
 use Rattle.marks.specs.Marks.{marked}
-use Rattle.treepass.specs.Steps.{Rows}
+use Rattle.tree_pass.specs.Steps.{Rows}
 use Rattle.component.specs.Component.{members, OfPlan, sizeOf, surveyOf}
 use Rattle.component.specs.Inner.{OfTree, surveyIn}
 use Rattle.component.specs.declared.Component.{Component}

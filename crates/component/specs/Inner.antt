@@ -9,7 +9,7 @@ use Rattle.tree.specs.Walk.{Walk}
 use Rattle.tree.specs.Edges.{Edges, Adjacent, In}
 use Rattle.tree.specs.Component.{centre, degree, port}
 use Rattle.edges.specs.Rows.{rows}
-use Rattle.treepass.specs.Steps.{Rows}
+use Rattle.tree_pass.specs.Steps.{Rows}
 use Rattle.component.specs.declared.Survey.{Survey}
 
 -- the edges of a tree of n positions

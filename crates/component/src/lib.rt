@@ -124,7 +124,7 @@ fn tree_port(
     }
     let rest = leave_out(inside, c);
     let mut labels = [0u16; base::MAX_VERTICES];
-    treepass::labels(ps, cs, &rest, &mut labels, n, n - 1);
+    tree_pass::labels(ps, cs, &rest, &mut labels, n, n - 1);
     let a = labels[x];
     let w = marks::first_labelled(near, &labels, a, n);
     marks::count(near, w + 1)
@@ -141,9 +141,9 @@ fn tree_survey(
     requires { ⌜ OfTree (now ps) (now cs) n (marked inside) × T (marked inside x) ⌝ }
     ensures { λ r. ⌜ r ≡ surveyIn (tree (now (ps .entry)) (now (cs .entry)) n) n (marked inside) x ⌝ }
 {
-    let c = treepass::centre(ps, cs, inside, n, n - 1);
+    let c = tree_pass::centre(ps, cs, inside, n, n - 1);
     let mut near = [0u8; base::MAX_VERTICES];
-    treepass::neighbours(ps, cs, &inside, &mut near, c, n, n - 1);
+    tree_pass::neighbours(ps, cs, &inside, &mut near, c, n, n - 1);
     let d = marks::count(&near, n);
     let k = tree_port(ps, cs, inside, &near, n, c, x);
     Survey {
@@ -179,7 +179,7 @@ fn tree_neighbour(ps: &[u16], cs: &[u16], inside: &[u8], n: usize, c: usize, k: 
     ensures { λ r. ⌜ r ≡ neighbour (tree (now (ps .entry)) (now (cs .entry)) n) n (marked (now (inside .entry))) k ⌝ }
 {
     let mut near = [0u8; base::MAX_VERTICES];
-    treepass::neighbours(ps, cs, inside, &mut near, c, n, n - 1);
+    tree_pass::neighbours(ps, cs, inside, &mut near, c, n, n - 1);
     marks::nth(&near, n, k)
 }
 
@@ -222,7 +222,7 @@ fn tree_side(
     let w = tree_neighbour(ps, cs, &inside, n, c, k);
     let mut rest = leave_out(inside, c);
     let mut labels = [0u16; base::MAX_VERTICES];
-    treepass::labels(ps, cs, &rest, &mut labels, n, n - 1);
+    tree_pass::labels(ps, cs, &rest, &mut labels, n, n - 1);
     let a = labels[w];
     marks::keep(&mut rest, &labels, a, n);
     rest

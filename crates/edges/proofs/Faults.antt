@@ -8,7 +8,7 @@ use lib.Dec.{ltb}
 use lib.ListN.{getD}
 use borrow.Author.Tests.{lt-ltb, le-ltb, eq-eqb, ne-eqb}
 use Rattle.base.specs.Limits.{maxDegree}
-use Rattle.forest.specs.Forest.{together}
+use Rattle.union_find.specs.Forest.{together}
 use Rattle.edges.specs.Reading.{endsApart}
 use Rattle.edges.specs.Steps.{faultOf}
 

@@ -12,7 +12,7 @@ use Rattle.base.specs.Limits.{maxDegree}
 use Rattle.varint.specs.declared.VarintRead.{VarintRead}
 use Rattle.varint.specs.Varint.{varintAt}
 use Rattle.tree.specs.Edges.{Edge, Edges}
-use Rattle.forest.specs.Forest.{together, Unions}
+use Rattle.union_find.specs.Forest.{together, Unions}
 use Rattle.edges.specs.declared.EdgeStep.{EdgeStep}
 use Rattle.base.specs.Found.{Found, refused}
 use Rattle.edges.specs.Reading.{onward, endsApart, notJoined, roomAtEnds, edgesFrom}

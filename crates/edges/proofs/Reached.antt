@@ -12,7 +12,7 @@ use borrow.Author.Tests.{eqb-true}
 use Rattle.base.specs.Sets.{bit}
 use Rattle.base.specs.Limits.{maxDegree}
 use Rattle.tree.specs.Edges.{Edge, Edges, edgesAt}
-use Rattle.forest.specs.Forest.{Unions}
+use Rattle.union_find.specs.Forest.{Unions}
 use Rattle.edges.specs.declared.EdgesRead.{EdgesRead}
 use Rattle.edges.specs.declared.EdgeStep.{EdgeStep}
 use Rattle.base.specs.Found.{Found, found}

@@ -10,7 +10,7 @@ use Rattle.base.specs.Limits.{maxDegree}
 use Rattle.varint.specs.declared.VarintRead.{VarintRead}
 use Rattle.varint.specs.Varint.{varintAt}
 use Rattle.tree.specs.Edges.{Edges, edgesAt}
-use Rattle.forest.specs.Forest.{together}
+use Rattle.union_find.specs.Forest.{together}
 use Rattle.edges.specs.declared.EdgeStep.{EdgeStep}
 use Rattle.edges.specs.Reading.{endsApart}
 

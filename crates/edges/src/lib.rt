@@ -7,7 +7,7 @@ ghost use lib.Dec.{eqb};
 ghost use lib.ListN.{length, getD};
 ghost use Rattle.base.specs.Sets.{bit};
 ghost use Rattle.base.specs.Limits.{maxVertices};
-ghost use Rattle.forest.specs.Forest.{Rooted, Unions};
+ghost use Rattle.union_find.specs.Forest.{Rooted, Unions};
 ghost use Rattle.edges.specs.Reading.{edgesOfTree};
 ghost use Rattle.edges.specs.Kept.{Kept};
 ghost use Rattle.edges.specs.Steps.{faultOf, stepAt, Degrees};
@@ -38,7 +38,7 @@ fn edge_fault(up: &[u16], degree: &[u8], v: usize, a: usize, b: usize) -> u8
     if a == b {
         return 7;
     }
-    if forest::same(up, v, a, b) {
+    if union_find::same(up, v, a, b) {
         return 8;
     }
     if base::MAX_DEGREE <= degree[a] {
@@ -99,7 +99,7 @@ fn read_rows(
             EdgeStep::Edge(a, b, next) => {
                 one[i] = a as u16;
                 two[i] = b as u16;
-                forest::link(up, weight, v, a, b);
+                union_find::link(up, weight, v, a, b);
                 count_edge(degree, a, b);
                 place = next;
             }
@@ -121,6 +121,6 @@ pub fn read_edges(s: &[u8], at: usize, v: usize, one: &mut [u16], two: &mut [u16
     let mut up = [0u16; base::MAX_VERTICES];
     let mut weight = [0u16; base::MAX_VERTICES];
     let mut degree = [0u8; base::MAX_VERTICES];
-    forest::fresh(&mut up, &mut weight, v);
+    union_find::fresh(&mut up, &mut weight, v);
     read_rows(s, at, v, one, two, &mut up, &mut weight, &mut degree)
 }

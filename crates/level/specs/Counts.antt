@@ -10,7 +10,7 @@ use Rattle.base.specs.Sets.{count}
 use Rattle.message.specs.Message.{noneValue}
 use Rattle.message.specs.declared.Body.the-variants.{FirstEcho, FirstProposal, SecondEcho, SecondProposal, Side, Centre}
 use Rattle.senders.specs.Senders.{union, unionOver}
-pub use Rattle.counts.specs.Counts.{atLeast}
+pub use Rattle.level_counts.specs.Counts.{atLeast}
 use Rattle.level.specs.declared.Level.{Level}
 use Rattle.level.specs.declared.Context.{Context}
 use Rattle.level.specs.Level.{senders, notYet}

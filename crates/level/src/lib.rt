@@ -31,7 +31,7 @@ pub const NO_OUTPUT: u32 = 65536;
 
 pub struct Level {
     // the senders of each message of this level, by its slot
-    pub sets: [u16; counts::SLOTS],
+    pub sets: [u16; level_counts::SLOTS],
     // has the board entered the level, by which side of the level above (0 at level 0), and at which position?
     pub entered: bool,
     pub side: u8,
@@ -44,7 +44,7 @@ pub struct Level {
     // the first result, none, or NOT_YET
     pub first: u8,
     // second echoes made, by value
-    pub echoed: [bool; counts::VALUES],
+    pub echoed: [bool; level_counts::VALUES],
     // the second proposal made, or NOT_YET
     pub second_proposal: u8,
     // the (second) result's value, none, or NOT_YET; a value's grade is 2 if sure, else 1
@@ -120,7 +120,7 @@ impl Level {
         ensures { λ r. ⌜ r ≡ blankLevel ⌝ }
     {
         Level {
-            sets: [0; counts::SLOTS],
+            sets: [0; level_counts::SLOTS],
             entered: false,
             side: 0,
             position: 0,
@@ -128,7 +128,7 @@ impl Level {
             echoed_none: false,
             proposal: NOT_YET,
             first: NOT_YET,
-            echoed: [false; counts::VALUES],
+            echoed: [false; level_counts::VALUES],
             second_proposal: NOT_YET,
             result: NOT_YET,
             sure: false,

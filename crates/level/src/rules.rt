@@ -54,7 +54,7 @@ impl Level {
                 effect: Effect::Nothing,
             };
         }
-        let others = counts::other_echoes(&self.sets, c.degree as usize, c.port as usize);
+        let others = level_counts::other_echoes(&self.sets, c.degree as usize, c.port as usize);
         if !senders::reaches(others, c.t + 1) {
             return Applied {
                 level: self,
@@ -82,7 +82,7 @@ impl Level {
             };
         }
         let d = c.degree as usize;
-        let v = counts::first_proposable(&self.sets, d, c.t);
+        let v = level_counts::first_proposable(&self.sets, d, c.t);
         if d < v {
             return Applied {
                 level: self,
@@ -111,11 +111,11 @@ impl Level {
             };
         }
         let d = c.degree as usize;
-        let v = counts::first_reaching(
+        let v = level_counts::first_reaching(
             &self.sets,
             FIRST_PROPOSALS,
             d + 1,
-            counts::quorum(c.n, c.t),
+            level_counts::quorum(c.n, c.t),
         );
         let mut l = self;
         if v <= d {
@@ -125,7 +125,7 @@ impl Level {
                 effect: Effect::Quiet,
             };
         }
-        if counts::split(&self.sets, d, c.t) {
+        if level_counts::split(&self.sets, d, c.t) {
             l.first = NONE;
             return Applied {
                 level: l,
@@ -179,14 +179,14 @@ impl Level {
         }
         let d = c.degree as usize;
         let echoed = self.echoed;
-        let i = counts::first_unechoed(&self.sets, &echoed, SECOND_ECHOES, d, c.t + 1);
+        let i = level_counts::first_unechoed(&self.sets, &echoed, SECOND_ECHOES, d, c.t + 1);
         if d + 2 <= i {
             return Applied {
                 level: self,
                 effect: Effect::Nothing,
             };
         }
-        let w = counts::candidate(d, i);
+        let w = level_counts::candidate(d, i);
         let mut l = self;
         l.echoed[w] = true;
         let v = w as u8;
@@ -216,14 +216,14 @@ impl Level {
             };
         }
         let d = c.degree as usize;
-        let i = counts::first_candidate(&self.sets, SECOND_ECHOES, d, 2 * c.t + 1);
+        let i = level_counts::first_candidate(&self.sets, SECOND_ECHOES, d, 2 * c.t + 1);
         if d + 2 <= i {
             return Applied {
                 level: self,
                 effect: Effect::Nothing,
             };
         }
-        let w = counts::candidate(d, i) as u8;
+        let w = level_counts::candidate(d, i) as u8;
         let mut l = self;
         l.second_proposal = w;
         let b = Body::SecondProposal(w);
@@ -251,12 +251,17 @@ impl Level {
             };
         }
         let d = c.degree as usize;
-        let i = counts::first_candidate(&self.sets, SECOND_PROPOSALS, d, counts::quorum(c.n, c.t));
+        let i = level_counts::first_candidate(
+            &self.sets,
+            SECOND_PROPOSALS,
+            d,
+            level_counts::quorum(c.n, c.t),
+        );
         if d + 2 <= i {
             return self.rule8_grade1(c);
         }
         let mut l = self;
-        l.result = counts::candidate(d, i) as u8;
+        l.result = level_counts::candidate(d, i) as u8;
         l.sure = i <= d;
         Applied {
             level: l,
@@ -276,14 +281,14 @@ impl Level {
             };
         }
         let d = c.degree as usize;
-        if counts::count_reaching(&self.sets, SECOND_ECHOES, d + 1, c.t + 1) != 1 {
+        if level_counts::count_reaching(&self.sets, SECOND_ECHOES, d + 1, c.t + 1) != 1 {
             return Applied {
                 level: self,
                 effect: Effect::Nothing,
             };
         }
         let mut l = self;
-        l.result = counts::first_reaching(&self.sets, SECOND_ECHOES, d + 1, c.t + 1) as u8;
+        l.result = level_counts::first_reaching(&self.sets, SECOND_ECHOES, d + 1, c.t + 1) as u8;
         l.sure = false;
         Applied {
             level: l,
@@ -396,7 +401,7 @@ impl Level {
             };
         }
         let d = c.degree as usize;
-        let i = counts::first_reaching(&self.sets, FIRST_SIDE, d, c.t + 1);
+        let i = level_counts::first_reaching(&self.sets, FIRST_SIDE, d, c.t + 1);
         if d <= i {
             return Applied {
                 level: self,

@@ -52,7 +52,7 @@ fn message_of(m: message::Message) -> [u8; 8] {
 
 fn main() {
     bytes(varint_of(300));
-    verdict(planreader::read(&[128, 0]));
+    verdict(plan_reader::read(&[128, 0]));
     bytes(signed_of(-5));
     let echo = message::Body::SecondEcho(16);
     let m = message::Message {
@@ -61,18 +61,18 @@ fn main() {
         body: echo,
     };
     bytes(message_of(m));
-    verdict(planreader::read(&[2, 9, 8]));
-    verdict(planreader::settle(3, 1, 0, &[2, 9, 8]));
-    verdict(planreader::settle(16, 5, 15, &[2, 9, 8]));
-    verdict(planreader::settle(16, 6, 0, &[2, 9, 8]));
-    verdict(planreader::settle(17, 5, 0, &[2, 9, 8]));
-    verdict(planreader::settle(4, 1, 4, &[2, 9, 8]));
-    verdict(planreader::read(&[2, 0, 255, 255, 3]));
-    verdict(planreader::read(&[2, 0, 128, 128, 4]));
-    verdict(planreader::read(&[1, 3, 0, 1, 1, 2]));
-    verdict(planreader::read(&[1, 3, 0, 1, 1, 0]));
-    verdict(planreader::read(&[1, 3, 0, 1, 1, 3]));
-    verdict(planreader::read(&[1, 128, 2]));
-    verdict(planreader::read(&[3]));
-    verdict(planreader::read(&[1, 1, 0]));
+    verdict(plan_reader::read(&[2, 9, 8]));
+    verdict(plan_reader::settle(3, 1, 0, &[2, 9, 8]));
+    verdict(plan_reader::settle(16, 5, 15, &[2, 9, 8]));
+    verdict(plan_reader::settle(16, 6, 0, &[2, 9, 8]));
+    verdict(plan_reader::settle(17, 5, 0, &[2, 9, 8]));
+    verdict(plan_reader::settle(4, 1, 4, &[2, 9, 8]));
+    verdict(plan_reader::read(&[2, 0, 255, 255, 3]));
+    verdict(plan_reader::read(&[2, 0, 128, 128, 4]));
+    verdict(plan_reader::read(&[1, 3, 0, 1, 1, 2]));
+    verdict(plan_reader::read(&[1, 3, 0, 1, 1, 0]));
+    verdict(plan_reader::read(&[1, 3, 0, 1, 1, 3]));
+    verdict(plan_reader::read(&[1, 128, 2]));
+    verdict(plan_reader::read(&[3]));
+    verdict(plan_reader::read(&[1, 1, 0]));
 }

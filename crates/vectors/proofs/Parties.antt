@@ -18,7 +18,7 @@ use Rattle.level.specs.Counts.{otherEchoes, mayPropose, proposed, digitEchoes, 
 use Rattle.level.specs.Rules.{rule1, rule2, rule3, rule4, rule5, rule6, rule7, rule8, rule9, rule10, rule11, rule12, rule13, rule14, lowestRule}
 use Rattle.party.specs.Party.{levelAt, withLevel, componentOf, sending, contextOf, entering, entered, heldBy, hearing}
 use Rattle.party.specs.Run.{ruleAt, openAt, openLevel, afterRule, runUpTo, run, starting, taking}
-use Rattle.life.specs.Life.{replayed, lived}
+use Rattle.party_life.specs.Life.{replayed, lived}
 use Rattle.vectors.specs.Sums.{Every}
 use Rattle.vectors.specs.Choices.{two}
 use Rattle.vectors.specs.Parties.{Stands, cases, listing, passing}

@@ -23,7 +23,7 @@ use Rattle.journal.specs.declared.Record.the-variants.{Start, Taken}
 use Rattle.party.specs.declared.Party.{Party}
 use Rattle.party.specs.Party.{newParty, withLevel, heldBy, hearing, outputOf}
 use Rattle.party.specs.Run.{openAt, run, taking, resting, stepAt, ruleAt, madeBy}
-use Rattle.life.specs.Life.{lived}
+use Rattle.party_life.specs.Life.{lived}
 use Rattle.vectors.specs.Choices.{two}
 
 -- the plan that the bytes are

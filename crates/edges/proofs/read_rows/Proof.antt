@@ -4,7 +4,7 @@ use Prim.Native.Nat.{_-_, _≤_}
 use native.Mathlib.Omega.{arith}
 use borrow.Author.Needs.{needs}
 use lib.ListN.{length, length-set}
-use Rattle.forest.proofs.Roots.{rooted}
+use Rattle.union_find.proofs.Roots.{rooted}
 use Rattle.edges.proofs.OneEdge.{Passed}
 use Rattle.edges.proofs.Reached.{Reached, reached-none, reached-all, reached-refused, edge-passed, reached-more}
 use Rattle.edges.proofs.read_rows.Statement.{statement}

@@ -3,7 +3,7 @@ use mathlib.Core.Path.{sym, _∙_, subst}
 use native.Mathlib.Omega.{arith}
 use Rattle.base.proofs.Bools.{T→true, not-T→false}
 use Rattle.message.specs.Message.{inTable}
-use Rattle.life.specs.Life.{Fits}
+use Rattle.party_life.specs.Life.{Fits}
 use Rattle.board.proofs.Questions.{boards-most}
 use Rattle.board.proofs.Redone.{replayed-start, replayed-taken, replayed-held, gives-same, gives-rest}
 use borrow.Author.Needs.{needs}

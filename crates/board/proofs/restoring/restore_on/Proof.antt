@@ -3,7 +3,7 @@ use mathlib.Core.Path.{sym, ap, _∙_, subst}
 use native.Mathlib.Omega.{arith}
 use lib.ListN.{length}
 use Rattle.base.proofs.Bools.{T→true, true→T}
-use Rattle.bounds.proofs.Laws.{Sized}
+use Rattle.party_bounds.proofs.Laws.{Sized}
 use Rattle.board.proofs.Replays.{new-sized}
 use Rattle.board.proofs.Befores.{NoRecord}
 use Rattle.board.proofs.Restores.{unrestored-gives, empty-gives, last-read, last-asks, last-sum, last-gives}

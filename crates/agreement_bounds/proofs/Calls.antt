@@ -1,0 +1,147 @@
+-- What a start, take or restore sends and applies is within the bounds: each is what a record that fits the party makes.
+use mathlib.Core.Path.{_≡_, refl, sym, ap, _∙_, subst}
+use mathlib.Core.Bool.{Bool, true, false}
+use mathlib.Core.List.{List, [], _∷_}
+use Prim.Native.Nat.{ℕ, _+_, _≤_}
+use native.Mathlib.Omega.{arith}
+use lib.Dec.{T, leb, leb→le}
+use lib.IntN.{ℤ}
+use lib.ListN.{length}
+use Rattle.base.specs.Pick.{pick}
+use Rattle.base.specs.Limits.{lastLevel, maxRules, outgoingSize}
+use Rattle.base.specs.Found.{Found, found, refused}
+use Rattle.base.proofs.Bools.{T→true}
+use Rattle.varint.specs.Varint.{AllBytes}
+use Rattle.plan.specs.declared.Plan.{Plan}
+use Rattle.plan.specs.Reading.{settledPlan}
+use Rattle.plan.proofs.Listed.{asked}
+use Rattle.message.specs.declared.Message.{Message}
+use Rattle.message.specs.Message.{inTable}
+use Rattle.message.proofs.RoundTrip.{message-length-most}
+use Rattle.journal.specs.declared.Record.{Record}
+use Rattle.journal.specs.declared.Record.the-variants.{Start, Taken}
+use Rattle.party.specs.declared.Party.{Party}
+use Rattle.party.specs.Party.{newParty, heldBy, hearing}
+use Rattle.party.specs.Run.{Ran, resting, run, taking, bytesOf}
+use Rattle.party.specs.Valid.{partyValid}
+use Rattle.party_life.specs.Life.{replayed, following, lived, Fits, Life}
+use Rattle.party_bounds.proofs.Laws.{Sized, sized-new, sized-hearing, Within, replayed-within, lived-within, within-rules, within-outgoing, Quiescent, run-quiescent, starting-quiescent, set-up-quiescent}
+use Rattle.board.specs.Answers.{positionOf}
+use Rattle.board.specs.Calls.{Entry, again, fresh, startQuestions, takeQuestions, calledOf}
+use Rattle.board.specs.Restore.{Replay, onPlanRead, restoreQuestions, restoredOf}
+use Rattle.board.specs.Outgoing.{Typed}
+use Rattle.board.specs.Inner.{New}
+use Rattle.board.proofs.Questions.{take-held}
+use Rattle.board.proofs.Kept.{replay-keeps}
+use Rattle.board.proofs.Restores.{settled-new}
+use Rattle.agreement.proofs.Entries.{Recorded, start-recorded, take-recorded}
+
+-- what ran fits the outgoing buffer and counts few enough rules
+pub record Bounded (r : Ran) : Type 0 where
+  pub sent : length (bytesOf (r .made)) ≤ outgoingSize
+  pub rules : r .rules ≤ maxRules
+
+within-bounded : (p : Party) (r : Ran) → Within (lastLevel + 1) p r → Bounded r
+within-bounded p r w = record { sent = within-outgoing (λ m h. message-length-most m (T→true (inTable m) h)) p r w; rules = within-rules p r w }
+
+-- ---- start and take
+
+-- what the types give, and question 19
+pub typed-sized : (p : Party) → Typed p → T (partyValid p) → Sized p
+typed-sized p t v = record { formed = record { valid = v; full = t .levels }; echoes = t .echoes }
+
+module _ (p : Party) (t : Typed p) (room used out : ℕ) where
+  recorded-bounded : (r : Record) (ran : Ran) → T (partyValid p) → Recorded p room used r ran → Bounded ran
+  recorded-bounded r ran v d =
+      subst Bounded (d .does) (within-bounded p (replayed p r) (replayed-within (lastLevel + 1) (omega arith) p (typed-sized p t v) r (d .fits)))
+
+  pub start-bounded : (z : ℤ) (r : Record) (ran : Ran) → startQuestions p z room used out ≡ found (fresh r ran) → Bounded ran
+  unfolding startQuestions
+  start-bounded z r ran e = recorded-bounded r ran (asked (partyValid p) 19 0 _ (fresh r ran) e .0) (start-recorded p z room used out r ran e .2)
+
+  pub take-bounded : (s : ℕ) (bytes : List ℕ) (r : Record) (ran : Ran) → takeQuestions p s bytes room used out ≡ found (fresh r ran) → Bounded ran
+  unfolding takeQuestions
+  take-bounded s bytes r ran e = recorded-bounded r ran (asked (partyValid p) 19 0 _ (fresh r ran) e .0) (take-recorded p s bytes room used out r ran e .3)
+
+  -- where it made a record, no rule applies after it
+  pub start-quiescent : (z : ℤ) (r : Record) (ran : Ran) → startQuestions p z room used out ≡ found (fresh r ran) → Quiescent (ran .party)
+  unfolding startQuestions replayed
+  start-quiescent z r ran e =
+      let v = asked (partyValid p) 19 0 _ (fresh r ran) e .0 in
+      let (i, on, d) = start-recorded p z room used out r ran e in
+      let f : Fits p (Start (p .agreement) (positionOf (p .plan) z)) = subst (Fits p) (sym i) (d .fits) in
+      subst (λ (y : Ran). Quiescent (y .party)) (ap (replayed p) i ∙ d .does) (starting-quiescent p (typed-sized p t v) (positionOf (p .plan) z) (f .1) (f .2))
+
+  pub take-quiescent : (s : ℕ) (bytes : List ℕ) (r : Record) (ran : Ran) → takeQuestions p s bytes room used out ≡ found (fresh r ran) → Quiescent (ran .party)
+  unfolding takeQuestions replayed taking
+  take-quiescent s bytes r ran e =
+      let a = asked (partyValid p) 19 0 _ (fresh r ran) e in
+      let b = asked (leb outgoingSize out) 18 0 _ (fresh r ran) (a .1) in
+      let c = asked (leb used room) 20 0 _ (fresh r ran) (b .1) in
+      let (m, one, i, d) = take-recorded p s bytes room used out r ran e in
+      let f : Fits p (Taken s m) = subst (Fits p) (sym i) (d .fits) in
+      subst (λ (y : Ran). Quiescent (y .party)) (ap (replayed p) i ∙ d .does)
+      (new m f (heldBy p s m) (λ k. take-held p s bytes room used out (a .0) (leb→le outgoingSize out (b .0)) (leb→le used room (c .0)) (f .1) m one (f .0) k) refl (a .0))
+    where
+      new : (m : Message) → Fits p (Taken s m) → (h : Bool) → (h ≡ true → takeQuestions p s bytes room used out ≡ found again) → heldBy p s m ≡ h → T (partyValid p)
+          → Quiescent (pick h (resting p) (run (hearing p s m)) .party)
+      new m f true g k v = let y : found again ≡ found (fresh r ran) = sym (g refl) ∙ e in let z : _≡_ {A = ℕ} 0 1 = cc in absurd (omega arith)
+      new m f false g k v = run-quiescent (hearing p s m) (sized-hearing p (typed-sized p t v) s m (f .1) (f .2))
+
+  -- what a call gives that finds q
+  pub called-sent : (q : Found Entry) → ((r : Record) (ran : Ran) → q ≡ found (fresh r ran) → Bounded ran) → calledOf p used q .sent ≤ outgoingSize
+  called-sent (found again) h = omega arith
+  called-sent (found (fresh r ran)) h = h r ran refl .sent
+  called-sent (refused number place) h = omega arith
+
+  pub called-rules : (q : Found Entry) → ((r : Record) (ran : Ran) → q ≡ found (fresh r ran) → Bounded ran) → calledOf p used q .rules ≤ maxRules
+  called-rules (found again) h = omega arith
+  called-rules (found (fresh r ran)) h = h r ran refl .rules
+  called-rules (refused number place) h = omega arith
+
+-- ---- restore
+
+-- what a life from p made
+abbrev Lives : Party → Ran → Type 0
+Lives p r = (rs : List Record) × Life p rs × (r ≡ lived p rs)
+
+-- one more record
+lives-more : (p : Party) (r : Ran) (x : Record) → Lives p r → Fits (r .party) x → Lives p (following r (replayed (r .party) x))
+unfolding lived
+lives-more p r x (rs, l, e) f = (x ∷ rs, (subst (λ (z : Ran). Fits (z .party) x) e f, l), ap (λ (z : Ran). following z (replayed (z .party) x)) e)
+
+lives-none : (p : Party) → Lives p (resting p)
+unfolding lived
+lives-none p = ([], tt, refl)
+
+module _ (n t own a : ℕ) (bytes j : List ℕ) (all : AllBytes j) (out : ℕ) where
+  -- an accepted restore gives a life of a party as set up
+  restore-lives : (x : Replay) → restoreQuestions n t own a bytes j out ≡ found x → (plan : Plan) × New (newParty n t own a plan) × Lives (newParty n t own a plan) (x .ran)
+  unfolding restoreQuestions
+  restore-lives x e = go (settledPlan n t own bytes) refl (asked (leb outgoingSize out) 18 0 (onPlanRead n t own a j (settledPlan n t own bytes)) x e .1)
+    where
+      go : (f : Found Plan) → settledPlan n t own bytes ≡ f → onPlanRead n t own a j f ≡ found x → (plan : Plan) × New (newParty n t own a plan) × Lives (newParty n t own a plan) (x .ran)
+      go (found plan) i e =
+          let p : Party = newParty n t own a plan in
+          (plan, settled-new n t own bytes a i, replay-keeps (Lives p) j all (lives-more p) (length j) 0 (resting p) x (lives-none p) e)
+      go (refused number place) i e = let z : _≡_ {A = ℕ} 0 1 = cc in absurd (omega arith)
+
+  pub restore-bounded : (x : Replay) → restoreQuestions n t own a bytes j out ≡ found x → Bounded (x .ran)
+  restore-bounded x e =
+      let (plan, w, (rs, l, i)) = restore-lives x e in
+      let p : Party = newParty n t own a plan in
+      subst Bounded (sym i) (within-bounded p (lived p rs) (lived-within (lastLevel + 1) (omega arith) p (sized-new n t own a plan (w .settings) (w .plan)) rs l))
+
+  pub restore-quiescent : (x : Replay) → restoreQuestions n t own a bytes j out ≡ found x → Quiescent (x .ran .party)
+  restore-quiescent x e =
+      let (plan, w, (rs, l, i)) = restore-lives x e in
+      subst (λ (y : Ran). Quiescent (y .party)) (sym i) (set-up-quiescent n t own a plan (w .settings) (w .plan) rs l)
+
+-- what a restore gives that finds q
+pub restored-sent : (q : Found Replay) → ((x : Replay) → q ≡ found x → Bounded (x .ran)) → restoredOf q .sent ≤ outgoingSize
+restored-sent (found x) h = h x refl .sent
+restored-sent (refused number place) h = omega arith
+
+pub restored-rules : (q : Found Replay) → ((x : Replay) → q ≡ found x → Bounded (x .ran)) → restoredOf q .rules ≤ maxRules
+restored-rules (found x) h = h x refl .rules
+restored-rules (refused number place) h = omega arith

@@ -1,0 +1,80 @@
+-- Two boards vote on the readings 0 to 2 and start at 2. Board 1 is restored five times: after a cut, and after a second one before it wrote anything; after a cut that
+-- tears a record, and after a second one before it wrote anything, where it is lent the torn record again; and once more when it has taken that message
+-- again. It goes on, all is delivered, and both answer 2.
+use mathlib.Core.List.{List, [], _∷_, _++_}
+use mathlib.Core.Bool.{false}
+use lib.IntN.{pos}
+use Rattle.base.specs.Sets.{Set}
+use Rattle.plan.specs.declared.Plan.{Plan}
+use Rattle.plan.specs.Positions.{rangePlan}
+use Rattle.message.specs.declared.Body.the-variants.{FirstEcho, FirstProposal, SecondEcho, SecondProposal}
+use Rattle.agreement.specs.History.{Vote}
+use Rattle.agreement_histories.specs.Scripts.{Action, sets-up, starts, takes, sends, cuts, restores, restores-torn, says}
+
+abbrev pub vote : Vote
+vote = record { n = 2; t = 0; agreement = 1; plan = 2 ∷ 0 ∷ 2 ∷ [] }
+
+abbrev pub plan : Plan
+plan = rangePlan 2147483648 2
+
+abbrev pub bad : Set
+bad = λ _. false
+
+-- both start; board 1, whose record has three bytes, is cut and restored, and again before it writes anything
+unfoldable pub opening : List Action
+opening =
+    sets-up 0
+    ∷ sets-up 1
+    ∷ starts 0 (pos 2)
+    ∷ sends 0 (says (FirstEcho 2))
+    ∷ starts 1 (pos 2)
+    ∷ sends 1 (says (FirstEcho 2))
+    ∷ cuts 1 3
+    ∷ restores 1
+    ∷ cuts 1 3
+    ∷ restores 1
+    ∷ []
+
+-- it hands its echo over again and takes a message, and a cut leaves four of the six bytes of that record; and again, before it writes anything, with
+-- those four bytes behind the used ones
+unfoldable pub torn : List Action
+torn =
+    sends 1 (says (FirstEcho 2))
+    ∷ takes 1 0 (says (FirstEcho 2))
+    ∷ cuts 1 7
+    ∷ restores 1
+    ∷ cuts 1 3
+    ∷ restores-torn 1 (2 ∷ 0 ∷ 1 ∷ 0 ∷ [])
+    ∷ []
+
+-- it takes the message again, hands its proposal over, and is cut and restored; all is delivered
+unfoldable pub rest : List Action
+rest =
+    takes 1 0 (says (FirstEcho 2))
+    ∷ sends 1 (says (FirstProposal 2))
+    ∷ cuts 1 9
+    ∷ restores 1
+    ∷ takes 0 0 (says (FirstEcho 2))
+    ∷ sends 0 (says (FirstProposal 2))
+    ∷ takes 0 1 (says (FirstEcho 2))
+    ∷ takes 1 1 (says (FirstEcho 2))
+    ∷ takes 0 0 (says (FirstProposal 2))
+    ∷ takes 1 0 (says (FirstProposal 2))
+    ∷ takes 0 1 (says (FirstProposal 2))
+    ∷ sends 0 (says (SecondEcho 2))
+    ∷ takes 1 1 (says (FirstProposal 2))
+    ∷ sends 1 (says (SecondEcho 2))
+    ∷ takes 0 0 (says (SecondEcho 2))
+    ∷ sends 0 (says (SecondProposal 2))
+    ∷ takes 1 0 (says (SecondEcho 2))
+    ∷ sends 1 (says (SecondProposal 2))
+    ∷ takes 0 1 (says (SecondEcho 2))
+    ∷ takes 1 1 (says (SecondEcho 2))
+    ∷ takes 0 0 (says (SecondProposal 2))
+    ∷ takes 1 0 (says (SecondProposal 2))
+    ∷ takes 0 1 (says (SecondProposal 2))
+    ∷ takes 1 1 (says (SecondProposal 2))
+    ∷ []
+
+abbrev pub script : List Action
+script = (opening ++ torn) ++ rest

@@ -1,0 +1,45 @@
+-- Journals and records that are not as the call before left them.
+use mathlib.Core.Path.{refl}
+use mathlib.Core.Logic.{inl, inr}
+use mathlib.Core.List.{[], _∷_, List·Memᴰ·head, List·Memᴰ·tail}
+use lib.IntN.{pos}
+use Rattle.agreement.specs.History.{boardAfter}
+use Rattle.agreement_histories.specs.Scripts.{lent}
+use Rattle.agreement_histories.proofs.Computing.{computing}
+use Rattle.agreement_premises.specs.Edits.{journal-overwritten, record-altered, other-record-read, other-journal-restored, overwritten, altered, misread, restored}
+use Rattle.agreement_premises.specs.Examples.{two, alone, exampleOf, Fails}
+use Rattle.agreement_premises.proofs.Running.{historyBefore, Strays}
+use Rattle.agreement_premises.proofs.Starts.{allIn}
+use Rattle.agreement_premises.proofs.Failing.{sound-alone, sound-four, ours, not-waiting, invalid, invalid-now}
+
+overwritten-strays : Strays journal-overwritten (exampleOf journal-overwritten)
+unfolding computing
+overwritten-strays = overwritten (lent (1 ∷ 1 ∷ 0 ∷ [])) (sound-four two) (record { up = refl; same = refl; at = refl; kept = refl }, λ o. absurd (o .1))
+
+pub overwritten-fails : Fails journal-overwritten (exampleOf journal-overwritten)
+unfolding computing allIn
+overwritten-fails = invalid-now journal-overwritten (exampleOf journal-overwritten) refl refl overwritten-strays 1 (pos 0) refl refl
+
+altered-strays : Strays record-altered (exampleOf record-altered)
+unfolding computing
+altered-strays = altered (boardAfter (historyBefore (exampleOf record-altered)) 0 .party) (sound-alone two) (record { up = refl; same = refl; at = refl; kept = refl })
+
+pub altered-fails : Fails record-altered (exampleOf record-altered)
+unfolding computing allIn
+altered-fails = invalid-now record-altered (exampleOf record-altered) refl refl altered-strays 0 (pos 5) refl refl
+
+misread-strays : Strays other-record-read (exampleOf other-record-read)
+unfolding computing
+misread-strays = misread (boardAfter (historyBefore (exampleOf other-record-read)) 0 .party) (sound-alone two) (refl, refl)
+
+pub misread-fails : Fails other-record-read (exampleOf other-record-read)
+unfolding computing allIn
+misread-fails = invalid other-record-read (exampleOf other-record-read) refl refl misread-strays 1 (pos 0) refl (inr (_, List·Memᴰ·head refl, refl))
+
+restored-strays : Strays other-journal-restored (exampleOf other-journal-restored)
+unfolding computing
+restored-strays = restored (1 ∷ 1 ∷ 0 ∷ []) (sound-alone two) (not-waiting, ours (alone two) 0, inl refl)
+
+pub restored-fails : Fails other-journal-restored (exampleOf other-journal-restored)
+unfolding computing allIn
+restored-fails = invalid other-journal-restored (exampleOf other-journal-restored) refl refl restored-strays 1 (pos 0) refl (inr (_, List·Memᴰ·tail (List·Memᴰ·head refl), refl))

@@ -1,0 +1,75 @@
+-- `party_run::descend` meets its contract.
+use native.Mathlib.Omega.{arith}
+use Prim.Native.Nat.{_+_, _<_}
+use Rattle.base.specs.Limits.{levelCount}
+use Rattle.party.specs.Party.{levelAt}
+use Rattle.party_laws.proofs.Laws.{Formed}
+use Rattle.party_run.proofs.Typed.{typed-formed}
+use Rattle.party_run.proofs.Entries.{leads-to, descends-next, descends-asks, descends-party, descends-enterable}
+use Rattle.party_run.proofs.descend.Statement.{statement}
+use Rattle.party_run.proofs.descend.Tie as tie
+
+formed : (s : tie.Start) → Formed (s .args .t1)
+formed s = typed-formed (s .args .t1) _ (s .good .0) (s .pre .valid)
+
+below : (s : tie.Start) → s .args .i + 1 < levelCount
+below s = descends-next (s .args .t1) (s .args .t2) (s .args .i) (s .args .k) (s .args .keep) (formed s) (s .pre)
+
+mul-s : tie.Need-mul-s
+mul-s c = omega (arith, below (c .before))
+
+element-copy-out-s : tie.Need-element-copy-out-s
+element-copy-out-s c = omega (arith, below (c .before))
+
+mul-old : tie.Need-mul-old
+mul-old c = omega (arith, below (c .before .before .before))
+
+element-copy-out-old : tie.Need-element-copy-out-old
+element-copy-out-old c = omega (arith, below (c .before .before .before))
+
+side-requires : tie.Need-side-requires
+side-requires c κs =
+    let s = c .before .before .before .before in
+    let a = s .args in
+    descends-asks (a .t1) (a .t2) (a .i) (a .k) (a .keep) (formed s) (s .pre)
+
+gate-requires : tie.Need-gate-requires
+gate-requires c κs =
+    let s = c .before .before .before .before .before in
+    let a = s .args in
+    descends-asks (a .t1) (a .t2) (a .i) (a .k) (a .keep) (formed s) (s .pre)
+
+add-enter : tie.Need-add-enter
+add-enter c = omega (arith, below (c .before .before .before .before .before .before))
+
+enter-requires : tie.Need-enter-requires
+unfolding levelAt
+enter-requires c κs =
+    let s = c .before .before .before .before .before .before in
+    let a = s .args in
+    descends-enterable (a .t1) (a .t2) (a .i) (a .k) (a .keep) (formed s) (s .pre) (c .before .side .result) (c .gate .result) (c .before .side .ensures)
+    (c .gate .ensures)
+
+returns : tie.Need-returns
+unfolding levelAt
+returns c =
+    let s = c .before .before .before .before .before .before .before in
+    let a = s .args in
+    leads-to _ _ (c .enter .result)
+    (descends-party (a .t1) (a .t2) (a .i) (a .k) (a .keep) (formed s) (s .pre) (c .before .before .side .result) (c .before .gate .result)
+    (c .before .before .side .ensures) (c .before .gate .ensures))
+    (c .enter .ensures)
+
+pub descend-spec : {M : Type 1} → statement M
+descend-spec =
+    tie.close
+    (tie.spec
+    mul-s
+    element-copy-out-s
+    mul-old
+    element-copy-out-old
+    side-requires
+    gate-requires
+    add-enter
+    enter-requires
+    returns)

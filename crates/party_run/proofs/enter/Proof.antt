@@ -1,0 +1,94 @@
+-- `party_run::enter` meets its contract.
+use mathlib.Core.Path.{subst}
+use Prim.Native.Nat.{ℕ, _≤_, _<_}
+use native.Mathlib.Omega.{arith}
+use Rattle.base.specs.Limits.{levelCount}
+use Rattle.party.specs.Party.{levelAt, withLevel}
+use Rattle.party_laws.proofs.Laws.{Formed}
+use Rattle.party_run.proofs.Typed.{typed-formed, chart-surveys}
+use Rattle.party_run.proofs.Entries.{enter-plan, enter-place, small-leads, large-leads}
+use Rattle.party_run.proofs.enter.Statement.{statement}
+use Rattle.party_run.proofs.enter.Tie as tie
+
+formed : (s : tie.Start) → Formed (s .args .t1)
+formed s = typed-formed (s .args .t1) _ (s .good .0) (s .pre .valid)
+
+below : (s : tie.Start) → s .args .i < levelCount
+below s = omega (arith, s .pre .charts .last, s .pre .level)
+
+mul-l : tie.Need-mul-l
+mul-l c = omega (arith, below (c .before))
+
+element-copy-out-l : tie.Need-element-copy-out-l
+element-copy-out-l c = below (c .before)
+
+size-requires : tie.Need-size-requires
+size-requires c κs =
+    let s = c .before .before in
+    let a = s .args in
+    enter-plan (a .t1) (a .c) (a .i) (a .part) (a .k) (a .x) (formed s) (s .pre)
+
+mul-l-2 : tie.Need-mul-l-2
+mul-l-2 c = omega (arith, below (c .before .before .before .before))
+
+element-set-from-l : tie.Need-element-set-from-l
+element-set-from-l c = omega (arith, below (c .before .before .before .before))
+
+returns : tie.Need-returns
+unfolding levelAt withLevel
+returns c =
+    let s = c .before .before .before .before in
+    let a = s .args in
+    small-leads (a .t1) (a .c) (a .i) (a .part) (a .k) (a .x) (formed s) (s .pre)
+    (subst (λ (n : ℕ). n < 3) (c .before .size .ensures) (c .if1 .taken))
+
+mul-l-3 : tie.Need-mul-l-3
+mul-l-3 c = omega (arith, below (c .before .before .before .before))
+
+element-set-from-l-2 : tie.Need-element-set-from-l-2
+element-set-from-l-2 c = omega (arith, below (c .before .before .before .before))
+
+add-d : tie.Need-add-d
+add-d c = omega (arith, below (c .before .before .before .before))
+
+survey-at-requires : tie.Need-survey-at-requires
+survey-at-requires c κs =
+    let s = c .before .before .before .before in
+    let a = s .args in (
+      enter-plan (a .t1) (a .c) (a .i) (a .part) (a .k) (a .x) (formed s) (s .pre),
+      subst (λ (n : ℕ). 3 ≤ n) (c .before .size .ensures) (c .if1 .left),
+      enter-place (a .t1) (a .c) (a .i) (a .part) (a .k) (a .x) (formed s) (s .pre),
+    )
+
+mul-t12 : tie.Need-mul-t12
+mul-t12 c = omega (arith, below (c .before .before .before .before .before))
+
+element-set-from-d : tie.Need-element-set-from-d
+element-set-from-d c = omega (arith, below (c .before .before .before .before .before))
+
+returns-2 : tie.Need-returns-2
+unfolding levelAt withLevel
+returns-2 c =
+    let s = c .before .before .before .before .before in
+    let a = s .args in
+    large-leads (a .t1) (a .c) (a .i) (a .part) (a .k) (a .x) (formed s) (s .pre)
+    (subst (λ (n : ℕ). 3 ≤ n) (c .before .before .size .ensures) (c .before .if1 .left)) (chart-surveys (a .c) _ (s .good .1 .0)) (c .survey-at .result)
+    (c .survey-at .ensures)
+
+pub enter-spec : {M : Type 1} → statement M
+enter-spec =
+    tie.close
+    (tie.spec
+    mul-l
+    element-copy-out-l
+    size-requires
+    mul-l-2
+    element-set-from-l
+    returns
+    mul-l-3
+    element-set-from-l-2
+    add-d
+    survey-at-requires
+    mul-t12
+    element-set-from-d
+    returns-2)

@@ -1,0 +1,26 @@
+-- `party_run::held` meets its contract.
+use native.Mathlib.Omega.{arith}
+use Rattle.message.proofs.RoundTrip.{table-parts}
+use Rattle.party.specs.Party.{levelAt, heldBy}
+use borrow.Author.Needs.{needs}
+use Rattle.party_run.proofs.held.Statement.{statement}
+use Rattle.party_run.proofs.held.Tie as tie
+
+cast-i : tie.Need-cast-i
+cast-i c = search needs
+
+mul-l : tie.Need-mul-l
+mul-l c = search needs
+
+element-copy-out-l : tie.Need-element-copy-out-l
+element-copy-out-l c = omega (arith, table-parts (c .before .args .m) (c .before .pre .1) .0)
+
+holds-requires : tie.Need-holds-requires
+holds-requires c κs = (table-parts (c .before .before .args .m) (c .before .before .pre .1) .1, c .before .before .pre .0)
+
+returns : tie.Need-returns
+unfolding heldBy levelAt
+returns c = c .holds .ensures
+
+pub held-spec : {M : Type 1} → statement M
+held-spec = tie.close (tie.spec cast-i mul-l element-copy-out-l holds-requires returns)

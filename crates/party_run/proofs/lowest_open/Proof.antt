@@ -1,0 +1,130 @@
+-- `party_run::lowest_open` meets its contract. The loop's invariant: i is at most the number of levels that send, and no rule applies below i.
+use borrow.Author.Needs.{needs}
+use mathlib.Core.Path.{_∙_}
+use Prim.Native.Nat.{_-_, _≤_}
+use native.Mathlib.Omega.{arith}
+use Rattle.party.specs.Party.{levelAt}
+use Rattle.party_laws.proofs.Laws.{Formed}
+use Rattle.party_run.proofs.Typed.{typed-formed}
+use Rattle.party_run.proofs.Openings.{Closed, closed-start, opens-none, rule-limits, rule-found, opens-here, closed-next}
+use Rattle.party_run.proofs.lowest_open.Statement.{statement}
+use Rattle.party_run.proofs.lowest_open.Tie as tie
+
+abbrev Inv-loop : tie.InvT-loop
+Inv-loop p c i₀ i = (i ≤ c .sending) × Closed p i
+
+abbrev μ-loop : tie.MeasureT-loop
+μ-loop p c i₀ i = c .sending - i
+
+formed : (s : tie.Start Inv-loop μ-loop) → Formed (s .args .t1)
+formed s = typed-formed (s .args .t1) _ (s .good .0) (s .pre .0)
+
+loop-holds : tie.Need-loop-holds Inv-loop μ-loop
+loop-holds c = (omega arith, closed-start (c .args .t1))
+
+mul-s : tie.Need-mul-s Inv-loop μ-loop
+mul-s c = omega (arith, c .before .before .pre .1 .last)
+
+element-copy-out-s : tie.Need-element-copy-out-s Inv-loop μ-loop
+element-copy-out-s c = omega (arith, c .before .before .pre .1 .last)
+
+mul-l : tie.Need-mul-l Inv-loop μ-loop
+mul-l c = omega (arith, c .before .before .before .pre .1 .last)
+
+element-copy-out-l : tie.Need-element-copy-out-l Inv-loop μ-loop
+element-copy-out-l c = omega (arith, c .before .before .before .pre .1 .last)
+
+add-next : tie.Need-add-next Inv-loop μ-loop
+add-next c = omega (arith, c .before .before .before .before .pre .1 .last)
+
+mul-next : tie.Need-mul-next Inv-loop μ-loop
+mul-next c = omega (arith, c .before .before .before .before .pre .1 .last)
+
+element-copy-out-next : tie.Need-element-copy-out-next Inv-loop μ-loop
+element-copy-out-next c = omega (arith, c .before .before .before .before .pre .1 .last)
+
+context-requires : tie.Need-context-requires Inv-loop μ-loop
+context-requires c κs = search needs
+
+lowest-rule-requires : tie.Need-lowest-rule-requires Inv-loop μ-loop
+unfolding levelAt
+lowest-rule-requires c κs =
+    let b = c .before .before .before .before in
+    let s = b .before .before in
+    rule-limits (s .args .t1) (s .args .t2) (formed s) (s .pre .1) (b .before .loop .i) (b .loop-test .taken)
+    (c .context .result) (c .context .ensures)
+
+applies-requires : tie.Need-applies-requires Inv-loop μ-loop
+applies-requires c κs = search needs
+
+returns : tie.Need-returns Inv-loop μ-loop
+unfolding levelAt
+returns c =
+    let d = c .before .before .before in
+    let b = d .before .before .before .before in
+    let s = b .before .before in
+    let i = b .before .loop .i in
+    let w = formed s in
+    let a = c .before .before .lowest-rule in
+    opens-here (s .args .t1) (s .args .t2) w (s .pre .1) i (b .loop-test .taken) (a .result)
+    (a .ensures ∙ rule-found (s .args .t1) (s .args .t2) w (s .pre .1) i (b .loop-test .taken) (d .context .result) (d .context .ensures))
+    (c .before .applies .result) (c .before .applies .ensures) (b .before .loop .inv .1) (c .if1 .taken)
+
+add-i : tie.Need-add-i Inv-loop μ-loop
+add-i c =
+    let b = c .before .before .before .before .before .before .before in
+    omega (arith, b .loop-test .taken, b .before .before .pre .1 .last)
+
+loop-less : tie.Need-loop-less Inv-loop μ-loop
+loop-less c =
+    let b = c .before .before .before .before .before .before .before in
+    omega (arith, b .loop-test .taken)
+
+loop-again : tie.Need-loop-again Inv-loop μ-loop
+unfolding levelAt
+loop-again c =
+    let d = c .before .before .before in
+    let b = d .before .before .before .before in
+    let s = b .before .before in
+    let i = b .before .loop .i in
+    let w = formed s in
+    let a = c .before .before .lowest-rule in (
+      omega (arith, b .loop-test .taken),
+      closed-next (s .args .t1) (s .args .t2) w (s .pre .1) i (b .loop-test .taken) (a .result)
+          (a .ensures ∙ rule-found (s .args .t1) (s .args .t2) w (s .pre .1) i (b .loop-test .taken) (d .context .result) (d .context .ensures))
+          (c .before .applies .result) (c .before .applies .ensures) (b .before .loop .inv .1) (c .if1 .left),
+    )
+
+element-copy-out-l-2 : tie.Need-element-copy-out-l-2 Inv-loop μ-loop
+element-copy-out-l-2 c = search needs
+
+returns-2 : tie.Need-returns-2 Inv-loop μ-loop
+returns-2 c =
+    let b = c .before in
+    let s = b .before .before in
+    opens-none (s .args .t1) (s .args .t2) (formed s) (s .pre .1) (b .before .loop .i) (b .before .loop .inv .1)
+    (b .loop-test .left) _
+
+pub lowest-open-spec : {M : Type 1} → statement M
+lowest-open-spec =
+    tie.close
+    (tie.spec
+    Inv-loop
+    μ-loop
+    loop-holds
+    mul-s
+    element-copy-out-s
+    mul-l
+    element-copy-out-l
+    add-next
+    mul-next
+    element-copy-out-next
+    context-requires
+    lowest-rule-requires
+    applies-requires
+    returns
+    add-i
+    loop-less
+    loop-again
+    element-copy-out-l-2
+    returns-2)

@@ -1,0 +1,42 @@
+-- `party_run::start` meets its contract.
+use borrow.Author.Needs.{needs}
+use denote.Ref.{now}
+use Rattle.party_run.proofs.Typed.{typed-formed}
+use Rattle.party_run.proofs.Entries.{start-enterable}
+use Rattle.party_run.proofs.Calls.{valid-plan, start-valid, start-gives}
+use Rattle.party_run.proofs.start.Statement.{statement}
+use Rattle.party_run.proofs.start.Tie as tie
+
+whole-requires : tie.Need-whole-requires
+whole-requires c κs = let s = c .before .before in valid-plan (s .args .p) (s .pre .0)
+
+enter-requires : tie.Need-enter-requires
+enter-requires c κs =
+    let s = c .before .before .before in
+    let a = s .args in
+    start-enterable (a .p) (a .c) (c .whole .result) (a .x) (typed-formed (a .p) _ (s .good .0) (s .pre .0)) (s .pre .1) (c .whole .ensures) (s .pre .3) (s .pre .4)
+
+run-requires : tie.Need-run-requires
+run-requires c κs =
+    let e = c .before .before .before in
+    let s = e .before .before .before .before in
+    let a = s .args in (
+      start-valid (a .p) (e .before .whole .result) (a .x) (e .before .whole .ensures) (e .enter .result) (e .enter .ensures)
+          (typed-formed (a .p) _ (s .good .0) (s .pre .0)) (s .pre .3) (s .pre .4),
+      e .enter .ensures .chart,
+      s .pre .2,
+    )
+
+same-length : tie.Need-same-length
+same-length c = search needs
+
+returns : tie.Need-returns
+returns c =
+    let r = c .before .before .run in
+    let e = c .before .before .before .before .before .before in
+    let a = e .before .before .before .before .args in
+    start-gives (a .p) (e .before .whole .result) (a .x) (e .before .whole .ensures) (e .enter .result) (e .enter .ensures) (a .loud) (now (a .out)) (r .result)
+    (r .last .1 .1 .0) (r .ensures)
+
+pub start-spec : {M : Type 1} → statement M
+start-spec = tie.close (tie.spec whole-requires enter-requires run-requires same-length returns)

@@ -1,0 +1,28 @@
+-- `random_records::vote` is safe, and ends: each turn is one nearer to the end.
+use Prim.Native.Nat.{_≤_, _-_}
+use borrow.Author.Needs.{needs}
+use Rattle.random_records.proofs.vote.Statement.{statement}
+use Rattle.random_records.proofs.vote.Tie as tie
+
+abbrev Inv-loop : tie.InvT-loop
+Inv-loop plan s₀ ja₀ jb₀ oa₀ ob₀ seat₀ steps i₀ s ja jb oa ob seat i = 0 ≤ i
+
+abbrev μ-loop : tie.MeasureT-loop
+μ-loop plan s₀ ja₀ jb₀ oa₀ ob₀ seat₀ steps i₀ s ja jb oa ob seat i = steps - i
+
+pub vote-spec : {M : Type 1} → statement M
+vote-spec =
+    tie.close
+    (tie.spec
+    Inv-loop
+    μ-loop
+    (λ c κs. search needs)
+    (λ c κs. search needs)
+    (λ c. search needs)
+    (λ c κs. search needs)
+    (λ c κs. search needs)
+    (λ c. search needs)
+    (λ c. search needs)
+    (λ c. search needs)
+    (λ c κs. search needs)
+    (λ c. search needs))

@@ -1,0 +1,171 @@
+// What the two implementations gave is compared.
+use crate::calls;
+use party::Party;
+use random_records_draw::state;
+use random_records_draw::state::State;
+use second::Voter;
+use second_wire::num;
+use second_wire::table;
+use second_wire::table::Table;
+
+// A byte as a number.
+fn wide(x: u8) -> usize {
+    x as usize
+}
+
+// A u32 as a number.
+pub fn wide_word(x: u32) -> usize {
+    x as usize
+}
+
+// A verdict's number, 0 if it is none.
+pub fn number_of(v: base::Verdict) -> usize {
+    match v {
+        base::Verdict::Accepted => 0,
+        base::Verdict::Refused(number, _) => wide(number),
+    }
+}
+
+// A verdict's place, 0 if it has none.
+pub fn place_of(v: base::Verdict) -> usize {
+    match v {
+        base::Verdict::Accepted => 0,
+        base::Verdict::Refused(_, place) => place,
+    }
+}
+
+// Number, place, used length, sent bytes and rules of a call are noted.
+pub fn note(
+    s: &mut State,
+    area: usize,
+    number: usize,
+    place: usize,
+    used: usize,
+    sent: usize,
+    rules: usize,
+) {
+    state::set(s, area, number);
+    state::set(s, num::add(area, 1), place);
+    state::set(s, num::add(area, 2), used);
+    state::set(s, num::add(area, 3), sent);
+    state::set(s, num::add(area, 4), rules);
+}
+
+// Whether the calls gave the same numbers.
+fn is_same_result(s: &State) -> bool {
+    for i in 0..5 {
+        if state::get(s, num::add(state::FIRST, i)) != state::get(s, num::add(state::SECOND, i)) {
+            return false;
+        }
+    }
+    true
+}
+
+// Whether two buffers are the same to before `to`.
+fn is_same_bytes(a: &[u8], b: &[u8], to: usize) -> bool {
+    for i in 0..to {
+        if num::byte_at(a, i) != num::byte_at(b, i) {
+            return false;
+        }
+    }
+    true
+}
+
+// Whether results, lent journals and whole outgoing buffers are the same.
+pub fn is_same_call(s: &State, ja: &[u8], jb: &[u8], oa: &[u8], ob: &[u8]) -> bool {
+    if is_same_result(s) {
+        if is_same_bytes(ja, jb, state::get(s, state::ROOM)) {
+            return is_same_bytes(oa, ob, calls::OUTGOING);
+        }
+    }
+    false
+}
+
+// Whether the answers are the same.
+fn is_same_answer(a: board::Answer, f: second::Found) -> bool {
+    match a {
+        board::Answer::None => !f.there,
+        board::Answer::At(z) => is_answer(f, z),
+    }
+}
+
+// Whether the answer z was found.
+fn is_answer(f: second::Found, z: i64) -> bool {
+    if f.there {
+        return f.value == z;
+    }
+    false
+}
+
+// Whether reading gives the same, where question 19 of the record gave this number.
+pub fn is_same_reading(p: Party, v: Voter, asked: u32) -> bool {
+    let r = board::read_answer(p);
+    let verdict = r.verdict;
+    let answer = r.answer;
+    if number_of(verdict) != wide_word(asked) {
+        return false;
+    }
+    if asked != 0 {
+        let nothing = second::Found {
+            there: false,
+            value: 0,
+        };
+        return is_same_answer(answer, nothing);
+    }
+    is_same_answer(answer, second::answer(v))
+}
+
+// ---- tables
+
+// Whether the numbers of a row are the same, but for what the last rule wanted.
+fn is_same_cell(a: &Table, b: &Table, row: usize, column: usize) -> bool {
+    if row == table::VOTE {
+        if column == table::SAY_VALUE {
+            return true;
+        }
+        if column == table::GO_TO {
+            return true;
+        }
+    }
+    table::at(a, row, column) == table::at(b, row, column)
+}
+
+// Whether the levels, the vote and the sides of vertices are the same.
+fn is_same_levels(a: &Table, b: &Table) -> bool {
+    for i in 0..17 * 256 {
+        if !is_same_cell(a, b, i / 256, i % 256) {
+            return false;
+        }
+        if table::side_of(a, i / 256, i % 256) != table::side_of(b, i / 256, i % 256) {
+            return false;
+        }
+    }
+    true
+}
+
+// Whether the same was heard from a sender.
+fn is_same_saying(a: &Table, b: &Table, level: usize, place: usize, sender: usize) -> bool {
+    let said = table::is_said(b, level, place / 17, place % 17, sender);
+    if table::is_said(a, level, place / 17, place % 17, sender) {
+        return said;
+    }
+    !said
+}
+
+// Whether the same was heard.
+fn is_same_heard(a: &Table, b: &Table) -> bool {
+    for i in 0..15 * 2048 {
+        if !is_same_saying(a, b, i / 2048, i % 2048 / 16, i % 16) {
+            return false;
+        }
+    }
+    true
+}
+
+// Whether two tables say the same of a board; the order of a tree's edges says nothing.
+pub fn is_same_table(a: &Table, b: &Table) -> bool {
+    if is_same_levels(a, b) {
+        return is_same_heard(a, b);
+    }
+    false
+}

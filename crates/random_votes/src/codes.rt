@@ -1,0 +1,112 @@
+// The state's numbers as a call's arguments, and a call's results as numbers.
+use random_votes_state::call;
+use random_votes_state::state;
+use random_votes_state::state::State;
+use second_wire::num;
+
+// A number as a u32, without what does not fit.
+pub fn word(x: usize) -> u32 {
+    (x % 4294967296) as u32
+}
+
+// The same as a byte.
+fn byte(x: usize) -> u8 {
+    (x % 256) as u8
+}
+
+// A byte as a number.
+fn wide(x: u8) -> usize {
+    x as usize
+}
+
+// A u32 as a number.
+pub fn wide_word(x: u32) -> usize {
+    x as usize
+}
+
+// -1-m of a small m.
+fn negative(m: usize) -> i64 {
+    if m < 4294967296 {
+        return -1 - (m as i64);
+    }
+    0
+}
+
+// A small number as an i64.
+fn natural(m: usize) -> i64 {
+    if m < 4294967296 {
+        return m as i64;
+    }
+    0
+}
+
+// The input of a code: 0 and 1 stand for the least and the greatest i64.
+pub fn input_of(code: usize) -> i64 {
+    if code == 0 {
+        return -9223372036854775808;
+    }
+    if code == 1 {
+        return 9223372036854775807;
+    }
+    if code < call::ZERO {
+        return negative(num::less(call::ZERO, num::next(code)));
+    }
+    natural(num::less(code, call::ZERO))
+}
+
+// A reading's code.
+fn code_of(z: i64) -> usize {
+    let m = second::reading::magnitude(z);
+    if z < 0 {
+        return num::less(call::ZERO, num::next(m));
+    }
+    num::add(call::ZERO, m)
+}
+
+// The library's answer as its code plus 1, or 0.
+pub fn of_answer(a: board::Answer) -> usize {
+    match a {
+        board::Answer::None => 0,
+        board::Answer::At(z) => num::next(code_of(z)),
+    }
+}
+
+// The same of the second implementation's.
+pub fn of_found(f: second::Found) -> usize {
+    if f.there {
+        return num::next(code_of(f.value));
+    }
+    0
+}
+
+// A verdict's number, 0 if it is none.
+pub fn number_of(v: base::Verdict) -> usize {
+    match v {
+        base::Verdict::Accepted => 0,
+        base::Verdict::Refused(number, _) => wide(number),
+    }
+}
+
+// A verdict's place, 0 if it has none.
+pub fn place_of(v: base::Verdict) -> usize {
+    match v {
+        base::Verdict::Accepted => 0,
+        base::Verdict::Refused(_, place) => place,
+    }
+}
+
+// A number of an area becomes a byte.
+fn load_byte(s: &State, area: usize, i: usize, bytes: &mut [u8; 1280]) {
+    if i < 1280 {
+        bytes[i] = byte(state::of(s, area, i));
+    }
+}
+
+// The first bytes of an area.
+pub fn load(s: &State, area: usize, length: usize) -> [u8; 1280] {
+    let mut bytes = [0u8; 1280];
+    for i in 0..length {
+        load_byte(s, area, i, &mut bytes);
+    }
+    bytes
+}

@@ -1,0 +1,90 @@
+// Document 01's cases at the limits: boards, faults, vertices and width, on both implementations.
+use crate::calls;
+use crate::report;
+use random_votes_draw::plans;
+use random_votes_judge::judge;
+use random_votes_state::call;
+use random_votes_state::state;
+use random_votes_state::state::State;
+
+// The number and place of a refusal, or that there was none.
+fn write_result(s: &State, area: usize) {
+    let number = state::of(s, area, call::NUMBER);
+    if number == 0 {
+        report::text(b" accepted");
+        return;
+    }
+    report::text(b" refused");
+    report::number(number);
+    report::text(b" at");
+    report::number(state::of(s, area, call::PLACE));
+}
+
+// The set-up on both, and what they gave.
+fn set_up(s: &mut State, words: &[u8], limit: usize) {
+    judge::clear(s);
+    state::set(s, state::CALL, call::SET_UP);
+    calls::try_set_up(s);
+    report::text(words);
+    report::number(limit);
+    report::text(b":");
+    write_result(s, state::FIRST);
+    report::text(b",");
+    write_result(s, state::SECOND);
+    report::end();
+}
+
+// Boards and faults.
+fn settings(s: &mut State, n: usize, t: usize) {
+    state::set(s, state::CALL_BOARDS, n);
+    state::set(s, state::CALL_FAULTS, t);
+}
+
+// A range from 0 on.
+fn range(s: &mut State, width: usize) {
+    let length = plans::put_range(s, state::PLAN, call::ZERO, width);
+    state::set(s, state::CALL_PLAN_LENGTH, length);
+}
+
+// A path of so many vertices.
+fn path(s: &mut State, vertices: usize) {
+    let length = plans::put_tree(s, state::PLAN, 0, vertices);
+    state::set(s, state::CALL_PLAN_LENGTH, length);
+}
+
+// So many boards and faults on a small range.
+fn settings_case(s: &mut State, n: usize, t: usize, words: &[u8], limit: usize) {
+    settings(s, n, t);
+    range(s, 8);
+    set_up(s, words, limit);
+}
+
+// A path of so many vertices is tried.
+fn path_case(s: &mut State, vertices: usize) {
+    path(s, vertices);
+    set_up(s, b"vertices", vertices);
+}
+
+// A range of a width is tried.
+fn range_case(s: &mut State, width: usize) {
+    range(s, width);
+    set_up(s, b"width", width);
+}
+
+// A line for each case of the settings.
+pub fn write_settings(s: &mut State) {
+    state::set(s, state::CALL_PLAN, state::PLAN);
+    settings_case(s, 16, 1, b"boards", 16);
+    settings_case(s, 17, 1, b"boards", 17);
+    settings_case(s, 16, 5, b"faults of 16 boards", 5);
+    settings_case(s, 16, 6, b"faults of 16 boards", 6);
+}
+
+// A line for each case of the plan.
+pub fn write_plans(s: &mut State) {
+    settings(s, 4, 1);
+    path_case(s, 255);
+    path_case(s, 256);
+    range_case(s, 65535);
+    range_case(s, 65536);
+}

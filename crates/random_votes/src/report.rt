@@ -1,0 +1,124 @@
+// What the run came to, in lines.
+use libc::STDOUT_FILENO;
+use random_votes_state::state;
+use random_votes_state::state::State;
+
+// Writes words.
+pub fn text(words: &[u8]) {
+    io::write_all(STDOUT_FILENO, words);
+}
+
+// A number for printing.
+fn wide(x: usize) -> u64 {
+    x as u64
+}
+
+// Writes a space and a number.
+pub fn number(x: usize) {
+    text(b" ");
+    io::print_decimal(STDOUT_FILENO, wide(x));
+}
+
+// Ends a line.
+pub fn end() {
+    text(b"\n");
+}
+
+// A count after its name.
+pub fn line(s: &State, words: &[u8], i: usize) {
+    text(words);
+    number(state::get(s, i));
+    end();
+}
+
+// So many counts from a place on, each after its number.
+fn row(s: &State, words: &[u8], from: usize, first: usize, last: usize) {
+    text(words);
+    for i in first..last {
+        number(i);
+        text(b":");
+        number(state::of(s, from, i));
+    }
+    end();
+}
+
+// Something that must not be, and where it was first.
+fn fault(s: &State, words: &[u8], i: usize, first: usize) {
+    line(s, words, i);
+    if 0 < state::get(s, first) {
+        text(b"first in vote");
+        number(state::get(s, first));
+        text(b", call");
+        number(state::of(s, first, 1));
+        end();
+    }
+}
+
+// What was called.
+pub fn write_calls(s: &State) {
+    line(s, b"votes", state::VOTES);
+    line(s, b"votes on the widest range", state::WIDE_RANGES);
+    line(s, b"votes on a tree of 255 vertices", state::LARGE_TREES);
+    line(s, b"calls compared", state::CALLS);
+    row(
+        s,
+        b"accepted set-up, start, take, reading, restore:",
+        state::ACCEPTED,
+        1,
+        6,
+    );
+    row(s, b"refused by question:", state::REFUSED, 1, 22);
+}
+
+// What rules did in starts and takes.
+pub fn write_rules(s: &State) {
+    row(s, b"rules applied by boards:", state::BOARD_RULES, 1, 15);
+    row(s, b"rules applied by the bench:", state::BENCH_RULES, 1, 15);
+    row(s, b"levels entered by boards:", state::ENTERED, 0, 16);
+    row(s, b"results by grade:", state::GRADES, 0, 3);
+}
+
+// What was said and not said.
+pub fn write_messages(s: &State) {
+    row(s, b"messages handed over by kind:", state::KINDS, 1, 7);
+    row(s, b"lies taken by level:", state::LIES_TAKEN, 0, 15);
+    line(
+        s,
+        b"lies told otherwise to another board",
+        state::TWO_TONGUED,
+    );
+    line(s, b"lies among the last deliveries", state::LAST_LIES);
+}
+
+// What happened to boards.
+pub fn write_events(s: &State) {
+    line(s, b"cuts", state::CUTS);
+    line(s, b"cuts after a reading", state::READ_CUTS);
+    line(s, b"cuts while down", state::DOWN_CUTS);
+    line(s, b"torn records dropped", state::TORN);
+    line(s, b"starts lost", state::LOST);
+    line(s, b"answers", state::ANSWERS);
+    line(s, b"votes with answers one edge apart", state::SPLIT_VOTES);
+}
+
+// What must be 0.
+pub fn write_faults(s: &State) {
+    fault(
+        s,
+        b"calls whose rules are not as many as reported",
+        state::MISCOUNTED,
+        state::FIRST_MISCOUNT,
+    );
+    fault(
+        s,
+        b"differences",
+        state::DIFFERENCES,
+        state::FIRST_DIFFERENCE,
+    );
+    fault(
+        s,
+        b"answers against demand 3",
+        state::FAULTY_ANSWERS,
+        state::FIRST_FAULT,
+    );
+}

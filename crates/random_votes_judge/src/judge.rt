@@ -1,0 +1,209 @@
+// What a call did is compared, and what it leaves is kept.
+use crate::demand;
+use random_votes_seats::cuts;
+use random_votes_state::buffers;
+use random_votes_state::buffers::Journals;
+use random_votes_state::buffers::Out;
+use random_votes_state::call;
+use random_votes_state::pool;
+use random_votes_state::random;
+use random_votes_state::state;
+use random_votes_state::state::State;
+use second_wire::num;
+
+// A call on which the implementations differ.
+fn difference(s: &mut State) {
+    state::count(s, state::DIFFERENCES);
+    demand::note_place(s, state::FIRST_DIFFERENCE);
+}
+
+// What the calls gave is the same.
+fn is_same_result(s: &State) -> bool {
+    for i in 0..8 {
+        if state::of(s, state::FIRST, i) != state::of(s, state::SECOND, i) {
+            return false;
+        }
+    }
+    true
+}
+
+// Results, lent journals and whole outgoing buffers are the same.
+fn is_same(s: &State, ja: &[u8], jb: &[u8], oa: &[u8], ob: &[u8]) -> bool {
+    if is_same_result(s) {
+        let from = call::journal_at(state::get(s, state::SEAT));
+        let to = num::add(from, state::get(s, state::ROOM));
+        if buffers::is_same(ja, jb, from, to) {
+            return buffers::is_same(oa, ob, 0, buffers::OUTGOING);
+        }
+    }
+    false
+}
+
+// The results of the last call are forgotten.
+pub fn clear(s: &mut State) {
+    for i in 0..32 {
+        state::put(s, state::FIRST, i, 0);
+    }
+}
+
+// A cut comes, after some of the messages.
+fn hand_some(s: &mut State, out: &[u8], b: usize, sent: usize) {
+    let most = random::below(s, 3);
+    let handed = pool::hand_over(s, out, sent, b, most);
+    guard_if(s, b, handed);
+    cuts::cut(s, b);
+}
+
+// Handing over guards the records.
+fn guard_if(s: &mut State, b: usize, handed: usize) {
+    if 0 < handed {
+        guard(s, b);
+    }
+}
+
+// A cut must leave all used bytes.
+fn guard(s: &mut State, b: usize) {
+    let used = state::of(s, state::USED, b);
+    state::put(s, state::GUARDED, b, used);
+}
+
+// All messages of a call are handed over, or a cut comes.
+fn hand(s: &mut State, out: &[u8], b: usize, sent: usize) {
+    if cuts::comes(s, 24) {
+        hand_some(s, out, b, sent);
+        return;
+    }
+    let handed = pool::hand_over(s, out, sent, b, sent);
+    guard_if(s, b, handed);
+}
+
+// The journal has the used length that the call gave.
+fn keep_used(s: &mut State, b: usize) {
+    let used = state::of(s, state::FIRST, call::USED);
+    state::put(s, state::USED, b, used);
+}
+
+// The answer that the board holds now, if there is one.
+fn keep_answer(s: &mut State, b: usize) {
+    let answer = state::of(s, state::FIRST, call::ANSWER);
+    if 0 < answer {
+        demand::hold(s, b, answer);
+    }
+}
+
+// What a start, take or restore leaves.
+fn after_call(s: &mut State, out: &[u8], b: usize) {
+    keep_used(s, b);
+    keep_answer(s, b);
+    hand(s, out, b, state::of(s, state::FIRST, call::SENT));
+}
+
+// What a start leaves.
+fn after_start(s: &mut State, out: &[u8], b: usize) {
+    let position = num::less(state::get(s, state::INPUT), state::get(s, state::LOW));
+    state::put(s, state::STARTED, b, 1);
+    state::put(s, state::POSITION, b, position);
+    let end = state::of(s, state::FIRST, call::USED);
+    state::put(s, state::START_END, b, end);
+    after_call(s, out, b);
+}
+
+// "every record that a restore gave back" is guarded.
+fn after_restore(s: &mut State, out: &[u8], b: usize) {
+    if state::of(s, state::FIRST, call::USED) < state::get(s, state::ROOM) {
+        state::count(s, state::TORN);
+    }
+    keep_used(s, b);
+    guard(s, b);
+    state::put(s, state::STAGE, b, call::UP);
+    after_call(s, out, b);
+}
+
+// A reading that gives an answer guards the records; a cut may follow.
+fn after_reading(s: &mut State, b: usize) {
+    keep_answer(s, b);
+    let held = state::of(s, state::HELD, b);
+    if 0 < state::of(s, state::FIRST, call::ANSWER) {
+        guard(s, b);
+        state::put(s, state::READ, b, held);
+        if cuts::comes(s, 3) {
+            cuts::cut(s, b);
+            state::count(s, state::READ_CUTS);
+        }
+    }
+}
+
+// A lie that was taken is counted: by its level, and where another board was told otherwise in messages of this level and kind.
+fn count_lie(s: &mut State, b: usize) {
+    let level = pool::level(s);
+    state::grow(s, num::add(state::LIES_TAKEN, level % 16), 1);
+    let key = pool::key(level, pool::kind(s), state::get(s, state::SENDER));
+    let told = state::of(s, state::TOLD, key);
+    let telling = num::add(num::next(pool::value(s)) % 32, (b % 32) * 32);
+    state::put(s, state::TOLD, key, telling);
+    if told == 0 {
+        return;
+    }
+    if told / 32 != telling / 32 {
+        if told % 32 != telling % 32 {
+            state::count(s, state::TWO_TONGUED);
+        }
+    }
+}
+
+// What a take leaves.
+fn after_take(s: &mut State, out: &[u8], b: usize) {
+    if state::get(s, state::LYING) == 1 {
+        count_lie(s, b);
+        if state::get(s, state::PHASE) == call::DELIVERING {
+            state::count(s, state::LAST_LIES);
+        }
+    }
+    let picked = state::get(s, state::PICKED);
+    if 0 < picked {
+        pool::set_taken(s, b, num::less(picked, 1));
+    }
+    after_call(s, out, b);
+}
+
+// What a board's call leaves.
+fn after_board(s: &mut State, out: &[u8], b: usize) {
+    let call = state::get(s, state::CALL);
+    match call {
+        1 => state::put(s, state::STAGE, b, call::UP),
+        2 => after_start(s, out, b),
+        3 => after_take(s, out, b),
+        4 => after_reading(s, b),
+        _ => after_restore(s, out, b),
+    }
+}
+
+// An accepted call is counted, and kept.
+fn after_accepted(s: &mut State, out: &[u8], b: usize) {
+    let call = state::get(s, state::CALL);
+    state::grow(s, num::add(state::ACCEPTED, call), 1);
+    if b == call::BENCH {
+        keep_used(s, b);
+        state::put(s, state::STAGE, b, call::UP);
+        return;
+    }
+    after_board(s, out, b);
+}
+
+// Compares what the two implementations gave, and keeps what the first did, where there was a call.
+pub fn judge(s: &mut State, ja: &Journals, jb: &Journals, oa: &Out, ob: &Out) {
+    if state::get(s, state::CALL) == call::NO_CALL {
+        return;
+    }
+    state::count(s, state::CALLS);
+    if !is_same(s, ja, jb, oa, ob) {
+        difference(s);
+    }
+    let b = state::get(s, state::SEAT);
+    let number = state::of(s, state::FIRST, call::NUMBER);
+    if number == 0 {
+        after_accepted(s, oa, b);
+    } else {
+        state::grow(s, num::add(state::REFUSED, number % 32), 1);
+    }
+}

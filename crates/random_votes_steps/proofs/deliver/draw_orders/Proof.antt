@@ -1,0 +1,42 @@
+-- `random_votes_steps::deliver::draw_orders` is safe and ends: each turn takes the loop one nearer to its end.
+use Prim.Native.Nat.{_≤_, _-_}
+use borrow.Author.Needs.{needs}
+use Rattle.random_votes_steps.proofs.deliver.draw_orders.Statement.{statement}
+use Rattle.random_votes_steps.proofs.deliver.draw_orders.Tie as tie
+
+abbrev Inv-loop : tie.InvT-loop
+Inv-loop s₀ p b₀ s b = 0 ≤ b
+
+abbrev μ-loop : tie.MeasureT-loop
+μ-loop s₀ p b₀ s b = 16 - b
+
+loop-holds : tie.Need-loop-holds Inv-loop μ-loop
+loop-holds c = search needs
+
+draw-order-requires : tie.Need-draw-order-requires Inv-loop μ-loop
+draw-order-requires c κs = search needs
+
+add-b : tie.Need-add-b Inv-loop μ-loop
+add-b c = search needs
+
+loop-less : tie.Need-loop-less Inv-loop μ-loop
+loop-less c = search needs
+
+loop-again : tie.Need-loop-again Inv-loop μ-loop
+loop-again c = search needs
+
+returns : tie.Need-returns Inv-loop μ-loop
+returns c = search needs
+
+pub draw-orders-spec : {M : Type 1} → statement M
+draw-orders-spec =
+    tie.close
+    (tie.spec
+    Inv-loop
+    μ-loop
+    loop-holds
+    draw-order-requires
+    add-b
+    loop-less
+    loop-again
+    returns)
