@@ -1,5 +1,6 @@
 pub mod Bools
 pub mod Counts
+pub mod Any
 pub mod Smallest
 pub mod Ranks
 pub mod Puts

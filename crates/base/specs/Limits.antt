@@ -1,17 +1,24 @@
--- Document 01, "Words and sizes", "Plans": the limits of plans and settings.
-use Prim.Native.Nat.{ℕ}
+-- Document 01, "Words and sizes", "Plans", "The fourteen rules": the limits, each named once; those that follow from others are computed.
+use Prim.Native.Nat.{ℕ, _+_, _-_, _*_}
+use Rattle.base.specs.declared.Limits as Code
 
--- "n 1 to 16"
+-- "An agreement number (0 to 4,294,967,295)", and groups "at most 4,294,967,295"
+abbrev pub maxNumber : ℕ
+maxNumber = 4294967295
+
+-- "n 1 to 16", and "sender (0 to 15)" of a taken message's record
 abbrev pub maxBoards : ℕ
 maxBoards = 16
 
--- "vertex count V (1 to 255)"
+abbrev pub maxSender : ℕ
+maxSender = maxBoards - 1
+
+-- "vertex count V (1 to 255)", and the rows of such a tree
 abbrev pub maxVertices : ℕ
 maxVertices = 255
 
--- rows of a tree with the most vertices: one less
 abbrev pub maxRows : ℕ
-maxRows = 254
+maxRows = maxVertices - 1
 
 -- "d at most 15": the most edges at a vertex
 abbrev pub maxDegree : ℕ
@@ -25,30 +32,56 @@ maxWidth = 65535
 abbrev pub maxReading : ℕ
 maxReading = 4294967295
 
--- the highest level at which messages are sent: "At most 15 levels send messages, 0 to 14"
-abbrev pub lastLevel : ℕ
-lastLevel = 14
+-- "position (0 to 65,535)" of a start's record: those of the widest range
+abbrev pub maxPosition : ℕ
+maxPosition = maxWidth
 
--- the levels that can be entered: "a last level of 1 or 2 positions, at most level 15, sends nothing"
+-- "At most 15 levels send messages, 0 to 14"; "a last level of 1 or 2 positions, at most level 15, sends nothing"
+abbrev pub sendingLevels : ℕ
+sendingLevels = 15
+
+abbrev pub lastLevel : ℕ
+lastLevel = sendingLevels - 1
+
 abbrev pub levelCount : ℕ
-levelCount = 16
+levelCount = sendingLevels + 1
+
+-- at one level: the most rules, the most messages; and the bytes of a message at most
+abbrev pub levelRules : ℕ
+levelRules = 26
+
+abbrev pub levelMessages : ℕ
+levelMessages = 22
+
+abbrev pub messageSize : ℕ
+messageSize = 8
 
 -- "over all starts and takes from set-up .. that is at most 390"
 abbrev pub maxRules : ℕ
-maxRules = 390
+maxRules = sendingLevels * levelRules
 
 -- "2,640 bytes (15 × 22 × 8)"
 abbrev pub outgoingSize : ℕ
-outgoingSize = 2640
+outgoingSize = sendingLevels * levelMessages * messageSize
 
--- "position (0 to 65,535)" of a start's record
-abbrev pub maxPosition : ℕ
-maxPosition = 65535
-
--- "sender (0 to 15)" of a taken message's record
-abbrev pub maxSender : ℕ
-maxSender = 15
-
--- "An agreement number (0 to 4,294,967,295)"
-abbrev pub maxNumber : ℕ
-maxNumber = 4294967295
+-- the limits that the code has by name
+abbrev pub limits : Code.Limits
+limits = record {
+  number = maxNumber;
+  boards = maxBoards;
+  sender = maxSender;
+  vertices = maxVertices;
+  rows = maxRows;
+  degree = maxDegree;
+  width = maxWidth;
+  reading = maxReading;
+  position = maxPosition;
+  «sending_levels» = sendingLevels;
+  «last_level» = lastLevel;
+  levels = levelCount;
+  «level_rules» = levelRules;
+  «level_messages» = levelMessages;
+  «message_size» = messageSize;
+  rules = maxRules;
+  outgoing = outgoingSize;
+}

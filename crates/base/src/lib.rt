@@ -1,34 +1,105 @@
-// What all layers share: document 01's sizes, each named once; the answer of a call; and in specs/ and proofs/ choice by a test,
-// finite sets and their counts, bytes written into a buffer.
+// What all layers share: document 01's limits, each named once; the answer of a call; and in specs/ and proofs/ choice by a test, finite sets and
+// their counts, bytes written into a buffer.
+ghost use mathlib.Core.Path.{_≡_};
+ghost use Rattle.base.specs.Limits.{limits};
 
-// The most boards of a vote.
+// Agreement numbers, and all numbers of messages and records, are at most so large.
+pub const MAX_NUMBER: u32 = 4294967295;
+
+// Boards of a vote: at most so many, numbered from 0.
 pub const MAX_BOARDS: u32 = 16;
-// The most vertices of a tree.
+
+pub const MAX_SENDER: u32 = MAX_BOARDS - 1;
+
+// Trees: the most vertices, the rows kept of such a tree, the most edges at a vertex.
 pub const MAX_VERTICES: usize = 255;
-// The rows kept of such a tree: one less.
-pub const MAX_ROWS: usize = 254;
-// The most edges at a vertex.
+
+pub const MAX_ROWS: usize = MAX_VERTICES - 1;
+
 pub const MAX_DEGREE: u8 = 15;
-// The largest width of a range.
+
+// Ranges: the largest width, and the largest reading in offset binary.
 pub const MAX_WIDTH: u32 = 65535;
-// The largest reading, in offset binary.
+
 pub const MAX_READING: u32 = 4294967295;
 
-// The largest position of a start's record, and the largest sender of a taken message's.
-pub const MAX_POSITION: u32 = 65535;
+// The largest position of a plan: that of the widest range.
+pub const MAX_POSITION: u32 = MAX_WIDTH;
 
-pub const MAX_SENDER: u32 = 15;
-// The highest level at which messages are sent.
-pub const LAST_LEVEL: u32 = 14;
-// The levels that can be entered: those that send messages, and a last one.
-pub const LEVELS: usize = 16;
-// The most rules that a party applies in its life.
-pub const MAX_RULES: u32 = 390;
-// The outgoing bytes that a call may need: 15 levels, 22 messages of 8 bytes.
-pub const OUTGOING: usize = 2640;
+// Levels: how many send messages, the highest of them, and how many can be entered, which is one more.
+pub const SENDING_LEVELS: u32 = 15;
+
+pub const LAST_LEVEL: u32 = SENDING_LEVELS - 1;
+
+pub const LEVELS: usize = SENDING_LEVELS as usize + 1;
+
+// At one level, in a party's life: the most rules, the most messages, and the bytes of a message at most.
+pub const LEVEL_RULES: u32 = 26;
+
+pub const LEVEL_MESSAGES: usize = 22;
+
+pub const MESSAGE_SIZE: usize = 8;
+
+// In a party's life: the most rules, and the outgoing bytes that a call may need.
+pub const MAX_RULES: u32 = SENDING_LEVELS * LEVEL_RULES;
+
+pub const OUTGOING: usize = SENDING_LEVELS as usize * LEVEL_MESSAGES * MESSAGE_SIZE;
+
+// The limits as the code has them.
+pub struct Limits {
+    pub number: u32,
+    pub boards: u32,
+    pub sender: u32,
+    pub vertices: usize,
+    pub rows: usize,
+    pub degree: u8,
+    pub width: u32,
+    pub reading: u32,
+    pub position: u32,
+    pub sending_levels: u32,
+    pub last_level: u32,
+    pub levels: usize,
+    pub level_rules: u32,
+    pub level_messages: usize,
+    pub message_size: usize,
+    pub rules: u32,
+    pub outgoing: usize,
+}
+
+// They are those of the definitions.
+pub fn all_limits() -> Limits
+    ensures { λ r. ⌜ r ≡ limits ⌝ }
+{
+    Limits {
+        number: MAX_NUMBER,
+        boards: MAX_BOARDS,
+        sender: MAX_SENDER,
+        vertices: MAX_VERTICES,
+        rows: MAX_ROWS,
+        degree: MAX_DEGREE,
+        width: MAX_WIDTH,
+        reading: MAX_READING,
+        position: MAX_POSITION,
+        sending_levels: SENDING_LEVELS,
+        last_level: LAST_LEVEL,
+        levels: LEVELS,
+        level_rules: LEVEL_RULES,
+        level_messages: LEVEL_MESSAGES,
+        message_size: MESSAGE_SIZE,
+        rules: MAX_RULES,
+        outgoing: OUTGOING,
+    }
+}
 
 // A call's answer: accepted, or refused by the number and at the place that document 01's questions give.
 pub enum Verdict {
     Accepted,
     Refused(u8, usize),
+}
+
+// A number of 16 bits as an index.
+pub fn wide(x: u16) -> usize
+    ensures { λ r. ⌜ r ≡ x ⌝ }
+{
+    x as usize
 }

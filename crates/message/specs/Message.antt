@@ -7,6 +7,7 @@ use lib.ListN.{length}
 use Rattle.base.specs.Pick.{pick}
 use Rattle.base.specs.Put.{putAt}
 pub use Rattle.base.specs.Limits.{lastLevel}
+use Rattle.base.specs.Limits.{maxDegree}
 use Rattle.varint.specs.declared.VarintRead.{VarintRead}
 use Rattle.varint.specs.Varint.{varintAt, varintWithin, varintBytes}
 use Rattle.message.specs.declared.Body.{Body}
@@ -17,13 +18,13 @@ use Rattle.message.specs.declared.MessageRead.{MessageRead}
 use Rattle.message.specs.declared.Exactly.{Exactly}
 use Rattle.message.specs.declared.MessageWritten.{MessageWritten}
 
--- the largest value
+-- the largest value: "d at most 15"
 abbrev pub maxValue : ℕ
-maxValue = 15
+maxValue = maxDegree
 
 -- "16 = none"
 abbrev pub noneValue : ℕ
-noneValue = 16
+noneValue = maxValue + 1
 
 -- the table's column "Kind"
 abbrev pub kindOf : Body → ℕ

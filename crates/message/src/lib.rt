@@ -8,10 +8,10 @@ ghost use Rattle.base.specs.Put.{putAt};
 ghost use Rattle.varint.specs.Varint.{varintWithin};
 ghost use Rattle.message.specs.Message.{lastLevel, bodyOf, bodyAt, withBody, withKind, withLevel, messageAt, exactMessage, kindOf, valueOf, valueLow, valueHigh, valueBytes, messageBytes, inTable, bodyInTable, writeAnswer, writeBuffer};
 
-// The largest value of a side or a port.
-pub const MAX_SIDE: u32 = 15;
-// The value that stands for none.
-pub const NONE: u32 = 16;
+// The largest value of a side or a port: the most neighbours of a centre.
+pub const MAX_SIDE: u32 = base::MAX_DEGREE as u32;
+// The value that stands for none: the next one.
+pub const NONE: u32 = base::MAX_DEGREE as u32 + 1;
 
 pub enum Body {
     FirstEcho(u8),

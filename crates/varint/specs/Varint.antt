@@ -6,10 +6,21 @@ use lib.Dec.{ltb, leb, eqb}
 use lib.ListN.{length, getD}
 use Rattle.base.specs.Pick.{pick}
 use Rattle.base.specs.Put.{putAt}
+use Rattle.base.specs.Limits.{maxNumber}
 use Rattle.varint.specs.declared.VarintRead.{VarintRead}
 use Rattle.varint.specs.declared.VarintRead.the-variants.{Value, Short, Malformed}
 use Rattle.varint.specs.declared.Written.{Written}
 use Rattle.varint.specs.declared.Written.the-variants.{Bytes, NoRoom}
+
+-- "seven-bit pieces", "at most 4,294,967,295": so at most five pieces, and what stands above the lowest piece is at most 33,554,431
+abbrev pub pieceSize : ℕ
+pieceSize = 128
+
+abbrev pub maxPieces : ℕ
+maxPieces = 5
+
+abbrev pub maxRest : ℕ
+maxRest = maxNumber / pieceSize
 
 -- every element is a byte
 abbrev pub AllBytes : List ℕ → Type 0
@@ -17,21 +28,20 @@ AllBytes s = (i : ℕ) → getD s i 0 < 256
 
 -- the pieces of v, at most f + 1 of them
 unfoldable pub pieces : ℕ → ℕ → List ℕ
-pieces zero v = (v % 128) ∷ []
-pieces (suc f) v = pick (ltb v 128) (v ∷ []) ((v % 128 + 128) ∷ pieces f (v / 128))
+pieces zero v = (v % pieceSize) ∷ []
+pieces (suc f) v = pick (ltb v pieceSize) (v ∷ []) ((v % pieceSize + pieceSize) ∷ pieces f (v / pieceSize))
 
 -- five pieces hold every number up to 4,294,967,295
 abbrev pub varintBytes : ℕ → List ℕ
-varintBytes v = pieces 4 v
+varintBytes v = pieces (maxPieces - 1) v
 
 abbrev pub varintLength : ℕ → ℕ
 varintLength v = length (varintBytes v)
 
 -- The piece of byte b, 128 or more, before a rest. A rest of value 0 is not in the fewest bytes, so a rest still to come has at least value 1.
--- A rest above 33,554,431 makes more than 4,294,967,295.
 abbrev pub prefixed : ℕ → VarintRead → VarintRead
-prefixed b (Value high next) = pick (eqb high 0) Malformed (pick (ltb 33554431 high) Malformed (Value (b - 128 + 128 * high) next))
-prefixed b (Short least) = pick (ltb 33554431 (max 1 least)) Malformed (Short (b - 128 + 128 * max 1 least))
+prefixed b (Value high next) = pick (eqb high 0) Malformed (pick (ltb maxRest high) Malformed (Value (b - pieceSize + pieceSize * high) next))
+prefixed b (Short least) = pick (ltb maxRest (max 1 least)) Malformed (Short (b - pieceSize + pieceSize * max 1 least))
 prefixed b Malformed = Malformed
 
 -- the varint that stands at `at`, of at most f bytes
@@ -39,11 +49,11 @@ unfoldable pub piecesAt : ℕ → List ℕ → ℕ → VarintRead
 piecesAt zero s at = Malformed
 piecesAt (suc f) s at =
     pick (ltb at (length s))
-    (pick (ltb (getD s at 0) 128) (Value (getD s at 0) (at + 1)) (prefixed (getD s at 0) (piecesAt f s (at + 1))))
+    (pick (ltb (getD s at 0) pieceSize) (Value (getD s at 0) (at + 1)) (prefixed (getD s at 0) (piecesAt f s (at + 1))))
     (Short 0)
 
 abbrev pub varintAt : List ℕ → ℕ → VarintRead
-varintAt s at = piecesAt 5 s at
+varintAt s at = piecesAt maxPieces s at
 
 -- the same with limits on the value: what lies outside them is malformed, also what further bytes could only bring above them
 abbrev pub within : ℕ → ℕ → VarintRead → VarintRead

@@ -3,7 +3,18 @@ ghost use mathlib.Core.Path.{_≡_};
 ghost use Prim.Native.Nat.{_+_, _≤_, _<_};
 ghost use lib.ListN.{length};
 ghost use Rattle.base.specs.Put.{putAt};
-ghost use Rattle.varint.specs.Varint.{piecesAt, pieces, varintAt, varintWithin, varintBytes, prefixed, writtenOf, bufferOf};
+ghost use Rattle.varint.specs.Varint.{pieceSize, piecesAt, pieces, varintAt, varintWithin, varintBytes, prefixed, writtenOf, bufferOf};
+
+// A piece is a number below this; a byte that is not the last has this bit set besides.
+const TOP: u8 = 128;
+
+const PIECE: u32 = TOP as u32;
+// The most pieces, those after the first, and the most that can stand above the lowest one.
+const MAX_PIECES: u32 = 5;
+
+const LATER_PIECES: u32 = MAX_PIECES - 1;
+
+const MAX_REST: u32 = base::MAX_NUMBER / PIECE;
 
 // What reading a varint finds.
 pub enum VarintRead {
@@ -25,7 +36,7 @@ pub enum Written {
 
 // A first byte of 128 or more before a rest that is read as `rest`.
 fn prefix(b: u8, rest: VarintRead) -> VarintRead
-    requires { ⌜ 128 ≤ b ⌝ }
+    requires { ⌜ pieceSize ≤ b ⌝ }
     ensures { λ r. ⌜ r ≡ prefixed b rest ⌝ }
 {
     match rest {
@@ -33,17 +44,17 @@ fn prefix(b: u8, rest: VarintRead) -> VarintRead
             if high == 0 {
                 return VarintRead::Malformed;
             }
-            if 33554431 < high {
+            if MAX_REST < high {
                 return VarintRead::Malformed;
             }
-            VarintRead::Value((b - 128) as u32 + 128 * high, next)
+            VarintRead::Value((b - TOP) as u32 + PIECE * high, next)
         }
         VarintRead::Short(least) => {
             let high = if least == 0 { 1 } else { least };
-            if 33554431 < high {
+            if MAX_REST < high {
                 return VarintRead::Malformed;
             }
-            VarintRead::Short((b - 128) as u32 + 128 * high)
+            VarintRead::Short((b - TOP) as u32 + PIECE * high)
         }
         VarintRead::Malformed => VarintRead::Malformed,
     }
@@ -60,7 +71,7 @@ fn read_pieces(s: &[u8], at: usize, left: u32) -> VarintRead
         return VarintRead::Short(0);
     }
     let b = s[at];
-    if b < 128 {
+    if b < TOP {
         return VarintRead::Value(b as u32, at + 1);
     }
     let rest = read_pieces(s, at + 1, left - 1);
@@ -71,7 +82,7 @@ fn read_pieces(s: &[u8], at: usize, left: u32) -> VarintRead
 pub fn read(s: &[u8], at: usize) -> VarintRead
     ensures { λ r. ⌜ r ≡ varintAt (now (s .entry)) at ⌝ }
 {
-    read_pieces(s, at, 5)
+    read_pieces(s, at, MAX_PIECES)
 }
 
 // The varint at `at`, malformed where its value is not from `low` to `high`. Where the bytes end inside it, it is malformed if the least value that
@@ -106,8 +117,8 @@ pub fn size(v: u32) -> usize
 {
     let mut rest = v;
     let mut k: usize = 1;
-    while 128 <= rest {
-        rest = rest / 128;
+    while PIECE <= rest {
+        rest = rest / PIECE;
         k += 1;
     }
     k
@@ -118,15 +129,15 @@ fn write_pieces(out: &mut [u8], v: u32, left: u32) -> usize
     ensures { λ r. ⌜ (r ≡ length (pieces left v)) × (now (out .exit) ≡ putAt (now (out .entry)) 0 (pieces left v)) ⌝ }
 {
     if left == 0 {
-        out[0] = (v % 128) as u8;
+        out[0] = (v % PIECE) as u8;
         return 1;
     }
-    if v < 128 {
+    if v < PIECE {
         out[0] = v as u8;
         return 1;
     }
-    out[0] = (v % 128 + 128) as u8;
-    write_pieces(&mut out[1..], v / 128, left - 1) + 1
+    out[0] = (v % PIECE + PIECE) as u8;
+    write_pieces(&mut out[1..], v / PIECE, left - 1) + 1
 }
 
 // The varint of v is written from `at` on; the place past it. Inner: callers have shown that there is room; `write` asks.
@@ -134,7 +145,7 @@ pub fn put(out: &mut [u8], at: usize, v: u32) -> usize
     requires { ⌜ at + length (varintBytes v) ≤ length (now out) ⌝ }
     ensures { λ r. ⌜ (r ≡ at + length (varintBytes v)) × (now (out .exit) ≡ putAt (now (out .entry)) at (varintBytes v)) ⌝ }
 {
-    at + write_pieces(&mut out[at..], v, 4)
+    at + write_pieces(&mut out[at..], v, LATER_PIECES)
 }
 
 // The varint of v is written from `at` on, if it fits.
