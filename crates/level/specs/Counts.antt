@@ -10,7 +10,8 @@ use Rattle.base.specs.Sets.{count}
 use Rattle.message.specs.Message.{noneValue}
 use Rattle.message.specs.declared.Body.the-variants.{FirstEcho, FirstProposal, SecondEcho, SecondProposal, Side, Centre}
 use Rattle.senders.specs.Senders.{union, unionOver}
-pub use Rattle.level_counts.specs.Counts.{atLeast}
+pub use Rattle.senders.specs.Senders.{atLeast}
+pub use Rattle.level_counts.specs.Places.{bitPlaces}
 use Rattle.level.specs.declared.Level.{Level}
 use Rattle.level.specs.declared.Context.{Context}
 use Rattle.level.specs.Level.{senders, notYet}
@@ -59,7 +60,7 @@ splitAt c l i = atLeast (weak c) (digitEchoes c l i 0) && atLeast (weak c) (digi
 
 -- "at some bit place 0 to 3"
 unfoldable pub split : Context → Level → Bool
-split c l = ltb (smallest 4 (splitAt c l)) 4
+split c l = ltb (smallest bitPlaces (splitAt c l)) bitPlaces
 
 -- rules 6, 7 and 8: k second echoes of w
 unfoldable pub echoedBy : ℕ → Level → ℕ → Bool

@@ -2,28 +2,17 @@
 use mathlib.Core.Bool.{Bool, true, false}
 use mathlib.Core.List.{List, []}
 use Prim.Native.Nat.{ℕ, _+_}
-use lib.Dec.{eqb}
 use lib.ListN.{getD, set, replicate}
+use Rattle.base.specs.Limits.{maxPosition}
 use Rattle.message.specs.declared.Body.{Body}
-use Rattle.message.specs.declared.Body.the-variants.{FirstEcho, FirstProposal, SecondEcho, SecondProposal, Side, Centre}
 use Rattle.senders.specs.Senders.{isIn, withSender}
+pub use Rattle.level_counts.specs.Places.{notYet, valueCount, slotCount}
+unfoldable pub use Rattle.level_counts.specs.Places.{slot}
 use Rattle.level.specs.declared.Level.{Level}
 
--- not there yet, of a value and of an output
-abbrev pub notYet : ℕ
-notYet = 17
-
+-- an output that is not there yet: one more than the largest position
 abbrev pub noOutput : ℕ
-noOutput = 65536
-
--- the place of a message's set of senders: 17 first echoes, 16 first proposals, 17 second echoes, 17 second proposals, 15 sides, the centre
-unfoldable pub slot : Body → ℕ
-slot (FirstEcho v) = v
-slot (FirstProposal v) = 17 + v
-slot (SecondEcho v) = 33 + v
-slot (SecondProposal v) = 50 + v
-slot (Side v) = 66 + v
-slot Centre = 82
+noOutput = maxPosition + 1
 
 -- the senders of a message
 unfoldable pub senders : Level → Body → ℕ
@@ -36,7 +25,7 @@ held l b s = isIn (senders l b) s
 -- a level that was not entered and at which nothing was heard
 abbrev pub blankLevel : Level
 blankLevel = record {
-  sets = replicate 83 0;
+  sets = replicate slotCount 0;
   entered = false;
   side = 0;
   position = 0;
@@ -44,7 +33,7 @@ blankLevel = record {
   «echoed_none» = false;
   proposal = notYet;
   first = notYet;
-  echoed = replicate 17 false;
+  echoed = replicate valueCount false;
   «second_proposal» = notYet;
   result = notYet;
   sure = false;
@@ -71,29 +60,12 @@ noLevel = record {
   output = 0;
 }
 
--- the record with the fields changed that change together
-unfoldable pub withHeard : Level → Body → ℕ → Level
-withHeard l b s = record {
-  sets = set (l .sets) (slot b) (withSender (senders l b) s);
-  entered = l .entered;
-  side = l .side;
-  position = l .position;
-  «echoed_port» = l .«echoed_port»;
-  «echoed_none» = l .«echoed_none»;
-  proposal = l .proposal;
-  first = l .first;
-  echoed = l .echoed;
-  «second_proposal» = l .«second_proposal»;
-  result = l .result;
-  sure = l .sure;
-  «told_centre» = l .«told_centre»;
-  output = l .output;
-}
+-- ---- the record with fields changed: what was heard and where it was entered; what was made; what resulted
 
-abbrev pub withEntry : Level → ℕ → ℕ → ℕ → Level
-withEntry l k x out = record {
-  sets = l .sets;
-  entered = true;
+abbrev pub placed : Level → List ℕ → Bool → ℕ → ℕ → Level
+placed l sets′ entered′ k x = record {
+  sets = sets′;
+  entered = entered′;
   side = k;
   position = x;
   «echoed_port» = l .«echoed_port»;
@@ -105,65 +77,29 @@ withEntry l k x out = record {
   result = l .result;
   sure = l .sure;
   «told_centre» = l .«told_centre»;
-  output = out;
-}
-
-abbrev pub withPortEcho : Level → Level
-withPortEcho l = record {
-  sets = l .sets;
-  entered = l .entered;
-  side = l .side;
-  position = l .position;
-  «echoed_port» = true;
-  «echoed_none» = l .«echoed_none»;
-  proposal = l .proposal;
-  first = l .first;
-  echoed = l .echoed;
-  «second_proposal» = l .«second_proposal»;
-  result = l .result;
-  sure = l .sure;
-  «told_centre» = l .«told_centre»;
   output = l .output;
 }
 
-abbrev pub withNoneEcho : Level → Level
-withNoneEcho l = record {
+abbrev pub made : Level → Bool → Bool → ℕ → List Bool → ℕ → Bool → Level
+made l port none′ v ws w told = record {
   sets = l .sets;
   entered = l .entered;
   side = l .side;
   position = l .position;
-  «echoed_port» = l .«echoed_port»;
-  «echoed_none» = true;
-  proposal = l .proposal;
-  first = l .first;
-  echoed = l .echoed;
-  «second_proposal» = l .«second_proposal»;
-  result = l .result;
-  sure = l .sure;
-  «told_centre» = l .«told_centre»;
-  output = l .output;
-}
-
-abbrev pub withProposal : Level → ℕ → Level
-withProposal l v = record {
-  sets = l .sets;
-  entered = l .entered;
-  side = l .side;
-  position = l .position;
-  «echoed_port» = l .«echoed_port»;
-  «echoed_none» = l .«echoed_none»;
+  «echoed_port» = port;
+  «echoed_none» = none′;
   proposal = v;
   first = l .first;
-  echoed = l .echoed;
-  «second_proposal» = l .«second_proposal»;
+  echoed = ws;
+  «second_proposal» = w;
   result = l .result;
   sure = l .sure;
-  «told_centre» = l .«told_centre»;
+  «told_centre» = told;
   output = l .output;
 }
 
-abbrev pub withFirst : Level → ℕ → Level
-withFirst l v = record {
+abbrev pub resulted : Level → ℕ → ℕ → Bool → ℕ → Level
+resulted l v w two x = record {
   sets = l .sets;
   entered = l .entered;
   side = l .side;
@@ -174,98 +110,49 @@ withFirst l v = record {
   first = v;
   echoed = l .echoed;
   «second_proposal» = l .«second_proposal»;
-  result = l .result;
-  sure = l .sure;
-  «told_centre» = l .«told_centre»;
-  output = l .output;
-}
-
-abbrev pub withSecondEcho : Level → ℕ → Level
-withSecondEcho l w = record {
-  sets = l .sets;
-  entered = l .entered;
-  side = l .side;
-  position = l .position;
-  «echoed_port» = l .«echoed_port»;
-  «echoed_none» = l .«echoed_none»;
-  proposal = l .proposal;
-  first = l .first;
-  echoed = set (l .echoed) w true;
-  «second_proposal» = l .«second_proposal»;
-  result = l .result;
-  sure = l .sure;
-  «told_centre» = l .«told_centre»;
-  output = l .output;
-}
-
-abbrev pub withSecondProposal : Level → ℕ → Level
-withSecondProposal l w = record {
-  sets = l .sets;
-  entered = l .entered;
-  side = l .side;
-  position = l .position;
-  «echoed_port» = l .«echoed_port»;
-  «echoed_none» = l .«echoed_none»;
-  proposal = l .proposal;
-  first = l .first;
-  echoed = l .echoed;
-  «second_proposal» = w;
-  result = l .result;
-  sure = l .sure;
-  «told_centre» = l .«told_centre»;
-  output = l .output;
-}
-
-abbrev pub withResult : Level → ℕ → Bool → Level
-withResult l w two = record {
-  sets = l .sets;
-  entered = l .entered;
-  side = l .side;
-  position = l .position;
-  «echoed_port» = l .«echoed_port»;
-  «echoed_none» = l .«echoed_none»;
-  proposal = l .proposal;
-  first = l .first;
-  echoed = l .echoed;
-  «second_proposal» = l .«second_proposal»;
   result = w;
   sure = two;
   «told_centre» = l .«told_centre»;
-  output = l .output;
-}
-
-abbrev pub withOutput : Level → ℕ → Level
-withOutput l x = record {
-  sets = l .sets;
-  entered = l .entered;
-  side = l .side;
-  position = l .position;
-  «echoed_port» = l .«echoed_port»;
-  «echoed_none» = l .«echoed_none»;
-  proposal = l .proposal;
-  first = l .first;
-  echoed = l .echoed;
-  «second_proposal» = l .«second_proposal»;
-  result = l .result;
-  sure = l .sure;
-  «told_centre» = l .«told_centre»;
   output = x;
 }
+
+-- ---- how the rules and the takes change it
+
+-- a message taken from s
+unfoldable pub withHeard : Level → Body → ℕ → Level
+withHeard l b s = placed l (set (l .sets) (slot b) (withSender (senders l b) s)) (l .entered) (l .side) (l .position)
+
+-- first echoes of the port and of none
+abbrev pub withPortEcho : Level → Level
+withPortEcho l = made l true (l .«echoed_none») (l .proposal) (l .echoed) (l .«second_proposal») (l .«told_centre»)
+
+abbrev pub withNoneEcho : Level → Level
+withNoneEcho l = made l (l .«echoed_port») true (l .proposal) (l .echoed) (l .«second_proposal») (l .«told_centre»)
+
+-- the first proposal and the first result
+abbrev pub withProposal : Level → ℕ → Level
+withProposal l v = made l (l .«echoed_port») (l .«echoed_none») v (l .echoed) (l .«second_proposal») (l .«told_centre»)
+
+abbrev pub withFirst : Level → ℕ → Level
+withFirst l v = resulted l v (l .result) (l .sure) (l .output)
+
+-- a second echo, the second proposal and the result
+abbrev pub withSecondEcho : Level → ℕ → Level
+withSecondEcho l w = made l (l .«echoed_port») (l .«echoed_none») (l .proposal) (set (l .echoed) w true) (l .«second_proposal») (l .«told_centre»)
+
+abbrev pub withSecondProposal : Level → ℕ → Level
+withSecondProposal l w = made l (l .«echoed_port») (l .«echoed_none») (l .proposal) (l .echoed) w (l .«told_centre»)
+
+abbrev pub withResult : Level → ℕ → Bool → Level
+withResult l w two = resulted l (l .first) w two (l .output)
+
+-- the output; the output with the centre told; the entry, which may be an output too
+abbrev pub withOutput : Level → ℕ → Level
+withOutput l x = resulted l (l .first) (l .result) (l .sure) x
 
 abbrev pub withCentreTold : Level → ℕ → Level
-withCentreTold l x = record {
-  sets = l .sets;
-  entered = l .entered;
-  side = l .side;
-  position = l .position;
-  «echoed_port» = l .«echoed_port»;
-  «echoed_none» = l .«echoed_none»;
-  proposal = l .proposal;
-  first = l .first;
-  echoed = l .echoed;
-  «second_proposal» = l .«second_proposal»;
-  result = l .result;
-  sure = l .sure;
-  «told_centre» = true;
-  output = x;
-}
+withCentreTold l x =
+    made (withOutput l x) (l .«echoed_port») (l .«echoed_none») (l .proposal) (l .echoed) (l .«second_proposal») true
+
+abbrev pub withEntry : Level → ℕ → ℕ → ℕ → Level
+withEntry l k x out = placed (withOutput l out) (l .sets) true k x

@@ -2,36 +2,23 @@
 ghost use mathlib.Core.Path.{_≡_};
 ghost use mathlib.Core.Bool.{true};
 ghost use Prim.Native.Nat.{_<_};
+ghost use Rattle.base.specs.Limits.{maxBoards};
 ghost use Rattle.message.specs.Message.{bodyInTable};
 ghost use Rattle.level.specs.Level.{blankLevel, withHeard, held};
 ghost use Rattle.level.specs.Rules;
 
 mod rules;
 
-// Where the sets of senders of each kind of message begin: that of value v is v places on.
-const FIRST_PROPOSALS: usize = 17;
+// None, as a value of a level's fields, and a value that is not there yet.
+const NONE: u8 = level_counts::NONE;
 
-const SECOND_ECHOES: usize = 33;
-
-const SECOND_PROPOSALS: usize = 50;
-
-const SIDES: usize = 66;
-
-const CENTRES: usize = 82;
-// The sets of senders of none among the second echoes, and of side 1.
-const NONE_SECOND_ECHO: usize = 49;
-
-const FIRST_SIDE: usize = 67;
-// None, as a value of a level's fields.
-const NONE: u8 = 16;
-// A value that is not there yet.
-pub const NOT_YET: u8 = 17;
-// An output that is not there yet.
-pub const NO_OUTPUT: u32 = 65536;
+pub const NOT_YET: u8 = level_counts::NOT_YET;
+// An output that is not there yet: one more than the largest position.
+pub const NO_OUTPUT: u32 = base::MAX_POSITION + 1;
 
 pub struct Level {
     // the senders of each message of this level, by its slot
-    pub sets: [u16; level_counts::SLOTS],
+    pub sets: level_counts::Sets,
     // has the board entered the level, by which side of the level above (0 at level 0), and at which position?
     pub entered: bool,
     pub side: u8,
@@ -77,9 +64,9 @@ pub enum Effect {
     // it applies and makes this message
     Send(message::Body),
     // it applies and enters this side of the next level, at the old position if so said, else at the side's neighbour
-    Enter(u8, bool),
+    Enter { side: u8, keep: bool },
     // it applies, sends this side, and enters it at its neighbour
-    SendEnter(u8),
+    SendEnter { side: u8 },
 }
 
 pub struct Applied {
@@ -95,22 +82,8 @@ pub fn applies(e: Effect) -> bool
         Effect::Nothing => false,
         Effect::Quiet => true,
         Effect::Send(_) => true,
-        Effect::Enter(_, _) => true,
-        Effect::SendEnter(_) => true,
-    }
-}
-
-// The place of a message's set of senders.
-pub fn slot(b: message::Body) -> usize
-    ensures { λ r. ⌜ r ≡ Rattle.level.specs.Level.slot b ⌝ }
-{
-    match b {
-        message::Body::FirstEcho(v) => v as usize,
-        message::Body::FirstProposal(v) => FIRST_PROPOSALS + v as usize,
-        message::Body::SecondEcho(v) => SECOND_ECHOES + v as usize,
-        message::Body::SecondProposal(v) => SECOND_PROPOSALS + v as usize,
-        message::Body::Side(v) => SIDES + v as usize,
-        message::Body::Centre => CENTRES,
+        Effect::Enter { side: _, keep: _ } => true,
+        Effect::SendEnter { side: _ } => true,
     }
 }
 
@@ -138,20 +111,20 @@ impl Level {
     }
 
     // The senders of a message.
-    pub fn senders(self, b: message::Body) -> u16
+    pub fn senders(self, b: message::Body) -> senders::Mask
         requires { ⌜ bodyInTable b ≡ true ⌝ }
         ensures { λ r. ⌜ r ≡ Rattle.level.specs.Level.senders self b ⌝ }
     {
-        let i = slot(b);
+        let i = level_counts::slot(b);
         self.sets[i]
     }
 
     // The level with a message taken from sender s.
     pub fn hear(self, b: message::Body, s: u8) -> Level
-        requires { ⌜ (bodyInTable b ≡ true) × (s < 16) ⌝ }
+        requires { ⌜ (bodyInTable b ≡ true) × (s < maxBoards) ⌝ }
         ensures { λ r. ⌜ r ≡ withHeard self b s ⌝ }
     {
-        let i = slot(b);
+        let i = level_counts::slot(b);
         let mut l = self;
         let m = l.sets[i];
         l.sets[i] = senders::add(m, s);
@@ -160,7 +133,7 @@ impl Level {
 
     // Was the message taken from s already?
     pub fn holds(self, b: message::Body, s: u8) -> bool
-        requires { ⌜ (bodyInTable b ≡ true) × (s < 16) ⌝ }
+        requires { ⌜ (bodyInTable b ≡ true) × (s < maxBoards) ⌝ }
         ensures { λ r. ⌜ r ≡ held self b s ⌝ }
     {
         senders::contains(self.senders(b), s)

@@ -2,13 +2,14 @@
 use mathlib.Core.Path.{_≡_, refl, ap, ap₂, _∙_}
 use mathlib.Core.Logic.{_↔_}
 use mathlib.Core.Bool.{Bool, true, false, not, _&&_, _||_}
-use Prim.Native.Nat.{ℕ, zero, suc, _+_, _-_, _*_, _/_, _%_, _^_, _≤_, _<_}
+use Prim.Native.Nat.{ℕ, zero, suc, _+_, _-_, _*_, _^_, _≤_, _<_}
 use native.Mathlib.Nat.{le-refl}
 use native.Mathlib.Numerals.{add-one}
 use native.Mathlib.Omega.{arith}
 use lib.Dec.{T, leb, eqb, leb→le, le→leb, ltb→lt, lt→ltb}
 use Rattle.base.specs.Pick.{pick, smallest}
-use Rattle.base.specs.Sets.{Set, count}
+use Rattle.base.specs.Sets.{Set, count, anyBelow}
+use Rattle.base.proofs.Any.{any-same}
 use Rattle.base.proofs.Bools.{T-and, T-left, T-right}
 use Rattle.base.proofs.Counts.{count-same}
 use Rattle.base.proofs.Smallest.{sought, found}
@@ -20,15 +21,10 @@ use Rattle.senders.proofs.Laws.{in-empty, in-union, union-lt, size-count}
 use Rattle.level.specs.declared.Level.{Level}
 use Rattle.level.specs.declared.Context.{Context}
 use Rattle.level.specs.Level.{senders}
-use Rattle.level.specs.Counts.{weak, strong, quorum, otherEchoes, atLeast, mayPropose, proposed, digit, digitEchoes, splitAt, split, echoedBy, secondProposed, sided}
-use Rattle.graded_consensus.specs.View.{anyBelow}
-use Rattle.level_laws.proofs.Law.{Heard}
+use Rattle.level.specs.Counts.{bitPlaces, weak, strong, quorum, otherEchoes, atLeast, mayPropose, proposed, digit, digitEchoes, splitAt, split, echoedBy, secondProposed, sided}
+use Rattle.level_laws.specs.Inner.{Heard, heardFrom}
 use Rattle.level_laws.proofs.Messages.{Valued}
 use Rattle.level_laws.proofs.Evidence.{senders-below, others-below, digits-below}
-
--- message b, one of the table, was taken from board s
-abbrev pub heardFrom : Level → Body → Set
-heardFrom l b s = bodyInTable b && isIn (senders l b) s
 
 -- at least k senders are in the mask m
 pub reached→ : (n k m : ℕ) → m < 2 ^ n → T (atLeast k m) → k ≤ count n (isIn m)
@@ -72,10 +68,9 @@ over-any p f (suc k) s = go (p k) (over-any p f k s)
     go true e = in-union (unionOver p f k) (f k) s ∙ or-swap (isIn (unionOver p f k) s) (isIn (f k) s) ∙ ap (λ (x : Bool). isIn (f k) s || x) e
     go false e = e
 
-any-same : (k : ℕ) (f g : Set) → ((v : ℕ) → v < k → f v ≡ g v) → anyBelow k f ≡ anyBelow k g
-unfolding anyBelow
-any-same zero f g h = refl
-any-same (suc k) f g h = ap₂ _||_ (h k (le-refl (suc k))) (any-same k f g (λ v i. h v (omega arith)))
+-- senders of a first echo of none or of a value 0 to d whose digit at place i is b
+abbrev pub digitFrom : Context → Level → ℕ → ℕ → Set
+digitFrom c l i b s = anyBelow (suc (c .degree)) (λ v. eqb (digit i v) b && heardFrom l (FirstEcho v) s) || heardFrom l (FirstEcho noneValue) s
 
 module _ (c : Context) (l : Level) (d : Valued c) (h : Heard (c .n) l) where
   -- senders of a first echo of a value 0 to d that passes
@@ -125,8 +120,7 @@ module _ (c : Context) (l : Level) (d : Valued c) (h : Heard (c .n) l) where
   proposed-reached v k = heard-reached (c .n) (quorum c) l (FirstProposal v) h (le→leb v maxValue (omega (arith, d .degree)))
 
   -- rule 4: one digit at one place
-  pub digit-reached : (i b : ℕ) → T (atLeast (weak c) (digitEchoes c l i b))
-      ↔ (c .t < count (c .n) (λ s. anyBelow (suc (c .degree)) (λ v. eqb ((v / 2 ^ i) % 2) b && heardFrom l (FirstEcho v) s) || heardFrom l (FirstEcho noneValue) s))
+  digit-reached : (i b : ℕ) → T (atLeast (weak c) (digitEchoes c l i b)) ↔ (c .t < count (c .n) (digitFrom c l i b))
   unfolding digitEchoes
   digit-reached i b =
       let r = reached-as (c .n) (weak c) (digitEchoes c l i b) _ (digits-below c l h i b)
@@ -135,19 +129,23 @@ module _ (c : Context) (l : Level) (d : Valued c) (h : Heard (c .n) l) where
       ((λ p. let x = r .0 p in omega arith), (λ p. r .1 (omega arith)))
 
   -- rule 4: both digits at some place
-  pub split→ : T (split c l) → (i : ℕ) × (i < 4) × T (atLeast (weak c) (digitEchoes c l i 0)) × T (atLeast (weak c) (digitEchoes c l i 1))
+  pub split-reached : T (split c l) ↔ ((i : ℕ) × (i < bitPlaces) × (c .t < count (c .n) (digitFrom c l i 0)) × (c .t < count (c .n) (digitFrom c l i 1)))
   unfolding split splitAt
-  split→ p =
-      let i : ℕ = smallest 4 (splitAt c l) in
-      let k : i < 4 = ltb→lt i 4 p in
-      let q : T (splitAt c l i) = sought 4 (splitAt c l) .hit k in
-      let a : Bool = atLeast (weak c) (digitEchoes c l i 0) in
-      let b : Bool = atLeast (weak c) (digitEchoes c l i 1) in
-      (i, k, T-left a b q, T-right a b q)
+  split-reached = (
+    (λ p.
+        let i : ℕ = smallest bitPlaces (splitAt c l) in
+        let k : i < bitPlaces = ltb→lt i bitPlaces p in
+        let q : T (splitAt c l i) = sought bitPlaces (splitAt c l) .hit k in
+        (i, k, digit-reached i 0 .0 (T-left (zeros i) (ones i) q), digit-reached i 1 .0 (T-right (zeros i) (ones i) q))),
+    (λ p. let q = T-and (zeros (p .0)) (ones (p .0)) (digit-reached (p .0) 0 .1 (p .2)) (digit-reached (p .0) 1 .1 (p .3)) in
+        lt→ltb (smallest bitPlaces (splitAt c l)) bitPlaces (found bitPlaces (splitAt c l) (p .0) (p .1) q .1)),
+  )
+    where
+      zeros : ℕ → Bool
+      zeros i = atLeast (weak c) (digitEchoes c l i 0)
 
-  pub →split : (i : ℕ) → i < 4 → T (atLeast (weak c) (digitEchoes c l i 0)) → T (atLeast (weak c) (digitEchoes c l i 1)) → T (split c l)
-  unfolding split splitAt
-  →split i k p q = lt→ltb (smallest 4 (splitAt c l)) 4 (found 4 (splitAt c l) i k (T-and (atLeast (weak c) (digitEchoes c l i 0)) (atLeast (weak c) (digitEchoes c l i 1)) p q) .1)
+      ones : ℕ → Bool
+      ones i = atLeast (weak c) (digitEchoes c l i 1)
 
   -- rules 6 to 8: second echoes
   pub echoed-reached : (k w : ℕ) → w ≤ noneValue → T (echoedBy k l w) ↔ (k ≤ count (c .n) (heardFrom l (SecondEcho w)))

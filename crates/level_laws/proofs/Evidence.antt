@@ -18,7 +18,7 @@ use Rattle.level.specs.declared.Level.{Level}
 use Rattle.level.specs.declared.Context.{Context}
 use Rattle.level.specs.Level.{senders, slot, withHeard}
 use Rattle.level.specs.Counts.{weak, strong, quorum, otherEchoes, atLeast, mayPropose, proposed, digitEchoes, splitAt, split, echoedBy, secondProposed, sided}
-use Rattle.level_laws.proofs.Law.{Heard, FirstBy, ResultBy, Law, Untouched}
+use Rattle.level_laws.specs.Inner.{Heard, FirstBy, ResultBy, Law, Untouched}
 use Rattle.level_laws.proofs.Grows.{store-cases, grows-heard}
 
 -- ---- bounds of the sets that are counted

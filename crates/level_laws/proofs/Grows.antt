@@ -17,22 +17,9 @@ use Rattle.level.specs.declared.Context.{Context}
 use Rattle.level.specs.declared.Effect.{Effect}
 use Rattle.level.specs.Level.{senders, slot, notYet, noOutput, withHeard, withEntry}
 use Rattle.level.specs.Rules.{lowestRule}
-use Rattle.level.proofs.Moves.{Present, Answered, Echoed, Move, told-cases, lowest-all}
-use Rattle.level.proofs.Moves.{port-echo, none-echo, first-proposal, first-value, first-none, own-echo, relay, second-proposal, sure-result, none-result, unsure-result, centre-output, sure-entry, unsure-entry, centre-message, sided-entry, told-output, next-output}
-
--- what is there in the record l is so in m
-pub record Grows (l m : Level) : Type 0 where
-  pub entered : T (l .entered) → T (m .entered) × (m .side ≡ l .side) × (m .position ≡ l .position)
-  pub echoed-port : T (l .«echoed_port») → T (m .«echoed_port»)
-  pub echoed-none : T (l .«echoed_none») → T (m .«echoed_none»)
-  pub proposal : Present (l .proposal) → m .proposal ≡ l .proposal
-  pub first : Present (l .first) → m .first ≡ l .first
-  pub echoed : (w : ℕ) → Echoed l w → Echoed m w
-  pub second-proposal : Present (l .«second_proposal») → m .«second_proposal» ≡ l .«second_proposal»
-  pub result : Present (l .result) → (m .result ≡ l .result) × (m .sure ≡ l .sure)
-  pub told : T (l .«told_centre») → T (m .«told_centre»)
-  pub output : Answered l → m .output ≡ l .output
-  pub heard : (b : Body) (s : ℕ) → T (isIn (senders l b) s) → T (isIn (senders m b) s)
+use Rattle.level_laws.specs.Inner.{Present, Answered, Echoed, Grows}
+use Rattle.level_laws.proofs.Moves.{Move, told-cases, lowest-all}
+use Rattle.level_laws.proofs.Moves.{port-echo, none-echo, first-proposal, first-value, first-none, own-echo, relay, second-proposal, sure-result, none-result, unsure-result, centre-output, sure-entry, unsure-entry, centre-message, sided-entry, told-output, next-output}
 
 pub grows-refl : (l : Level) → Grows l l
 grows-refl l = record {

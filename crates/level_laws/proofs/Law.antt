@@ -1,7 +1,7 @@
 -- What every level record rests on that came about by the rules, whatever was heard.
 use mathlib.Core.Path.{_≡_, refl, sym, ap, _∙_, subst}
 use mathlib.Core.Logic.{_⊎_, inl, inr}
-use mathlib.Core.Bool.{Bool, true, false, not}
+use mathlib.Core.Bool.{Bool, true, false}
 use mathlib.Core.List.{List}
 use Prim.Native.Nat.{ℕ, zero, suc, _^_, _≤_, _<_}
 use native.Mathlib.Omega.{arith}
@@ -13,56 +13,15 @@ use Rattle.message.specs.Message.{noneValue}
 use Rattle.level.specs.declared.Level.{Level}
 use Rattle.level.specs.declared.Context.{Context}
 use Rattle.level.specs.declared.Effect.{Effect}
-use Rattle.level.specs.Level.{senders, notYet, noOutput, blankLevel, withEntry, withPortEcho, withNoneEcho, withProposal, withFirst, withSecondEcho, withSecondProposal, withResult, withOutput, withCentreTold}
+use Rattle.level.specs.Level.{senders, notYet, noOutput, valueCount, slotCount, blankLevel, withEntry, withPortEcho, withNoneEcho, withProposal, withFirst, withSecondEcho, withSecondProposal, withResult, withOutput, withCentreTold}
 use Rattle.level.specs.Counts.{weak, strong, otherEchoes, atLeast, mayPropose, proposed, split, splitAt, digitEchoes, echoedBy, secondProposed}
 use Rattle.level.specs.Rules.{unanswered, lowestRule}
-use Rattle.level.proofs.Moves.{Present, Answered, Candidate, Echoed, Move, told-cases, lowest-all}
-use Rattle.level.proofs.Moves.{port-echo, none-echo, first-proposal, first-value, first-none, own-echo, relay, second-proposal, sure-result, none-result, unsure-result, centre-output, sure-entry, unsure-entry, centre-message, sided-entry, told-output, next-output}
+use Rattle.level_laws.specs.Inner.{Present, Candidate, Echoed, Heard, FirstBy, ResultBy, Law, Untouched}
+use Rattle.level_laws.proofs.Moves.{Move, told-cases, lowest-all}
+use Rattle.level_laws.proofs.Moves.{port-echo, none-echo, first-proposal, first-value, first-none, own-echo, relay, second-proposal, sure-result, none-result, unsure-result, centre-output, sure-entry, unsure-entry, centre-message, sided-entry, told-output, next-output}
 use Rattle.level_laws.proofs.Grows.{flag-set}
 
--- ---- the law
-
--- the sets name only boards below n, and there are as many as slots
-pub record Heard (n : ℕ) (l : Level) : Type 0 where
-  pub slots : length (l .sets) ≡ 83
-  pub values : length (l .echoed) ≡ 17
-  pub below : (i : ℕ) → getD (l .sets) i 0 < 2 ^ n
-
--- the first result came by n-t first proposals of a value, or by a split
-abbrev pub FirstBy : Context → Level → ℕ → Type 0
-FirstBy c l v = ((v ≤ c .degree) × T (proposed c l v)) ⊎ ((v ≡ noneValue) × T (split c l))
-
--- the (second) result w came by n-t second proposals (sure, or none), or by t+1 second echoes of none and of it
-abbrev pub ResultBy : Context → Level → ℕ → Bool → Type 0
-ResultBy c l w sure =
-    ((w ≤ c .degree) × T sure × T (secondProposed c l w))
-    ⊎ (((w ≤ c .degree) × T (not sure) × T (echoedBy (weak c) l noneValue) × T (echoedBy (weak c) l w))
-    ⊎ ((w ≡ noneValue) × T (not sure) × T (secondProposed c l noneValue)))
-
--- what a level's record rests on
-pub record Law (c : Context) (l : Level) : Type 0 where
-  pub heard : Heard (c .n) l
-  pub echoed-none : T (l .«echoed_none») → T (atLeast (weak c) (otherEchoes c l))
-  pub proposal : Present (l .proposal) → (l .proposal ≤ c .degree) × T (mayPropose c l (l .proposal))
-  pub first : Present (l .first) → FirstBy c l (l .first)
-  pub echoed : (w : ℕ) → Echoed l w → Present (l .first) × Candidate c w × ((w ≡ l .first) ⊎ T (echoedBy (weak c) l w))
-  pub second-proposal : Present (l .«second_proposal»)
-      → Present (l .first) × Candidate c (l .«second_proposal») × T (echoedBy (strong c) l (l .«second_proposal»))
-  pub result : Present (l .result) → Present (l .first) × ResultBy c l (l .result) (l .sure)
-  pub told : T (l .«told_centre») → (l .result ≡ noneValue) × Answered l
-
 -- ---- a level at which nothing was made
-
--- nothing was made at the level, whether it was entered or not
-pub record Untouched (l : Level) : Type 0 where
-  pub echoed-port : T (not (l .«echoed_port»))
-  pub echoed-none : T (not (l .«echoed_none»))
-  pub proposal : l .proposal ≡ notYet
-  pub first : l .first ≡ notYet
-  pub echoed : (w : ℕ) → Echoed l w → ⊥
-  pub second-proposal : l .«second_proposal» ≡ notYet
-  pub result : l .result ≡ notYet
-  pub told : T (not (l .«told_centre»))
 
 replicate-get {ℓ} : {A : Type ℓ} (n i : ℕ) (a : A) → getD (replicate n a) i a ≡ a
 replicate-get zero i a = refl
@@ -70,7 +29,7 @@ replicate-get (suc n) zero a = refl
 replicate-get (suc n) (suc i) a = replicate-get n i a
 
 pub blank-heard : (n : ℕ) → Heard n blankLevel
-blank-heard n = record { slots = refl; values = refl; below = λ i. subst (λ (x : ℕ). x < 2 ^ n) (sym (replicate-get 83 i 0)) (pow-pos n) }
+blank-heard n = record { slots = refl; values = refl; below = λ i. subst (λ (x : ℕ). x < 2 ^ n) (sym (replicate-get slotCount i 0)) (pow-pos n) }
 
 pub blank-untouched : Untouched blankLevel
 blank-untouched = record {
@@ -78,7 +37,7 @@ blank-untouched = record {
   echoed-none = tt;
   proposal = refl;
   first = refl;
-  echoed = λ w h. subst T (replicate-get 17 w false) h;
+  echoed = λ w h. subst T (replicate-get valueCount w false) h;
   second-proposal = refl;
   result = refl;
   told = tt;
@@ -164,7 +123,7 @@ law-same c c′ l e h = subst (λ (x : Context). Law x l) (next-same c c′ e) (
 
 -- ---- each change keeps the law
 
-heard-as : (n : ℕ) (l m : Level) → m .sets ≡ l .sets → length (m .echoed) ≡ 17 → Heard n l → Heard n m
+heard-as : (n : ℕ) (l m : Level) → m .sets ≡ l .sets → length (m .echoed) ≡ valueCount → Heard n l → Heard n m
 heard-as n l m e k h = record {
   slots = ap length e ∙ h .slots;
   values = k;

@@ -1,8 +1,10 @@
+pub mod Searches
+pub mod Moves
+pub mod Bounds
 pub mod Law
 pub mod Grows
 pub mod Evidence
 pub mod Messages
 pub mod Counted
-pub mod Board
 pub mod Taken
 pub mod Output

@@ -15,26 +15,18 @@ use Rattle.level.specs.declared.Level.{Level}
 use Rattle.level.specs.declared.Context.{Context}
 use Rattle.level.specs.declared.Effect.{Effect}
 use Rattle.level.specs.declared.Effect.the-variants.{Nothing, Quiet, Send, Enter, SendEnter}
-use Rattle.level.specs.Level.{withHeard}
+use Rattle.level.specs.Level.{valueCount, withHeard}
 use Rattle.level.specs.Counts.{sided}
 use Rattle.level.specs.Rules.{lowestRule}
-use Rattle.level.proofs.Searches.{candidate-small}
-use Rattle.level.proofs.Moves.{Present, Candidate, Echoed, Move, lowest-all}
-pub use Rattle.level.proofs.Moves.{enters}
-use Rattle.level.proofs.Moves.{port-echo, none-echo, first-proposal, first-value, first-none, own-echo, relay, second-proposal, sure-result, none-result, unsure-result, centre-output, sure-entry, unsure-entry, centre-message, sided-entry, told-output, next-output}
-use Rattle.level_laws.proofs.Law.{Law, Same, Untouched, ResultBy, law-first-value}
-use Rattle.level_laws.proofs.Grows.{Grows, grows-refl, flag-set, move-grows, lowest-grows}
+use Rattle.level_laws.proofs.Searches.{candidate-small}
+use Rattle.level_laws.specs.Inner.{Present, Candidate, Echoed, Law, Untouched, ResultBy, Grows, SentIn, Descends}
+use Rattle.level_laws.proofs.Moves.{Move, lowest-all}
+pub use Rattle.level_laws.proofs.Moves.{enters}
+use Rattle.level_laws.proofs.Moves.{port-echo, none-echo, first-proposal, first-value, first-none, own-echo, relay, second-proposal, sure-result, none-result, unsure-result, centre-output, sure-entry, unsure-entry, centre-message, sided-entry, told-output, next-output}
+use Rattle.level_laws.proofs.Law.{Same, law-first-value}
+use Rattle.level_laws.proofs.Grows.{grows-refl, flag-set, move-grows, lowest-grows}
 
 -- ---- words
-
--- the level has made message b; "at grade 1 send side k" goes with the entry of the next level
-abbrev pub SentIn : Context → Level → Body → Type 0
-SentIn c l (FirstEcho v) = ((v ≡ c .port) × T (l .«echoed_port»)) ⊎ ((v ≡ noneValue) × T (l .«echoed_none»))
-SentIn c l (FirstProposal v) = Present v × (l .proposal ≡ v)
-SentIn c l (SecondEcho w) = Echoed l w
-SentIn c l (SecondProposal w) = Present w × (l .«second_proposal» ≡ w)
-SentIn c l (Side k) = (l .result ≡ k) × T (not (l .sure)) × T (c .«next_entered») × (1 ≤ k) × (k < noneValue)
-SentIn c l Centre = T (l .«told_centre»)
 
 -- the effect makes message b
 abbrev pub Makes : Effect → Body → Type 0
@@ -53,10 +45,6 @@ pub record After (c : Context) (e : Effect) (c′ : Context) : Type 0 where
 pub record Valued (c : Context) : Type 0 where
   pub port : c .port ≤ c .degree
   pub degree : c .degree < noneValue
-
--- the next level is entered only with a result
-abbrev pub Descends : Context → Level → Type 0
-Descends c l = T (c .«next_entered») → Present (l .result)
 
 -- ---- every message that the new record tells of was told of by the old one, or is made by the effect
 
@@ -175,7 +163,7 @@ pub candidate-low : (c : Context) (w : ℕ) → Valued c → Candidate c w → w
 candidate-low c w d = candidate-small c w (omega (arith, d .degree))
 
 -- a second echo just made is told of
-flag-new : (l : Level) (w : ℕ) → length (l .echoed) ≡ 17 → w ≤ noneValue → T (getD (set (l .echoed) w true) w false)
+flag-new : (l : Level) (w : ℕ) → length (l .echoed) ≡ valueCount → w ≤ noneValue → T (getD (set (l .echoed) w true) w false)
 flag-new l w e k = subst T (sym (getD-set-same (l .echoed) w true false (omega arith))) tt
 
 -- the new record tells of it

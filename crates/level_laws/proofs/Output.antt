@@ -1,6 +1,6 @@
 -- What a level's output rests on, and that it is there where no rule applies.
 use mathlib.Core.Path.{_≡_, refl, sym, _∙_, subst}
-use mathlib.Core.Logic.{_⊎_, inl, inr}
+use mathlib.Core.Logic.{inl, inr}
 use mathlib.Core.Bool.{Bool, true, false}
 use mathlib.Core.List.{List}
 use Prim.Native.Nat.{ℕ, _+_, _≤_, _<_}
@@ -17,24 +17,12 @@ use Rattle.level.specs.declared.Effect.{Effect}
 use Rattle.level.specs.Level.{senders, slot, notYet, noOutput, withHeard, withResult}
 use Rattle.level.specs.Counts.{weak, atLeast}
 use Rattle.level.specs.Rules.{unanswered, lowestRule}
-use Rattle.level.proofs.Moves.{Answered, Aside, AtRest, Move, told-cases, lowest-all}
-use Rattle.level.proofs.Moves.{port-echo, none-echo, first-proposal, first-value, first-none, own-echo, relay, second-proposal, sure-result, none-result, unsure-result, centre-output, sure-entry, unsure-entry, centre-message, sided-entry, told-output, next-output}
-use Rattle.level_laws.proofs.Law.{Heard, Law, Same}
+use Rattle.level_laws.specs.Inner.{Answered, Heard, Law, CentreBy, by-zero, by-none, by-messages, OutputFrom, OutputBy}
+use Rattle.level_laws.proofs.Moves.{AtRest, Move, told-cases, lowest-all}
+use Rattle.level_laws.proofs.Moves.{port-echo, none-echo, first-proposal, first-value, first-none, own-echo, relay, second-proposal, sure-result, none-result, unsure-result, centre-output, sure-entry, unsure-entry, centre-message, sided-entry, told-output, next-output}
+use Rattle.level_laws.proofs.Law.{Same}
 use Rattle.level_laws.proofs.Grows.{grows-heard}
 use Rattle.level_laws.proofs.Evidence.{heard-keeps, more-senders}
-
--- the centre is the output for a result of value 0, a result none, or t+1 centre messages
-pub data CentreBy (c : Context) (l : Level) : Type 0 where
-  by-zero : l .result ≡ 0 → CentreBy c l
-  by-none : l .result ≡ noneValue → CentreBy c l
-  by-messages : T (atLeast (weak c) (senders l Centre)) → CentreBy c l
-
--- the output is the centre, or the next level's for a result of value 1 or more
-abbrev OutputFrom : Context → Level → Type 0
-OutputFrom c l = ((l .output ≡ c .centre) × CentreBy c l) ⊎ ((l .output ≡ c .«next_output») × Aside l)
-
-abbrev pub OutputBy : Context → Level → Type 0
-OutputBy c l = Answered l → OutputFrom c l
 
 pub unanswered-output : (c : Context) (l : Level) → l .output ≡ noOutput → OutputBy c l
 unanswered-output c l e p = absurd (p e)

@@ -15,11 +15,10 @@ use Rattle.senders.specs.Senders.{isIn, withSender}
 use Rattle.senders.proofs.Laws.{in-with, with-new}
 use Rattle.level.specs.declared.Level.{Level}
 use Rattle.level.specs.Level.{senders, slot, withHeard}
-use Rattle.level.proofs.Laws.{slot-lt}
-use Rattle.level.proofs.Slots.{slot-one}
-use Rattle.level_laws.proofs.Law.{Heard}
+use Rattle.level_counts.proofs.Slots.{slot-lt}
+use Rattle.level_counts.proofs.Slots.{slot-one}
+use Rattle.level_laws.specs.Inner.{Heard, heardFrom}
 use Rattle.level_laws.proofs.Grows.{store-cases, Unmoved}
-use Rattle.level_laws.proofs.Counted.{heardFrom}
 
 -- what was heard after b was taken from s was heard before, or is that
 pub taken-back : (l : Level) (b : Body) (s : ℕ) → T (bodyInTable b) → (x : Body) (j : ℕ) → T (heardFrom (withHeard l b s) x j)

@@ -1,7 +1,7 @@
 -- Sets of senders as masks: "For each level and body a party keeps the set of senders; counts are counts of senders in such sets".
 use mathlib.Core.Bool.{Bool}
 use Prim.Native.Nat.{ℕ, zero, suc, _/_, _%_, _^_}
-use lib.Dec.{eqb, ltb}
+use lib.Dec.{leb, ltb, eqb}
 use lib.Bits.{bitOr}
 use lib.Count.{ones}
 use Rattle.base.specs.Pick.{pick}
@@ -21,6 +21,10 @@ union a b = bitOr a b
 -- how many senders
 abbrev pub size : ℕ → ℕ
 size m = ones m
+
+-- at least k senders
+abbrev pub atLeast : ℕ → ℕ → Bool
+atLeast k m = leb k (size m)
 
 -- the union of the sets f v of those v below k that pass
 unfoldable pub unionOver : (ℕ → Bool) → (ℕ → ℕ) → ℕ → ℕ

@@ -10,7 +10,7 @@ use mir.Val.{boolByte}
 use Rattle.base.specs.Sets.{bit, count}
 use Rattle.base.proofs.Counts.{count-le}
 use Rattle.base.proofs.Loops.{count-start, count-next}
-use Rattle.level_counts.specs.Counts.{atLeast}
+use Rattle.senders.specs.Senders.{atLeast}
 use Rattle.level_counts.proofs.count_reaching.Statement.{statement}
 use Rattle.level_counts.proofs.count_reaching.Tie as tie
 

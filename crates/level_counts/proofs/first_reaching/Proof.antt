@@ -8,7 +8,7 @@ use mathlib.Core.List.{List}
 use lib.ListN.{getD}
 use Rattle.base.specs.Pick.{smallest}
 use Rattle.base.proofs.Loops.{search-start, search-next, search-hit}
-use Rattle.level_counts.specs.Counts.{atLeast}
+use Rattle.senders.specs.Senders.{atLeast}
 use Rattle.level_counts.proofs.first_reaching.Statement.{statement}
 use Rattle.level_counts.proofs.first_reaching.Tie as tie
 

@@ -2,7 +2,7 @@
 use borrow.Author.Needs.{needs}
 use native.Mathlib.Omega.{arith}
 use Rattle.level.specs.Level.{senders, withHeard}
-use Rattle.level.proofs.Laws.{slot-lt}
+use Rattle.level_counts.proofs.Slots.{slot-lt}
 use Rattle.level.proofs.Level.hear.Statement.{statement}
 use Rattle.level.proofs.Level.hear.Tie as tie
 

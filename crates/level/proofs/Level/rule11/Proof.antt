@@ -1,16 +1,24 @@
 -- Rule 11.
+use borrow.Author.Needs.{needs}
+use mathlib.Core.Path.{_∙_}
 use borrow.Author.Tests.{eq-eqb, ne-eqb}
 use Rattle.level.specs.Rules.{rule11}
 use Rattle.level.proofs.Level.rule11.Statement.{statement}
 use Rattle.level.proofs.Level.rule11.Tie as tie
 
+idle-requires : tie.Need-idle-requires
+idle-requires c κs = search needs
+
 returns : tie.Need-returns
 unfolding rule11
-returns c = rw (ne-eqb _ _ (c .if1 .taken))
+returns c = c .idle .ensures ∙ rw (ne-eqb _ _ (c .before .if1 .taken))
+
+idle-requires-2 : tie.Need-idle-requires-2
+idle-requires-2 c κs = search needs
 
 returns-2 : tie.Need-returns-2
 unfolding rule11
-returns-2 c = rw (eq-eqb _ _ (c .before .if1 .left), c .if2 .taken)
+returns-2 c = c .idle2 .ensures ∙ rw (eq-eqb _ _ (c .before .before .if1 .left), c .before .if2 .taken)
 
 returns-3 : tie.Need-returns-3
 unfolding rule11
@@ -21,4 +29,5 @@ unfolding rule11
 returns-4 c = rw (eq-eqb _ _ (c .before .before .before .if1 .left), c .before .before .if2 .left, ne-eqb _ _ (c .if3 .left))
 
 pub rule11-spec : {M : Type 1} → statement M
-rule11-spec = tie.close (tie.spec returns returns-2 returns-3 returns-4)
+rule11-spec =
+    tie.close (tie.spec idle-requires returns idle-requires-2 returns-2 returns-3 returns-4)

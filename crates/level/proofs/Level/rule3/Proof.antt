@@ -1,33 +1,44 @@
 -- Rule 3.
 use borrow.Author.Needs.{needs}
-use borrow.Author.Tests.{eq-eqb, ne-eqb, le-leb, lt-leb}
-use Rattle.level.specs.Level.{senders, slot}
+use mathlib.Core.Path.{_∙_}
+use native.Mathlib.Omega.{arith}
+use borrow.Author.Tests.{eq-eqb, ne-eqb}
+use Rattle.message.specs.declared.Body.the-variants.{FirstProposal}
+use Rattle.level.specs.declared.Effect.the-variants.{Send}
+use Rattle.level.specs.Level.{senders, slot, withProposal}
 use Rattle.level.specs.Counts.{mayPropose}
-use Rattle.level.specs.Rules.{rule3}
+use Rattle.level.specs.Rules.{does, smallestValue, isValue, rule3}
+use Rattle.level.proofs.Choices.{chosen, no-value}
 use Rattle.level.proofs.Level.rule3.Statement.{statement}
 use Rattle.level.proofs.Level.rule3.Tie as tie
 
+idle-requires : tie.Need-idle-requires
+idle-requires c κs = search needs
+
 returns : tie.Need-returns
 unfolding rule3
-returns c = rw (ne-eqb _ _ (c .if1 .taken))
+returns c = c .idle .ensures ∙ rw (ne-eqb _ _ (c .before .if1 .taken))
 
-cast-d : tie.Need-cast-d
-cast-d c = search needs
+proposal-requires : tie.Need-proposal-requires
+proposal-requires c κs = search needs
 
-first-proposable-requires : tie.Need-first-proposable-requires
-first-proposable-requires c κs = search needs
+idle-requires-2 : tie.Need-idle-requires-2
+idle-requires-2 c κs = search needs
 
 returns-2 : tie.Need-returns-2
 unfolding rule3 mayPropose senders slot
-returns-2 c = rw (eq-eqb _ _ (c .before .before .before .before .before .if1 .left), ← c .before .first-proposable .ensures, lt-leb _ _ (c .if2 .taken))
-
-cast-w : tie.Need-cast-w
-cast-w c = search needs
+returns-2 c =
+    let a = c .before .before .before .before .before .before .args in
+    c .idle2 .ensures
+    ∙ rw (eq-eqb _ _ (c .before .before .before .before .before .if1 .left))
+    (no-value (a .c .degree) (smallestValue (a .c) (mayPropose (a .c) (a .t1))) _ (omega arith) (c .before .before .proposal .ensures) (c .before .if2 .taken) _ _)
 
 returns-3 : tie.Need-returns-3
 unfolding rule3 mayPropose senders slot
-returns-3 c = rw (eq-eqb _ _ (c .before .before .before .before .before .if1 .left), ← c .before .first-proposable .ensures, le-leb _ _ (c .if2 .left))
+returns-3 c =
+    let a = c .before .before .before .before .before .args in
+    rw (eq-eqb _ _ (c .before .before .before .before .if1 .left))
+    (chosen (isValue (a .c) (smallestValue (a .c) (mayPropose (a .c) (a .t1)))) (smallestValue (a .c) (mayPropose (a .c) (a .t1))) _ (c .before .proposal .ensures) (c .if2 .left) (λ v. does (withProposal (a .t1) v) (Send (FirstProposal v))) _)
 
 pub rule3-spec : {M : Type 1} → statement M
-rule3-spec =
-    tie.close (tie.spec returns cast-d first-proposable-requires returns-2 cast-w returns-3)
+rule3-spec = tie.close (tie.spec idle-requires returns proposal-requires idle-requires-2 returns-2 returns-3)

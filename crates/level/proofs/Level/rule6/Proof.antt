@@ -1,62 +1,55 @@
 -- Rule 6.
 use borrow.Author.Needs.{needs}
+use mathlib.Core.Path.{_∙_}
+use mathlib.Core.Bool.{false, not, _&&_}
 use native.Mathlib.Omega.{arith}
-use borrow.Author.Tests.{eq-eqb, ne-eqb, lt-ltb, le-ltb}
-use Rattle.level.specs.Level.{senders, slot}
-use Rattle.level.specs.Counts.{echoedBy}
-use Rattle.level.specs.Rules.{rule6}
-use Rattle.level_counts.proofs.Candidates.{candidate-le}
+use borrow.Author.Tests.{eq-eqb, ne-eqb}
+use lib.ListN.{getD}
+use Rattle.message.specs.declared.Body.the-variants.{SecondEcho}
+use Rattle.level.specs.declared.Effect.the-variants.{Send}
+use Rattle.level.specs.Level.{senders, slot, withSecondEcho}
+use Rattle.level.specs.Counts.{weak, candidate, echoedBy}
+use Rattle.level.specs.Rules.{does, firstCandidate, isCandidate, rule6}
+use Rattle.level.proofs.Choices.{chosen, no-candidate}
 use Rattle.level.proofs.Level.rule6.Statement.{statement}
 use Rattle.level.proofs.Level.rule6.Tie as tie
 
+idle-requires : tie.Need-idle-requires
+idle-requires c κs = search needs
+
 returns : tie.Need-returns
 unfolding rule6
-returns c = rw (eq-eqb _ _ (c .if1 .taken))
+returns c = c .idle .ensures ∙ rw (eq-eqb _ _ (c .before .if1 .taken))
 
-cast-d : tie.Need-cast-d
-cast-d c = search needs
+echo-requires : tie.Need-echo-requires
+echo-requires c κs = search needs
 
-add-first-unechoed : tie.Need-add-first-unechoed
-add-first-unechoed c = search needs
-
-first-unechoed-requires : tie.Need-first-unechoed-requires
-first-unechoed-requires c κs = search needs
-
-add-if2 : tie.Need-add-if2
-add-if2 c = omega arith
+idle-requires-2 : tie.Need-idle-requires-2
+idle-requires-2 c κs = search needs
 
 returns-2 : tie.Need-returns-2
 unfolding rule6 echoedBy senders slot
-returns-2 c = rw (ne-eqb _ _ (c .before .before .before .before .before .before .before .before .if1 .left), ← c .before .first-unechoed .ensures, le-ltb _ _ (c .if2 .taken))
+returns-2 c =
+    let a = c .before .before .before .before .before .before .before .before .args in
+    c .idle2 .ensures
+    ∙ rw (ne-eqb _ _ (c .before .before .before .before .before .before .before .if1 .left))
+    (no-candidate (a .c .degree) (firstCandidate (a .c) (λ w. echoedBy (weak (a .c)) (a .t1) w && not (getD (a .t1 .echoed) w false))) _ (omega arith) (c .before .before .echo .ensures .0) (c .before .if2 .taken) _ _)
 
-candidate-requires : tie.Need-candidate-requires
-candidate-requires c κs = search needs
+cast-i : tie.Need-cast-i
+cast-i c = search needs
 
 element-write-l : tie.Need-element-write-l
-element-write-l c =
-    let a = c .before .before .before .before .before .before .before .before .before .before .args in
-    omega (arith, candidate-le (a .c .degree) (c .before .before .first-unechoed .result) (omega arith), c .candidate .ensures)
-
-cast-v : tie.Need-cast-v
-cast-v c =
-    let a = c .before .before .before .before .before .before .before .before .before .before .args in
-    omega (arith, candidate-le (a .c .degree) (c .before .before .first-unechoed .result) (omega arith), c .candidate .ensures)
+element-write-l c = omega (arith, c .before .echo .ensures .1)
 
 returns-3 : tie.Need-returns-3
 unfolding rule6 echoedBy senders slot
-returns-3 c = rw (ne-eqb _ _ (c .before .before .before .before .before .before .before .before .before .if1 .left), ← c .before .before .first-unechoed .ensures, lt-ltb _ _ (c .before .if2 .left), c .candidate .ensures)
+returns-3 c =
+    let a = c .before .before .before .before .before .before .before .args in
+    let i = firstCandidate (a .c) (λ w. echoedBy (weak (a .c)) (a .t1) w && not (getD (a .t1 .echoed) w false)) in
+    rw (ne-eqb _ _ (c .before .before .before .before .before .before .if1 .left))
+    (chosen (isCandidate (a .c) i) (candidate (a .c) i) _ (c .before .echo .ensures .0) (c .if2 .left) (λ w. does (withSecondEcho (a .t1) w) (Send (SecondEcho w))) _)
 
 pub rule6-spec : {M : Type 1} → statement M
 rule6-spec =
     tie.close
-    (tie.spec
-    returns
-    cast-d
-    add-first-unechoed
-    first-unechoed-requires
-    add-if2
-    returns-2
-    candidate-requires
-    element-write-l
-    cast-v
-    returns-3)
+    (tie.spec idle-requires returns echo-requires idle-requires-2 returns-2 cast-i element-write-l returns-3)

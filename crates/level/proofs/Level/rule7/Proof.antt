@@ -1,65 +1,54 @@
 -- Rule 7.
 use borrow.Author.Needs.{needs}
+use mathlib.Core.Path.{_∙_}
 use native.Mathlib.Omega.{arith}
-use borrow.Author.Tests.{eq-eqb, ne-eqb, lt-ltb, le-ltb}
-use Rattle.level.specs.Level.{senders, slot}
-use Rattle.level.specs.Counts.{echoedBy}
-use Rattle.level.specs.Rules.{rule7}
-use Rattle.level_counts.proofs.Candidates.{candidate-le}
+use borrow.Author.Tests.{eq-eqb, ne-eqb}
+use Rattle.message.specs.declared.Body.the-variants.{SecondProposal}
+use Rattle.level.specs.declared.Effect.the-variants.{Send}
+use Rattle.level.specs.Level.{senders, slot, withSecondProposal}
+use Rattle.level.specs.Counts.{strong, candidate, echoedBy}
+use Rattle.level.specs.Rules.{does, firstCandidate, isCandidate, rule7}
+use Rattle.level.proofs.Choices.{chosen, no-candidate}
 use Rattle.level.proofs.Level.rule7.Statement.{statement}
 use Rattle.level.proofs.Level.rule7.Tie as tie
 
+idle-requires : tie.Need-idle-requires
+idle-requires c κs = search needs
+
 returns : tie.Need-returns
 unfolding rule7
-returns c = rw (eq-eqb _ _ (c .if1 .taken))
+returns c = c .idle .ensures ∙ rw (eq-eqb _ _ (c .before .if1 .taken))
+
+idle-requires-2 : tie.Need-idle-requires-2
+idle-requires-2 c κs = search needs
 
 returns-2 : tie.Need-returns-2
 unfolding rule7
-returns-2 c = rw (ne-eqb _ _ (c .before .if1 .left), ne-eqb _ _ (c .if2 .taken))
+returns-2 c = c .idle2 .ensures ∙ rw (ne-eqb _ _ (c .before .before .if1 .left), ne-eqb _ _ (c .before .if2 .taken))
 
-cast-d : tie.Need-cast-d
-cast-d c = search needs
+proposal-requires : tie.Need-proposal-requires
+proposal-requires c κs = search needs
 
-mul-first-candidate : tie.Need-mul-first-candidate
-mul-first-candidate c = search needs
-
-add-first-candidate : tie.Need-add-first-candidate
-add-first-candidate c = search needs
-
-first-candidate-requires : tie.Need-first-candidate-requires
-first-candidate-requires c κs = search needs
-
-add-if3 : tie.Need-add-if3
-add-if3 c = search needs
+idle-requires-3 : tie.Need-idle-requires-3
+idle-requires-3 c κs = search needs
 
 returns-3 : tie.Need-returns-3
 unfolding rule7 echoedBy senders slot
-returns-3 c = rw (ne-eqb _ _ (c .before .before .before .before .before .before .before .if1 .left), eq-eqb _ _ (c .before .before .before .before .before .before .if2 .left), ← c .before .first-candidate .ensures, le-ltb _ _ (c .if3 .taken))
-
-candidate-requires : tie.Need-candidate-requires
-candidate-requires c κs = search needs
-
-cast-w : tie.Need-cast-w
-cast-w c =
-    let a = c .before .before .before .before .before .before .before .before .before .args in
-    omega (arith, candidate-le (a .c .degree) (c .before .before .first-candidate .result) (omega arith), c .candidate .ensures)
+returns-3 c =
+    let a = c .before .before .before .before .before .before .before .args in
+    c .idle3 .ensures
+    ∙ rw (ne-eqb _ _ (c .before .before .before .before .before .before .if1 .left), eq-eqb _ _ (c .before .before .before .before .before .if2 .left))
+    (no-candidate (a .c .degree) (firstCandidate (a .c) (echoedBy (strong (a .c)) (a .t1))) _ (omega arith) (c .before .before .proposal .ensures) (c .before .if3 .taken) _ _)
 
 returns-4 : tie.Need-returns-4
 unfolding rule7 echoedBy senders slot
-returns-4 c = rw (ne-eqb _ _ (c .before .before .before .before .before .before .before .before .if1 .left), eq-eqb _ _ (c .before .before .before .before .before .before .before .if2 .left), ← c .before .before .first-candidate .ensures, lt-ltb _ _ (c .before .if3 .left), c .candidate .ensures)
+returns-4 c =
+    let a = c .before .before .before .before .before .before .args in
+    let i = firstCandidate (a .c) (echoedBy (strong (a .c)) (a .t1)) in
+    rw (ne-eqb _ _ (c .before .before .before .before .before .if1 .left), eq-eqb _ _ (c .before .before .before .before .if2 .left))
+    (chosen (isCandidate (a .c) i) (candidate (a .c) i) _ (c .before .proposal .ensures) (c .if3 .left) (λ w. does (withSecondProposal (a .t1) w) (Send (SecondProposal w))) _)
 
 pub rule7-spec : {M : Type 1} → statement M
 rule7-spec =
     tie.close
-    (tie.spec
-    returns
-    returns-2
-    cast-d
-    mul-first-candidate
-    add-first-candidate
-    first-candidate-requires
-    add-if3
-    returns-3
-    candidate-requires
-    cast-w
-    returns-4)
+    (tie.spec idle-requires returns idle-requires-2 returns-2 proposal-requires idle-requires-3 returns-3 returns-4)

@@ -1,65 +1,58 @@
 -- Rule 8.
 use borrow.Author.Needs.{needs}
+use mathlib.Core.Path.{_∙_}
+use mathlib.Core.Bool.{_&&_}
 use native.Mathlib.Omega.{arith}
-use borrow.Author.Tests.{eq-eqb, ne-eqb, lt-ltb, le-ltb}
-use Rattle.level.specs.Level.{senders, slot}
-use Rattle.level.specs.Counts.{secondProposed}
-use Rattle.level.specs.Rules.{rule8}
-use Rattle.level_counts.proofs.Candidates.{candidate-le}
+use borrow.Author.Tests.{eq-eqb, ne-eqb}
+use lib.Dec.{eqb}
+use Rattle.message.specs.Message.{noneValue}
+use Rattle.level_counts_second.specs.declared.Graded.{Graded}
+use Rattle.level_counts_second.specs.Inner.{graded}
+use Rattle.level.specs.declared.Effect.the-variants.{Quiet}
+use Rattle.level.specs.Level.{senders, slot, withResult}
+use Rattle.level.specs.Counts.{weak, candidate, echoedBy, secondProposed, echoedValues}
+use Rattle.level.specs.Rules.{does, firstCandidate, isCandidate, smallestValue, isValue, rule8}
+use Rattle.level.proofs.Choices.{rated, unrated}
 use Rattle.level.proofs.Level.rule8.Statement.{statement}
 use Rattle.level.proofs.Level.rule8.Tie as tie
 
+idle-requires : tie.Need-idle-requires
+idle-requires c κs = search needs
+
 returns : tie.Need-returns
 unfolding rule8
-returns c = rw (eq-eqb _ _ (c .if1 .taken))
+returns c = c .idle .ensures ∙ rw (eq-eqb _ _ (c .before .if1 .taken))
+
+idle-requires-2 : tie.Need-idle-requires-2
+idle-requires-2 c κs = search needs
 
 returns-2 : tie.Need-returns-2
 unfolding rule8
-returns-2 c = rw (ne-eqb _ _ (c .before .if1 .left), ne-eqb _ _ (c .if2 .taken))
+returns-2 c = c .idle2 .ensures ∙ rw (ne-eqb _ _ (c .before .before .if1 .left), ne-eqb _ _ (c .before .if2 .taken))
 
-cast-d : tie.Need-cast-d
-cast-d c = search needs
+result-requires : tie.Need-result-requires
+result-requires c κs = search needs
 
-quorum-requires : tie.Need-quorum-requires
-quorum-requires c κs = search needs
-
-first-candidate-requires : tie.Need-first-candidate-requires
-first-candidate-requires c κs = search needs
-
-add-if3 : tie.Need-add-if3
-add-if3 c = search needs
-
-rule8-grade1-requires : tie.Need-rule8-grade1-requires
-rule8-grade1-requires c κs = search needs
+idle-requires-3 : tie.Need-idle-requires-3
+idle-requires-3 c κs = search needs
 
 returns-3 : tie.Need-returns-3
-unfolding rule8 secondProposed senders slot
-returns-3 c = rw (ne-eqb _ _ (c .before .before .before .before .before .before .before .before .if1 .left), eq-eqb _ _ (c .before .before .before .before .before .before .before .if2 .left), ← c .before .before .before .quorum .ensures, ← c .before .before .first-candidate .ensures, le-ltb _ _ (c .before .if3 .taken)) (c .rule8-grade1 .ensures)
-
-candidate-requires : tie.Need-candidate-requires
-candidate-requires c κs = search needs
-
-cast-l : tie.Need-cast-l
-cast-l c =
-    let a = c .before .before .before .before .before .before .before .before .before .args in
-    omega (arith, candidate-le (a .c .degree) (c .before .before .first-candidate .result) (omega arith), c .candidate .ensures)
+unfolding rule8 secondProposed echoedBy echoedValues senders slot
+returns-3 c =
+    let a = c .before .before .before .before .before .before .before .before .args in
+    c .idle3 .ensures
+    ∙ rw (ne-eqb _ _ (c .before .before .before .before .before .before .before .if1 .left), eq-eqb _ _ (c .before .before .before .before .before .before .if2 .left))
+    (unrated (a .c .degree) (firstCandidate (a .c) (secondProposed (a .c) (a .t1))) (echoedBy (weak (a .c)) (a .t1) noneValue && eqb (echoedValues (a .c) (a .t1)) 1) (echoedBy (weak (a .c)) (a .t1)) _ (omega arith) (c .before .before .before .result .ensures) (c .before .if3 .taken) _ _ _)
 
 returns-4 : tie.Need-returns-4
-unfolding rule8 secondProposed senders slot
-returns-4 c = rw (ne-eqb _ _ (c .before .before .before .before .before .before .before .before .if1 .left), eq-eqb _ _ (c .before .before .before .before .before .before .before .if2 .left), ← c .before .before .before .quorum .ensures, ← c .before .before .first-candidate .ensures, lt-ltb _ _ (c .before .if3 .left), c .candidate .ensures)
+unfolding rule8 secondProposed echoedBy echoedValues senders slot
+returns-4 c =
+    let a = c .before .before .before .before .before .before .before .args in
+    let i = firstCandidate (a .c) (secondProposed (a .c) (a .t1)) in
+    rw (ne-eqb _ _ (c .before .before .before .before .before .before .if1 .left), eq-eqb _ _ (c .before .before .before .before .before .if2 .left))
+    (rated (isCandidate (a .c) i) (echoedBy (weak (a .c)) (a .t1) noneValue && eqb (echoedValues (a .c) (a .t1)) 1) (graded (candidate (a .c) i) (isValue (a .c) i)) (smallestValue (a .c) (echoedBy (weak (a .c)) (a .t1))) _ (c .before .before .result .ensures) (c .if3 .left) (λ (g : Graded). does (withResult (a .t1) (g .value) (g .sure)) Quiet) _)
 
 pub rule8-spec : {M : Type 1} → statement M
 rule8-spec =
     tie.close
-    (tie.spec
-    returns
-    returns-2
-    cast-d
-    quorum-requires
-    first-candidate-requires
-    add-if3
-    rule8-grade1-requires
-    returns-3
-    candidate-requires
-    cast-l
-    returns-4)
+    (tie.spec idle-requires returns idle-requires-2 returns-2 result-requires idle-requires-3 returns-3 returns-4)

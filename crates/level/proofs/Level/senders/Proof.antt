@@ -5,7 +5,7 @@ use Prim.Native.Nat.{ℕ}
 use native.Mathlib.Omega.{arith}
 use lib.ListN.{getD}
 use Rattle.level.specs.Level.{senders}
-use Rattle.level.proofs.Laws.{slot-lt}
+use Rattle.level_counts.proofs.Slots.{slot-lt}
 use Rattle.level.proofs.Level.senders.Statement.{statement}
 use Rattle.level.proofs.Level.senders.Tie as tie
 

@@ -1,0 +1,23 @@
+-- The rules by their numbers.
+use Prim.Native.Nat.{ℕ, zero, suc, _+_}
+use lib.Dec.{eqb}
+use Rattle.base.specs.Pick.{pick}
+use Rattle.level.specs.declared.Level.{Level}
+use Rattle.level.specs.declared.Context.{Context}
+use Rattle.level.specs.declared.Applied.{Applied}
+use Rattle.level.specs.Rules.{orElse, rule1, rule2, rule3, rule4, rule5, rule6, rule7, rule8, rule9, rule10, rule11, rule12, rule13, rule14}
+
+abbrev pub ruleCount : ℕ
+ruleCount = 14
+
+-- rule i of 1 to ruleCount
+unfoldable pub ruleOf : Context → Level → ℕ → Applied
+ruleOf c l i =
+    pick (eqb i 1) (rule1 c l) (pick (eqb i 2) (rule2 c l) (pick (eqb i 3) (rule3 c l) (pick (eqb i 4) (rule4 c l) (pick (eqb i 5) (rule5 c l)
+    (pick (eqb i 6) (rule6 c l) (pick (eqb i 7) (rule7 c l) (pick (eqb i 8) (rule8 c l) (pick (eqb i 9) (rule9 c l) (pick (eqb i 10) (rule10 c l)
+    (pick (eqb i 11) (rule11 c l) (pick (eqb i 12) (rule12 c l) (pick (eqb i 13) (rule13 c l) (rule14 c l)))))))))))))
+
+-- the first that applies of k + 1 rules from rule i on, or what the last of them gives
+unfoldable pub lowestFrom : Context → Level → ℕ → ℕ → Applied
+lowestFrom c l zero i = ruleOf c l i
+lowestFrom c l (suc k) i = orElse (ruleOf c l i) (lowestFrom c l k (i + 1))
