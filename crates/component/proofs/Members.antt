@@ -1,11 +1,11 @@
 -- The positions of a component of a tree and of a range, and what a valid plan says of them.
 use mathlib.Core.Path.{_≡_, refl, sym, ap, ap₂, _∙_, subst, fun-ext}
 use mathlib.Core.Bool.{Bool, true, false, _&&_, _||_}
+use mathlib.Core.List.{List}
 use Prim.Native.Nat.{ℕ, _-_, _≤_, _<_}
-use native.Mathlib.Decide.{decLt}
 use native.Mathlib.Omega.{arith}
 use lib.Dec.{T, eqb, ltb, leb}
-use lib.ListN.{length, getD, replicate, length-replicate, getD-replicate, List·getD-eq-default}
+use lib.ListN.{length, getD, replicate, List·getD-eq-default}
 use borrow.Author.Tests.{eq-eqb, ne-eqb, le-leb, lt-leb}
 use Rattle.base.specs.Limits.{maxVertices}
 use Rattle.base.specs.Sets.{Set, count}
@@ -13,19 +13,21 @@ use Rattle.base.proofs.Counts.{count-le}
 use Rattle.base.proofs.Smallest.{sought}
 use Rattle.tree.specs.Walk.{Walk}
 use Rattle.tree.specs.Edges.{Edges, Adjacent, In}
-use Rattle.tree.specs.Component.{upto, neighbours, rank, neighbour}
+use Rattle.tree.specs.Component.{upto, centre, degree, port, neighbours, rank, neighbour}
 use Rattle.tree.specs.Path.{interval}
 use Rattle.tree.proofs.PathInterval.{upto-interval}
 use Rattle.edges.specs.Rows.{rows}
 use Rattle.plan.specs.declared.Plan.{Plan}
 use Rattle.plan.specs.Positions.{edgesOf}
 use Rattle.plan.specs.Valid.{planValid}
-use Rattle.plan.proofs.Parts.{tree-parts}
-use Rattle.plan.proofs.Shape.{Kinds, tree, range, kinds, fit-grown, shape, edges-tree}
+use Rattle.plan_laws.proofs.Parts.{tree-parts}
+use Rattle.plan_laws.proofs.Shape.{Kinds, tree, range, kinds, fit-grown, shape, edges-tree}
 use Rattle.marks.specs.Marks.{marked}
-use Rattle.tree_pass.specs.Steps.{Rows}
+use Rattle.marks.proofs.Marks.{blank}
+use Rattle.tree_pass.specs.Inner.{Rows}
+use Rattle.component_tree.specs.Inner.{OfTree}
 use Rattle.component.specs.Component.{members, OfPlan, sizeOf, surveyOf}
-use Rattle.component.specs.Inner.{OfTree, surveyIn}
+use Rattle.component.specs.Inner.{surveyIn}
 use Rattle.component.specs.declared.Component.{Component}
 use Rattle.component.specs.declared.Survey.{Survey}
 
@@ -58,15 +60,6 @@ module _ (p : Plan) (c : Component) (x : ℕ) where
   before k l = rw (lt-leb (c .low) x l) (sym (ap (λ (S : Set). S x) (members-range p c k) ∙ rw (lt-leb (c .low) x l)))
 
 -- ---- all positions
-
--- no position is marked
-pub blank : (n x : ℕ) → marked (replicate n 0) x ≡ false
-unfolding marked
-blank n x = go (decLt x n)
-  where
-    go : Dec (x < n) → eqb (getD (replicate n 0) x 0) 1 ≡ false
-    go (yes l) = rw (getD-replicate {A = ℕ} n x 0 0 l)
-    go (no l) = rw (List·getD-eq-default {A = ℕ} (replicate n 0) 0 {n = x} (rw (length-replicate {A = ℕ} n 0) (omega arith)))
 
 pub whole-tree : (p : Plan) (r : Component) (n : ℕ) → p .kind ≡ 1 → ((x : ℕ) → marked (r .inside) x ≡ (ltb x (p .count) || marked (replicate n 0) x)) → members p r ≡ upto (p .count)
 unfolding upto
@@ -137,3 +130,8 @@ survey-parts r q a b c =
   where
     make : ℕ → ℕ → ℕ → Survey
     make a b c = record { centre = a; degree = b; port = c }
+
+pub survey-tree : (ps cs : List ℕ) (n : ℕ) (S : Set) (x : ℕ) (r : Survey)
+    → r .centre ≡ centre (rows ps cs (n - 1)) n S → r .degree ≡ degree (rows ps cs (n - 1)) n S → r .port ≡ port (rows ps cs (n - 1)) n S x → r ≡ surveyIn (rows ps cs (n - 1)) n S x
+unfolding surveyIn
+survey-tree ps cs n S x r a b c = survey-parts r (surveyIn (rows ps cs (n - 1)) n S x) a b c

@@ -17,7 +17,7 @@ use Rattle.tree.proofs.PathSides.{interval-degree, interval-neighbour-one, inte
 use Rattle.plan.specs.declared.Plan.{Plan}
 use Rattle.plan.specs.Positions.{edgesOf}
 use Rattle.plan.specs.Valid.{planValid}
-use Rattle.plan.proofs.Shape.{Kinds, tree, range, kinds, shape, edges-range}
+use Rattle.plan_laws.proofs.Shape.{Kinds, tree, range, kinds, shape, edges-range}
 use Rattle.component.specs.Component.{members, OfPlan, sizeOf, centreOf, degreeOf, neighbourOf, sideOf, surveyOf}
 use Rattle.component.specs.Inner.{portAt}
 use Rattle.component.specs.declared.Component.{Component}

@@ -5,7 +5,7 @@ use Rattle.base.specs.Pick.{pick}
 use Rattle.base.specs.Sets.{Set, count}
 use Rattle.tree.specs.Walk.{Walk}
 use Rattle.tree.specs.Edges.{Adjacent, In}
-use Rattle.tree.specs.Component.{centre, degree, port, neighbour, side}
+use Rattle.tree.specs.Component.{upto, centre, degree, port, neighbour, side}
 use Rattle.tree.specs.Path.{interval}
 use Rattle.plan.specs.declared.Plan.{Plan}
 use Rattle.plan.specs.Positions.{edgesOf}
@@ -24,6 +24,10 @@ pub record OfPlan (p : Plan) (S : Set) : Type 0 where
   pub below : (x : ℕ) → T (S x) → x < p .count
   pub joins : (x y : ℕ) → T (S x) → T (S y) → Walk (Adjacent (edgesOf p)) (In S) x y
   pub some : 0 < count (p .count) S
+
+-- all positions of a plan
+abbrev pub wholeOf : Plan → Set
+wholeOf p = upto (p .count)
 
 -- "In a component of s positions": s
 abbrev pub sizeOf : Plan → Set → ℕ

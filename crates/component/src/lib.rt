@@ -1,15 +1,14 @@
 // Components of a plan: size, centre, neighbours, sides. A range takes a constant time for each, a tree one or two passes over its rows.
 ghost use mathlib.Core.Path.{_≡_};
-ghost use Prim.Native.Nat.{_+_, _≤_, _<_};
+ghost use Prim.Native.Nat.{_≤_};
 ghost use lib.Dec.{T};
-ghost use lib.ListN.{length};
-ghost use Rattle.base.specs.Limits.{maxVertices};
-ghost use Rattle.tree.specs.Component.{upto, without, centre, neighbours, degree, neighbour, side, port};
+ghost use Rattle.tree.specs.Component.{upto};
 ghost use Rattle.tree.specs.Path.{middle};
 ghost use Rattle.plan.specs.Valid.{planValid};
 ghost use Rattle.marks.specs.Marks.{marked};
+ghost use Rattle.component_tree.specs.Inner.{tree, OfTree};
 ghost use Rattle.component.specs.Component.{members, OfPlan, sizeOf, centreOf, degreeOf, neighbourOf, sideOf, surveyOf};
-ghost use Rattle.component.specs.Inner.{tree, OfTree, surveyIn, portAt};
+ghost use Rattle.component.specs.Inner.{surveyIn, portAt};
 
 // Some positions of a plan.
 pub struct Component {
@@ -96,40 +95,6 @@ fn range_port(m: u32, x: u32) -> u8
     0
 }
 
-// The marks without c's.
-fn leave_out(inside: [u8; base::MAX_VERTICES], c: usize) -> [u8; base::MAX_VERTICES]
-    requires { ⌜ c < maxVertices ⌝ }
-    ensures { λ r. ⌜ marked r ≡ without (marked inside) c ⌝ }
-{
-    let mut rest = inside;
-    rest[c] = 0;
-    rest
-}
-
-// The port of x in a component of a tree; `near` marks the neighbours of its centre c.
-fn tree_port(
-    ps: &[u16],
-    cs: &[u16],
-    inside: [u8; base::MAX_VERTICES],
-    near: &[u8],
-    n: usize,
-    c: usize,
-    x: usize,
-) -> usize
-    requires { ⌜ OfTree (now ps) (now cs) n (marked inside) × T (marked inside x) × (c ≡ centre (tree (now ps) (now cs) n) n (marked inside)) × (marked (now near) ≡ neighbours (tree (now ps) (now cs) n) n (marked inside)) × (n ≤ length (now near)) ⌝ }
-    ensures { λ r. ⌜ (r ≡ port (tree (now (ps .entry)) (now (cs .entry)) n) n (marked inside) x) × (r ≤ n) ⌝ }
-{
-    if x == c {
-        return 0;
-    }
-    let rest = leave_out(inside, c);
-    let mut labels = [0u16; base::MAX_VERTICES];
-    tree_pass::labels(ps, cs, &rest, &mut labels, n, n - 1);
-    let a = labels[x];
-    let w = marks::first_labelled(near, &labels, a, n);
-    marks::count(near, w + 1)
-}
-
 // The survey of a component of a tree.
 fn tree_survey(
     ps: &[u16],
@@ -141,11 +106,11 @@ fn tree_survey(
     requires { ⌜ OfTree (now ps) (now cs) n (marked inside) × T (marked inside x) ⌝ }
     ensures { λ r. ⌜ r ≡ surveyIn (tree (now (ps .entry)) (now (cs .entry)) n) n (marked inside) x ⌝ }
 {
-    let c = tree_pass::centre(ps, cs, inside, n, n - 1);
+    let c = tree_pass_centre::centre(ps, cs, inside, n, n - 1);
     let mut near = [0u8; base::MAX_VERTICES];
     tree_pass::neighbours(ps, cs, &inside, &mut near, c, n, n - 1);
     let d = marks::count(&near, n);
-    let k = tree_port(ps, cs, inside, &near, n, c, x);
+    let k = component_tree::tree_port(ps, cs, inside, &near, n, c, x);
     Survey {
         centre: c as u32,
         degree: d as u32,
@@ -173,16 +138,6 @@ pub fn survey_at(p: plan::Plan, c: Component, x: u32) -> Survey
     }
 }
 
-// Neighbour k of the centre of a component of a tree.
-fn tree_neighbour(ps: &[u16], cs: &[u16], inside: &[u8], n: usize, c: usize, k: usize) -> usize
-    requires { ⌜ OfTree (now ps) (now cs) n (marked (now inside)) × (n ≤ length (now inside)) × (c ≡ centre (tree (now ps) (now cs) n) n (marked (now inside))) × (1 ≤ k) ⌝ }
-    ensures { λ r. ⌜ r ≡ neighbour (tree (now (ps .entry)) (now (cs .entry)) n) n (marked (now (inside .entry))) k ⌝ }
-{
-    let mut near = [0u8; base::MAX_VERTICES];
-    tree_pass::neighbours(ps, cs, inside, &mut near, c, n, n - 1);
-    marks::nth(&near, n, k)
-}
-
 // Neighbour k of the centre.
 pub fn neighbour(p: plan::Plan, c: Component, centre: u32, k: u32) -> u32
     requires { ⌜ OfPlan p (members p c) × (3 ≤ sizeOf p (members p c)) × (centre ≡ centreOf p (members p c)) × (1 ≤ k) × (k ≤ degreeOf p (members p c)) ⌝ }
@@ -192,7 +147,7 @@ pub fn neighbour(p: plan::Plan, c: Component, centre: u32, k: u32) -> u32
         let parent = p.parent;
         let child = p.child;
         let inside = c.inside;
-        return tree_neighbour(
+        return component_tree::tree_neighbour(
             &parent,
             &child,
             &inside,
@@ -207,27 +162,6 @@ pub fn neighbour(p: plan::Plan, c: Component, centre: u32, k: u32) -> u32
     centre + 1
 }
 
-// Side k of a component of a tree.
-fn tree_side(
-    ps: &[u16],
-    cs: &[u16],
-    inside: [u8; base::MAX_VERTICES],
-    n: usize,
-    c: usize,
-    k: usize,
-) -> [u8; base::MAX_VERTICES]
-    requires { ⌜ OfTree (now ps) (now cs) n (marked inside) × (c ≡ centre (tree (now ps) (now cs) n) n (marked inside)) × (1 ≤ k) × (k ≤ degree (tree (now ps) (now cs) n) n (marked inside)) ⌝ }
-    ensures { λ r. ⌜ marked r ≡ side (tree (now (ps .entry)) (now (cs .entry)) n) n (marked inside) k ⌝ }
-{
-    let w = tree_neighbour(ps, cs, &inside, n, c, k);
-    let mut rest = leave_out(inside, c);
-    let mut labels = [0u16; base::MAX_VERTICES];
-    tree_pass::labels(ps, cs, &rest, &mut labels, n, n - 1);
-    let a = labels[w];
-    marks::keep(&mut rest, &labels, a, n);
-    rest
-}
-
 // Side k.
 pub fn side(p: plan::Plan, c: Component, centre: u32, k: u32) -> Component
     requires { ⌜ OfPlan p (members p c) × (3 ≤ sizeOf p (members p c)) × (centre ≡ centreOf p (members p c)) × (1 ≤ k) × (k ≤ degreeOf p (members p c)) ⌝ }
@@ -237,7 +171,7 @@ pub fn side(p: plan::Plan, c: Component, centre: u32, k: u32) -> Component
         let parent = p.parent;
         let child = p.child;
         let inside = c.inside;
-        let part = tree_side(
+        let part = component_tree::tree_side(
             &parent,
             &child,
             inside,

@@ -11,7 +11,7 @@ use lib.Seq.{getD-set-same, getD-set-other}
 use borrow.Author.Tests.{eq-eqb, ne-eqb}
 use Rattle.base.specs.Sets.{bit}
 use Rattle.tree.specs.Edges.{edgesAt}
-use Rattle.edges.specs.Steps.{Degrees}
+use Rattle.edges.specs.Inner.{Degrees}
 
 -- one more at a, and then at b
 module _ (l : List ℕ) (a b : ℕ) (ka : a < length l) (kb : b < length l) (d : a ≡ b → ⊥) where

@@ -8,9 +8,9 @@ use lib.Dec.{ltb}
 use lib.ListN.{getD}
 use borrow.Author.Tests.{lt-ltb, le-ltb, eq-eqb, ne-eqb}
 use Rattle.base.specs.Limits.{maxDegree}
-use Rattle.union_find.specs.Forest.{together}
+use Rattle.union_find.specs.Inner.{together}
 use Rattle.edges.specs.Reading.{endsApart}
-use Rattle.edges.specs.Steps.{faultOf}
+use Rattle.edges.specs.Inner.{faultOf}
 
 and-false : (a : Bool) → a && false ≡ false
 and-false true = refl

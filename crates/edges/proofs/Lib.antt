@@ -1,5 +1,4 @@
 pub mod Faults
-pub mod Ends
 pub mod Counting
 pub mod OneEdge
-pub mod Reached
+pub mod Further

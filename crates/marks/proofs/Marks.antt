@@ -4,10 +4,10 @@ use mathlib.Core.List.{List}
 use mathlib.Core.Bool.{Bool, true, false, _&&_, _||_}
 use Prim.Native.Nat.{ℕ, suc, _+_, _≤_, _<_}
 use native.Mathlib.Numerals.{add-one}
-use native.Mathlib.Decide.{ℕ-discrete}
+use native.Mathlib.Decide.{ℕ-discrete, decLt}
 use native.Mathlib.Omega.{arith}
 use lib.Dec.{T, eqb, eqb→eq, eqb-refl, ltb, lt→ltb, ltb→lt}
-use lib.ListN.{length, getD, set}
+use lib.ListN.{length, getD, set, replicate, length-replicate, getD-replicate, List·getD-eq-default}
 use lib.Seq.{getD-set-same, getD-set-other}
 use borrow.Author.Tests.{eq-eqb, ne-eqb, lt-ltb, le-ltb}
 use Rattle.base.specs.Pick.{pick, smallest}
@@ -15,7 +15,8 @@ use Rattle.base.specs.Sets.{Set, bit, count}
 use Rattle.base.proofs.Bools.{T-and, T-right, T-ext}
 use Rattle.base.proofs.Counts.{count-le}
 use Rattle.base.proofs.Ranks.{count-grow}
-use Rattle.marks.specs.Marks.{marked, ranked, labelled, among}
+use Rattle.marks.specs.Marks.{marked}
+use Rattle.marks.specs.Inner.{ranked, labelled, among}
 use Rattle.marks.proofs.Searches.{None, hit, miss}
 
 -- ---- a mark
@@ -29,6 +30,15 @@ marked-same m x v l = ap (λ (z : ℕ). eqb z 1) (getD-set-same m x v 0 l)
 pub marked-other : (m : List ℕ) (x y v : ℕ) → (y ≡ x → ⊥) → marked (set m x v) y ≡ marked m y
 unfolding marked
 marked-other m x y v d = ap (λ (z : ℕ). eqb z 1) (getD-set-other m x y v 0 d)
+
+-- no position is marked
+pub blank : (n x : ℕ) → marked (replicate n 0) x ≡ false
+unfolding marked
+blank n x = go (decLt x n)
+  where
+    go : Dec (x < n) → eqb (getD (replicate n 0) x 0) 1 ≡ false
+    go (yes l) = rw (getD-replicate {A = ℕ} n x 0 0 l)
+    go (no l) = rw (List·getD-eq-default {A = ℕ} (replicate n 0) 0 {n = x} (rw (length-replicate {A = ℕ} n 0) (omega arith)))
 
 pub on : (m : List ℕ) (x : ℕ) → getD m x 0 ≡ 1 → T (marked m x)
 unfolding marked

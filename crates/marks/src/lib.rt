@@ -6,7 +6,8 @@ ghost use lib.Dec.{eqb, ltb};
 ghost use lib.ListN.{getD};
 ghost use Rattle.base.specs.Pick.{pick, smallest};
 ghost use Rattle.base.specs.Sets.{bit, count};
-ghost use Rattle.marks.specs.Marks.{marked, ranked, labelled, among};
+ghost use Rattle.marks.specs.Marks.{marked};
+ghost use Rattle.marks.specs.Inner.{ranked, labelled, among};
 
 // 1 for a mark, else 0.
 pub fn one(x: u8) -> usize

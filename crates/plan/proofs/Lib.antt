@@ -1,10 +1,4 @@
-pub mod Columns
-pub mod Fitting
-pub mod Parts
-pub mod Shape
+pub mod Degrees
 pub mod Listed
-pub mod Padding
-pub mod Given
 pub mod Answers
-pub mod Drawn
-pub mod Readings
+pub mod TreePlan

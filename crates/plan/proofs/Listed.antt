@@ -16,8 +16,8 @@ use Rattle.varint.proofs.RoundTrip.{varint-read-at}
 use Rattle.tree.specs.Edges.{Edge, Edges, Acyclic, Below, joined, all, edgesAt}
 use Rattle.base.specs.Found.{Found, found, refused, ask}
 use Rattle.edges.specs.Reading.{onward, varintThen, endsApart, notJoined, roomAtEnds, edgesFrom, Listed, edgesOfTree}
-use Rattle.plan.specs.Columns.{edge}
-use Rattle.plan.proofs.Shape.{at-none, at-most}
+use Rattle.plan_growth.specs.Inner.{edge}
+use Rattle.plan.proofs.Degrees.{at-none, at-most}
 
 -- ---- questions
 

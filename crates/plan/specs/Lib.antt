@@ -1,4 +1,3 @@
 pub mod Positions
 pub mod Reading
-pub mod Columns
 pub mod Valid

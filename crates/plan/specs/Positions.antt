@@ -1,13 +1,14 @@
 -- What a plan is once read: its positions, its edges, and the reading at each position.
-use mathlib.Core.List.{List, [], _∷_, _++_}
+use mathlib.Core.List.{List, _++_}
 use Prim.Native.Nat.{ℕ, _+_, _-_}
 use lib.Dec.{eqb}
 use lib.ListN.{length, replicate}
 use lib.IntN.{ℤ, pos}
 use Rattle.base.specs.Pick.{pick}
 use Rattle.signed.specs.Signed.{fromOffset}
-use Rattle.tree.specs.Edges.{Edge, Edges}
+use Rattle.tree.specs.Edges.{Edges}
 use Rattle.edges.specs.Rows.{rows}
+unfoldable pub use Rattle.edges.specs.Rows.{column}
 use Rattle.tree.specs.Path.{pathEdges}
 use Rattle.plan.specs.declared.Plan.{Plan}
 use Rattle.base.specs.Limits.{maxRows}
@@ -19,11 +20,6 @@ edgesOf p = pick (eqb (p .kind) 1) (rows (p .parent) (p .child) (p .count - 1)) 
 -- "Position p of a range is reading low + p"; "a vertex being its own" position
 unfoldable pub readingOf : Plan → ℕ → ℤ
 readingOf p x = pick (eqb (p .kind) 1) (pos x) (fromOffset (p .low + x))
-
--- a column of edges, the oldest first
-unfoldable pub column : (Edge → ℕ) → Edges → List ℕ
-column f [] = []
-column f (e ∷ E) = column f E ++ (f e ∷ [])
 
 -- unused places are 0
 abbrev pub padded : List ℕ → List ℕ

@@ -1,20 +1,19 @@
 -- Document 01, "Questions at the door", 1 to 11: the settings, then "the plan, left to right, both groups of an edge or a range read before 7 or 10 is asked".
 use mathlib.Core.Bool.{_&&_}
 use mathlib.Core.List.{List, []}
-use Prim.Native.Nat.{ℕ, _+_, _-_, _*_}
-use lib.Dec.{ltb, leb, eqb}
+use Prim.Native.Nat.{ℕ, _+_, _-_}
+use lib.Dec.{leb, eqb}
 use lib.ListN.{length}
 use Rattle.base.specs.Pick.{pick}
 use Rattle.signed.specs.Signed.{offsetOfZigzag}
 use Rattle.tree.specs.Growth.{sweeps}
-use Rattle.varint.specs.declared.VarintRead.{VarintRead}
-use Rattle.varint.specs.Varint.{varintAt}
 use Rattle.base.specs.Found.{Found, found, refused, ask}
-use Rattle.edges.specs.Reading.{onward, varintThen, edgesFrom}
+use Rattle.edges.specs.Reading.{varintThen, edgesFrom}
 use Rattle.plan.specs.declared.Plan.{Plan}
 use Rattle.plan.specs.declared.PlanRead.{PlanRead}
 use Rattle.base.specs.declared.Verdict.{Verdict}
-use Rattle.base.specs.Limits.{maxBoards, maxVertices, maxWidth, maxReading}
+use Rattle.base.specs.Limits.{maxVertices, maxWidth, maxReading}
+use Rattle.settings.specs.Settings.{settingsFault, settingsFit}
 use Rattle.plan.specs.Positions.{treePlan, rangePlan, noPlan}
 
 -- "Does the plan end with its bytes? 11."
@@ -35,28 +34,20 @@ rangeFrom s at =
     ask (leb width maxWidth && leb (offsetOfZigzag z + width) maxReading) 10 second
     (ended s next (rangePlan (offsetOfZigzag z) width))))
 
--- "Is the kind 1 or 2? 5.": the plan whose kind was read at `at`
-abbrev pub planAfter : VarintRead → List ℕ → ℕ → Found Plan
-planAfter kind s at =
-    onward at kind (λ k next.
+-- "Is the kind 1 or 2? 5.": the plan that stands at `at`
+unfoldable pub planFrom : List ℕ → ℕ → Found Plan
+planFrom s at =
+    varintThen s at (λ k next.
     pick (eqb k 1) (treeFrom s next)
     (pick (eqb k 2) (rangeFrom s next) (refused 5 at)))
-
--- the plan that stands at `at`
-unfoldable pub planFrom : List ℕ → ℕ → Found Plan
-planFrom s at = planAfter (varintAt s at) s at
 
 -- the plan that the lent bytes are
 abbrev pub planOf : List ℕ → Found Plan
 planOf s = planFrom s 0
 
--- "Is n 1 to 16? 1. Is 3t below n? 2. Is the own number below n? 3. Then the plan"
+-- questions 1 to 3 of the settings, then the plan
 unfoldable pub settledPlan : ℕ → ℕ → ℕ → List ℕ → Found Plan
-settledPlan n t own s =
-    ask (leb 1 n && leb n maxBoards) 1 0
-    (ask (ltb (3 * t) n) 2 0
-    (ask (ltb own n) 3 0
-    (planOf s)))
+settledPlan n t own s = ask (settingsFit n t own) (settingsFault n t own) 0 (planOf s)
 
 -- the answer as the call gives it: no plan comes with a refusal
 abbrev pub answered : Found Plan → PlanRead

@@ -1,4 +1,4 @@
--- Document 01, question 19: "whose plan part a plan reading gives". A test that one pass over the part decides; proofs/Given.antt shows that it
+-- Document 01, question 19: "whose plan part a plan reading gives". A test that one pass over the part decides; crate plan_laws shows that it
 -- passes exactly the parts that some plan's bytes give.
 use mathlib.Core.Bool.{Bool, true, false, not, _&&_}
 use mathlib.Core.List.{List, [], _∷_}

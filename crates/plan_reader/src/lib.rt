@@ -1,7 +1,8 @@
-// The plan's reader: the lent plan bytes and the offset reached, together, and thin functions that call the readers over plain slices.
+// The plan's reader: the lent plan bytes and the offset reached, together. It moves through the plan group by group; what each group says is asked of plain numbers.
 ghost use mathlib.Core.Path.{_≡_};
 ghost use Rattle.varint.specs.Varint.{varintAt};
 ghost use Rattle.plan.specs.Reading.{planFrom, planOf, settledPlan, answered};
+ghost use Rattle.plan_groups.specs.Inner.{pastOf};
 
 pub struct PlanReader<'a> {
     pub bytes: &'a [u8],
@@ -22,11 +23,26 @@ pub fn next_varint<'a>(r: PlanReader<'a>) -> varint::VarintRead
     varint::read(r.bytes, r.at)
 }
 
-// The plan that stands at the offset and ends with the bytes.
+// The reader past the varint that was found at its offset.
+pub fn past<'a>(r: PlanReader<'a>, found: varint::VarintRead) -> PlanReader<'a>
+    ensures { λ q. ⌜ (q .bytes ≡ r .entry .bytes) × (q .at ≡ pastOf found (r .entry .at)) ⌝ }
+{
+    let at = plan_groups::past(found, r.at);
+    PlanReader { bytes: r.bytes, at }
+}
+
+// The plan that stands at the offset and ends with the bytes: the reader moves from group to group.
 pub fn read_plan<'a>(r: PlanReader<'a>) -> plan::PlanRead
     ensures { λ p. ⌜ p ≡ answered (planFrom (now (r .entry .bytes)) (r .entry .at)) ⌝ }
 {
-    plan::read_after(next_varint(r), r.bytes, r.at)
+    let mut here = r;
+    let mut so_far = plan_groups::begin();
+    while plan_groups::wants(so_far) {
+        let found = next_varint(here);
+        so_far = plan_groups::take(so_far, found, here.at);
+        here = past(here, found);
+    }
+    plan_groups::finish(so_far, here.bytes, here.at)
 }
 
 // The plan that the bytes are.
@@ -40,17 +56,9 @@ pub fn read(bytes: &[u8]) -> plan::PlanRead
 pub fn settle(n: u32, t: u32, own: u32, bytes: &[u8]) -> plan::PlanRead
     ensures { λ r. ⌜ r ≡ answered (settledPlan n t own (now (bytes .entry))) ⌝ }
 {
-    if n < 1 {
-        return plan::refuse(1, 0);
-    }
-    if base::MAX_BOARDS < n {
-        return plan::refuse(1, 0);
-    }
-    if n as u64 <= 3 * (t as u64) {
-        return plan::refuse(2, 0);
-    }
-    if n <= own {
-        return plan::refuse(3, 0);
+    let number = settings::fault(n, t, own);
+    if number != 0 {
+        return plan::refuse(number, 0);
     }
     read(bytes)
 }

@@ -15,7 +15,7 @@ use Rattle.tree.specs.Edges.{Edge, Edges, label}
 use Rattle.tree.proofs.Growth.{label-new, label-old}
 use Rattle.edges.specs.Rows.{rows}
 use Rattle.marks.specs.Marks.{marked}
-use Rattle.tree_pass.specs.Steps.{Rows, handed}
+use Rattle.tree_pass.specs.Inner.{Rows, handed}
 use Rattle.tree_pass.proofs.Rows.{row, below-row, grown-row, both, not-first, not-second}
 
 -- every position below x its own label

@@ -14,7 +14,7 @@ use Rattle.tree.specs.Edges.{Edge, ends, adjacent}
 use Rattle.edges.specs.Rows.{rows}
 use Rattle.marks.specs.Marks.{marked}
 use Rattle.marks.proofs.Marks.{marked-same, marked-other}
-use Rattle.tree_pass.specs.Steps.{Rows, noted, beside}
+use Rattle.tree_pass.specs.Inner.{Rows, noted, beside}
 use Rattle.tree_pass.proofs.Rows.{row, below-row}
 
 -- ---- one row

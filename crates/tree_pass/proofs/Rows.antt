@@ -13,7 +13,7 @@ use Rattle.tree.specs.Growth.{reached, Grown}
 use Rattle.tree.proofs.Growth.{reached-old}
 use Rattle.edges.specs.Rows.{rows}
 use Rattle.marks.specs.Marks.{marked}
-use Rattle.tree_pass.specs.Steps.{Rows}
+use Rattle.tree_pass.specs.Inner.{Rows}
 
 -- row i
 abbrev pub row : List ℕ → List ℕ → ℕ → Edge

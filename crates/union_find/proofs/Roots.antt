@@ -11,7 +11,7 @@ use lib.Dec.{T, eqb, eqb→eq, eqb-refl}
 use lib.ListN.{getD}
 use Rattle.base.specs.Pick.{smallest}
 use Rattle.base.proofs.Smallest.{sought, found}
-use Rattle.union_find.specs.Forest.{root, Top, Rooted, Forest}
+use Rattle.union_find.specs.Inner.{root, Top, Rooted, Forest}
 
 -- a root stays
 pub root-stays : (k : ℕ) (up : List ℕ) (r : ℕ) → Top up r → root k up r ≡ r

@@ -16,7 +16,7 @@ use Rattle.base.proofs.Counts.{count-le, count-same, count-sum, count-single}
 use Rattle.tree.specs.Edges.{Edges, all, label, joined}
 use Rattle.tree.proofs.Labels.{relabel}
 use Rattle.tree.proofs.Relabel.{alike, relabel-alike, joined-more}
-use Rattle.union_find.specs.Forest.{root, Top, together, Rooted, Forest, Unions}
+use Rattle.union_find.specs.Inner.{root, Top, together, Rooted, Forest, Unions}
 use Rattle.union_find.proofs.Roots.{root-stays, one-root, rooted, rooted-by, placed}
 
 -- every position its own root, of weight 1

@@ -1,1 +1,1 @@
-pub mod Forest
+pub mod Inner

@@ -3,18 +3,13 @@ ghost use mathlib.Core.Path.{_≡_};
 ghost use mathlib.Core.List.{[], _∷_};
 ghost use Prim.Native.Nat.{_+_, _≤_, _<_};
 ghost use lib.ListN.{length, getD, set};
+ghost use Rattle.base.specs.Limits.{maxVertices};
 ghost use Rattle.tree.specs.Edges.{Edges};
-ghost use Rattle.union_find.specs.Forest.{root, together, Rooted, Forest, Unions};
-
-fn wide(x: u16) -> usize
-    ensures { λ r. ⌜ r ≡ x ⌝ }
-{
-    x as usize
-}
+ghost use Rattle.union_find.specs.Inner.{root, together, Rooted, Forest, Unions};
 
 // Every position its own set.
 pub fn fresh(up: &mut [u16], weight: &mut [u16], n: usize)
-    requires { ⌜ (n ≤ length (now up)) × (n ≤ length (now weight)) × (n ≤ 65535) ⌝ }
+    requires { ⌜ (n ≤ length (now up)) × (n ≤ length (now weight)) × (n ≤ maxVertices) ⌝ }
     ensures { λ _. ⌜ Unions n [] (now (up .exit)) (now (weight .exit)) ⌝ }
 {
     let mut x = 0;
@@ -31,10 +26,10 @@ pub fn root(up: &[u16], n: usize, x: usize) -> usize
     ensures { λ r. ⌜ r ≡ root n (now (up .entry)) x ⌝ }
 {
     let mut r = x;
-    let mut above = wide(up[r]);
+    let mut above = base::wide(up[r]);
     while above != r {
         r = above;
-        above = wide(up[r]);
+        above = base::wide(up[r]);
     }
     r
 }
@@ -49,7 +44,7 @@ pub fn same(up: &[u16], n: usize, a: usize, b: usize) -> bool
 
 // The root `low` goes under the root `high`.
 fn attach(up: &mut [u16], weight: &mut [u16], low: usize, high: usize)
-    requires { ⌜ (low < length (now up)) × (high ≤ 65535) × (low < length (now weight)) × (high < length (now weight)) × (getD (now weight) low 0 + getD (now weight) high 0 ≤ 65535) ⌝ }
+    requires { ⌜ (low < length (now up)) × (high ≤ maxVertices) × (low < length (now weight)) × (high < length (now weight)) × (getD (now weight) low 0 + getD (now weight) high 0 ≤ maxVertices) ⌝ }
     ensures { λ _. ⌜ (now (up .exit) ≡ set (now (up .entry)) low high) × (now (weight .exit) ≡ set (now (weight .entry)) high (getD (now (weight .entry)) low 0 + getD (now (weight .entry)) high 0)) ⌝ }
 {
     up[low] = high as u16;
@@ -58,7 +53,7 @@ fn attach(up: &mut [u16], weight: &mut [u16], low: usize, high: usize)
 
 // The sets of a and b become one: the root of the lighter goes under that of the heavier.
 pub fn link(up: &mut [u16], weight: &mut [u16], n: usize, a: usize, b: usize)
-    requires { ⌜ (a < n) × (b < n) × (n ≤ length (now up)) × (n ≤ length (now weight)) × (n ≤ 65535) × Forest n (now up) (now weight) ⌝ }
+    requires { ⌜ (a < n) × (b < n) × (n ≤ length (now up)) × (n ≤ length (now weight)) × (n ≤ maxVertices) × Forest n (now up) (now weight) ⌝ }
     ensures { λ _. ⌜ ((E : Edges) → Unions n E (now (up .entry)) (now (weight .entry)) → Unions n (record { one = a; two = b } ∷ E) (now (up .exit)) (now (weight .exit))) ⌝ }
 {
     let p = root(up, n, a);

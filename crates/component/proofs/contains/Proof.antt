@@ -2,6 +2,7 @@ use mathlib.Core.Path.{_≡_}
 use native.Mathlib.Omega.{arith}
 use lib.ListN.{length}
 use borrow.Author.Needs.{needs}
+use Rattle.base.specs.Limits.{maxVertices}
 use Rattle.component.proofs.Members.{mark-read, mark-past, between, before}
 use Rattle.component.proofs.contains.Statement.{statement}
 use Rattle.component.proofs.contains.Tie as tie
@@ -17,7 +18,7 @@ returns c =
 returns-2 : tie.Need-returns-2
 returns-2 c =
     let s = c .before .before .before in
-    let l : length (s .args .c .inside) ≡ 255 = search needs in
+    let l : length (s .args .c .inside) ≡ maxVertices = search needs in
     mark-past (s .args .p) (s .args .c) (s .args .x) (c .before .if1 .taken) (omega arith)
 
 returns-3 : tie.Need-returns-3

@@ -3,6 +3,7 @@ use Prim.Native.Nat.{_-_}
 use native.Mathlib.Omega.{arith}
 use lib.ListN.{length}
 use borrow.Author.Needs.{needs}
+use Rattle.base.specs.Limits.{maxVertices, maxRows}
 use Rattle.tree.specs.Component.{centre, neighbour}
 use Rattle.edges.specs.Rows.{rows}
 use Rattle.marks.specs.Marks.{marked}
@@ -27,9 +28,9 @@ tree-neighbour-requires : tie.Need-tree-neighbour-requires
 tree-neighbour-requires c κs =
     let s = c .before .before .before .before .before .before .before .before .before in
     let k = c .before .before .before .before .before .before .before .if1 .taken in
-    let a : length (s .args .p .parent) ≡ 254 = search needs in
-    let b : length (s .args .p .child) ≡ 254 = search needs in
-    let i : length (s .args .c .inside) ≡ 255 = search needs in
+    let a : length (s .args .p .parent) ≡ maxRows = search needs in
+    let b : length (s .args .p .child) ≡ maxRows = search needs in
+    let i : length (s .args .c .inside) ≡ maxVertices = search needs in
     let m = tree-most (s .args .p) (s .pre .0 .valid) k in
     let O = of-tree (s .args .p) (s .args .c) (s .pre .0) k (omega arith) (omega arith) in
     (O, omega arith, s .pre .2 ∙ as-tree (λ E S. centre E (s .args .p .count) S) (s .args .p) (s .args .c) k, s .pre .3)

@@ -2,6 +2,7 @@ use mathlib.Core.Path.{_≡_}
 use native.Mathlib.Omega.{arith}
 use lib.ListN.{length}
 use borrow.Author.Needs.{needs}
+use Rattle.base.specs.Limits.{maxVertices}
 use Rattle.marks.specs.Marks.{marked}
 use Rattle.component.proofs.Members.{tree-most, count-small, size-tree}
 use Rattle.component.proofs.RangeLaws.{in-range, size-code}
@@ -17,7 +18,7 @@ cast-count c = search needs
 count-requires : tie.Need-count-requires
 count-requires c κs =
     let s = c .before .before .before .before .before in
-    let l : length (s .args .c .inside) ≡ 255 = search needs in
+    let l : length (s .args .c .inside) ≡ maxVertices = search needs in
     omega (arith, tree-most (s .args .p) (s .pre .valid) (c .before .before .before .if1 .taken))
 
 cast-result : tie.Need-cast-result

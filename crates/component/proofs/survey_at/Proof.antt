@@ -3,6 +3,7 @@ use native.Mathlib.Omega.{arith}
 use lib.ListN.{length}
 use lib.Dec.{T}
 use borrow.Author.Needs.{needs}
+use Rattle.base.specs.Limits.{maxVertices, maxRows}
 use Rattle.base.specs.Sets.{Set}
 use Rattle.component.proofs.Members.{tree-most, of-tree, members-tree, survey-as-tree}
 use Rattle.component.proofs.RangeLaws.{in-range, survey-range}
@@ -22,9 +23,9 @@ tree-survey-requires : tie.Need-tree-survey-requires
 tree-survey-requires c κs =
     let s = c .before .before .before .before .before .before .before .before in
     let k = c .before .before .before .before .before .before .if1 .taken in
-    let a : length (s .args .p .parent) ≡ 254 = search needs in
-    let b : length (s .args .p .child) ≡ 254 = search needs in
-    let i : length (s .args .c .inside) ≡ 255 = search needs in
+    let a : length (s .args .p .parent) ≡ maxRows = search needs in
+    let b : length (s .args .p .child) ≡ maxRows = search needs in
+    let i : length (s .args .c .inside) ≡ maxVertices = search needs in
     let m = tree-most (s .args .p) (s .pre .0 .valid) k in
     let O = of-tree (s .args .p) (s .args .c) (s .pre .0) k (omega arith) (omega arith) in
     (O, subst (λ (S : Set). T (S (s .args .x))) (members-tree (s .args .p) (s .args .c) k) (s .pre .2))

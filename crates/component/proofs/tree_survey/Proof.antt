@@ -1,8 +1,10 @@
 use native.Mathlib.Omega.{arith}
 use borrow.Author.Needs.{needs}
+use Rattle.base.specs.Limits.{maxVertices}
 use Rattle.base.proofs.Counts.{count-le}
 use Rattle.marks.specs.Marks.{marked}
-use Rattle.component.proofs.TreeLaws.{tree-centre, centre-below, near-is, degree-is, survey-tree}
+use Rattle.component_tree.proofs.TreeLaws.{tree-centre, centre-below, near-is, degree-is}
+use Rattle.component.proofs.Members.{survey-tree}
 use Rattle.component.proofs.tree_survey.Statement.{statement}
 use Rattle.component.proofs.tree_survey.Tie as tie
 
@@ -51,7 +53,7 @@ tree-port-requires c κs =
     let S = marked (s .args .t3) in
     let O = s .pre .0 in
     let at = tree-centre (s .args .ps .now) (s .args .cs .now) (s .args .n) S O (c .before .before .before .before .before .before .before .centre .result) (c .before .before .before .before .before .before .before .centre .ensures) in
-    (O, s .pre .1, at, (near-is (s .args .ps .now) (s .args .cs .now) (s .args .n) S O (c .before .before .before .before .before .before .before .centre .result) at (c .before .before .before .before .neighbours .last .1 .1 .1 .0) 255 (c .before .before .before .before .neighbours .ensures)), omega (arith, O .most))
+    (O, s .pre .1, at, (near-is (s .args .ps .now) (s .args .cs .now) (s .args .n) S O (c .before .before .before .before .before .before .before .centre .result) at (c .before .before .before .before .neighbours .last .1 .1 .1 .0) maxVertices (c .before .before .before .before .neighbours .ensures)), omega (arith, O .most))
 
 cast-t22 : tie.Need-cast-t22
 cast-t22 c =
@@ -82,7 +84,7 @@ returns c =
     let S = marked (s .args .t3) in
     let O = s .pre .0 in
     let at = tree-centre (s .args .ps .now) (s .args .cs .now) (s .args .n) S O (c .before .before .before .before .before .before .before .before .centre .result) (c .before .before .before .before .before .before .before .before .centre .ensures) in
-    survey-tree (s .args .ps .now) (s .args .cs .now) (s .args .n) S (s .args .x) _ at (degree-is (s .args .ps .now) (s .args .cs .now) (s .args .n) S O (c .before .before .before .before .before .neighbours .last .1 .1 .1 .0) (c .before .before .count .result) (near-is (s .args .ps .now) (s .args .cs .now) (s .args .n) S O (c .before .before .before .before .before .before .before .before .centre .result) at (c .before .before .before .before .before .neighbours .last .1 .1 .1 .0) 255 (c .before .before .before .before .before .neighbours .ensures)) (c .before .before .count .ensures)) (c .tree-port .ensures .0)
+    survey-tree (s .args .ps .now) (s .args .cs .now) (s .args .n) S (s .args .x) _ at (degree-is (s .args .ps .now) (s .args .cs .now) (s .args .n) S O (c .before .before .before .before .before .neighbours .last .1 .1 .1 .0) (c .before .before .count .result) (near-is (s .args .ps .now) (s .args .cs .now) (s .args .n) S O (c .before .before .before .before .before .before .before .before .centre .result) at (c .before .before .before .before .before .neighbours .last .1 .1 .1 .0) maxVertices (c .before .before .before .before .before .neighbours .ensures)) (c .before .before .count .ensures)) (c .tree-port .ensures .0)
 
 pub tree-survey-spec : {M : Type 1} → statement M
 tree-survey-spec =

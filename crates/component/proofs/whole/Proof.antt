@@ -1,7 +1,8 @@
 use mathlib.Core.Path.{refl}
 use native.Mathlib.Omega.{arith}
 use borrow.Author.Needs.{needs}
-use Rattle.plan.proofs.Shape.{shape}
+use Rattle.base.specs.Limits.{maxVertices}
+use Rattle.plan_laws.proofs.Shape.{shape}
 use Rattle.component.proofs.Members.{tree-most, whole-tree, whole-range}
 use Rattle.component.proofs.whole.Statement.{statement}
 use Rattle.component.proofs.whole.Tie as tie
@@ -18,7 +19,7 @@ fill-requires c κs =
     omega (arith, tree-most (s .args .p) (s .pre) (c .before .before .if1 .taken))
 
 returns : tie.Need-returns
-returns c = whole-tree (c .before .before .before .before .before .before .args .p) _ 255 (c .before .before .before .before .if1 .taken) (c .before .fill .ensures)
+returns c = whole-tree (c .before .before .before .before .before .before .args .p) _ maxVertices (c .before .before .before .before .if1 .taken) (c .before .fill .ensures)
 
 sub-t9 : tie.Need-sub-t9
 sub-t9 c =

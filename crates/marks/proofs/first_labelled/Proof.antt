@@ -1,7 +1,8 @@
 use Prim.Native.Nat.{_≤_, _-_}
 use native.Mathlib.Omega.{arith}
 use borrow.Author.Needs.{needs}
-use Rattle.marks.specs.Marks.{marked, labelled, among}
+use Rattle.marks.specs.Marks.{marked}
+use Rattle.marks.specs.Inner.{labelled, among}
 use Rattle.marks.proofs.Marks.{both-hit, both-miss}
 use Rattle.marks.proofs.Searches.{None, none-start, none-more, hit, ended}
 use Rattle.marks.proofs.first_labelled.Statement.{statement}

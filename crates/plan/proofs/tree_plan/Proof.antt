@@ -1,6 +1,8 @@
 -- `plan::tree_plan` meets its contract: `grow` lays the rows in columns that are all 0.
 use native.Mathlib.Omega.{arith}
-use Rattle.plan.proofs.Columns.{laid-empty, laid-plan}
+use Rattle.base.specs.Limits.{maxVertices, maxRows}
+use Rattle.plan_growth.proofs.Columns.{laid-empty}
+use Rattle.plan.proofs.TreePlan.{laid-plan}
 use borrow.Author.Needs.{needs}
 use Rattle.plan.proofs.tree_plan.Statement.{statement}
 use Rattle.plan.proofs.tree_plan.Tie as tie
@@ -23,7 +25,7 @@ slice-aggregate-grow-3 c = search needs
 grow-requires : tie.Need-grow-requires
 grow-requires c κs =
     let p = c .before .before .before .before .before .pre in
-    (laid-empty (c .before .before .before .before .before .args .v) 254 255 (omega arith) (omega arith) (omega arith), p .2, p .3, p .4, omega arith)
+    (laid-empty (c .before .before .before .before .before .args .v) maxRows maxVertices (omega arith) (omega arith) (omega arith), p .2, p .3, p .4, omega arith)
 
 returns : tie.Need-returns
 returns c =

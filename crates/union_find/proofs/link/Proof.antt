@@ -4,7 +4,7 @@ use mathlib.Core.Logic.{inl, inr}
 use Prim.Native.Nat.{_<_}
 use native.Mathlib.Omega.{arith}
 use borrow.Author.Needs.{needs}
-use Rattle.union_find.specs.Forest.{Top}
+use Rattle.union_find.specs.Inner.{Top}
 use Rattle.union_find.proofs.Roots.{rooted, placed}
 use Rattle.union_find.proofs.Sets.{weights-fit, linked-same, linked-under}
 use Rattle.union_find.proofs.link.Statement.{statement}

@@ -1,0 +1,52 @@
+-- The edges read so far, with the sets of a forest and the numbers of edges at hand: for the functions of this crate and of plan_groups.
+use mathlib.Core.Path.{_≡_}
+use mathlib.Core.Bool.{Bool, not, _&&_}
+use mathlib.Core.List.{List}
+use Prim.Native.Nat.{ℕ, _≤_, _<_}
+use lib.Dec.{ltb}
+use lib.ListN.{length, getD}
+use Rattle.base.specs.Pick.{pick}
+use Rattle.base.specs.Limits.{maxDegree, maxVertices, maxRows}
+use Rattle.tree.specs.Edges.{Edges, Below, edgesAt}
+use Rattle.union_find.specs.Inner.{together, Unions}
+use Rattle.edges.specs.declared.EdgeList.{EdgeList}
+use Rattle.edges.specs.Reading.{endsApart, notJoined, roomAtEnds}
+use Rattle.edges.specs.Rows.{rows}
+
+-- the number of the first question that is answered by no, or 0
+abbrev pub faultBy : Bool → Bool → Bool → ℕ
+faultBy apart free room = pick apart (pick free (pick room 0 9) 8) 7
+
+-- questions 7 to 9 of the ends a and b, asked of the edges before
+abbrev pub faultIn : ℕ → Edges → ℕ → ℕ → ℕ
+faultIn v E a b = faultBy (endsApart v a b) (notJoined E a b) (roomAtEnds E a b)
+
+-- the same, asked of the forest and of the numbers of edges
+unfoldable pub faultOf : ℕ → List ℕ → List ℕ → ℕ → ℕ → ℕ
+faultOf v up degree a b =
+    faultBy (endsApart v a b) (not (together v up a b)) (ltb (getD degree a 0) maxDegree && ltb (getD degree b 0) maxDegree)
+
+-- the numbers of edges at each position below v, within their limit
+pub record Degrees (v : ℕ) (E : Edges) (degree : List ℕ) : Type 0 where
+  pub counted : (x : ℕ) → x < v → getD degree x 0 ≡ edgesAt E x
+  pub most : (x : ℕ) → x < v → getD degree x 0 ≤ maxDegree
+
+-- the edges of a list, the latest first
+abbrev pub edgesIn : EdgeList → Edges
+edgesIn l = rows (l .one) (l .two) (l .count)
+
+-- the columns have their lengths
+pub record Columns (l : EdgeList) : Type 0 where
+  pub one : length (l .one) ≡ maxRows
+  pub two : length (l .two) ≡ maxRows
+  pub up : length (l .up) ≡ maxVertices
+  pub weight : length (l .weight) ≡ maxVertices
+  pub degree : length (l .degree) ≡ maxVertices
+
+-- the forest and the numbers of edges are those of the edges
+pub record Listing (l : EdgeList) : Type 0 where
+  pub within : l .vertices ≤ maxVertices
+  pub columns : Columns l
+  pub below : Below (l .vertices) (edgesIn l)
+  pub unions : Unions (l .vertices) (edgesIn l) (l .up) (l .weight)
+  pub degrees : Degrees (l .vertices) (edgesIn l) (l .degree)

@@ -1,0 +1,233 @@
+// A plan group by group: which group comes next, and what a group that was read makes of the plan so far. Only `finish` is lent the bytes, for their length.
+ghost use mathlib.Core.Path.{_≡_};
+ghost use mathlib.Core.Bool.{not};
+ghost use Prim.Native.Nat.{ℕ};
+ghost use lib.Dec.{T};
+ghost use Rattle.varint.specs.declared.VarintRead.{VarintRead};
+ghost use Rattle.plan.specs.Reading.{answered};
+ghost use Rattle.plan_groups.specs.declared.Next.{Next};
+ghost use Rattle.plan_groups.specs.Inner.{pastOf, wanting, Sound, restOf, kindNext, widthNext, afterEdges, Taken};
+
+// Which group comes next, or how the plan ended.
+pub enum Next {
+    Kind,
+    // a tree's vertex count
+    Count,
+    // the first end of an edge, and the second after the first
+    First,
+    Second { first: u32 },
+    // a range's low reading, and the width after the low reading's group
+    Low,
+    Width { low: u32 },
+    // no group: all edges are read
+    Tree,
+    // no group: the low reading, in offset binary, and the width
+    Range { low: u32, width: u32 },
+    // no group: a question was answered by no
+    Refused { number: u8, place: usize },
+}
+
+pub struct PlanSoFar {
+    pub next: Next,
+    pub edges: edges::EdgeList,
+}
+
+// The place past a group that was read at `at`.
+pub fn past(found: varint::VarintRead, at: usize) -> usize
+    ensures { λ r. ⌜ r ≡ pastOf found at ⌝ }
+{
+    match found {
+        varint::VarintRead::Value(_, next) => next,
+        varint::VarintRead::Short(_) => at,
+        varint::VarintRead::Malformed => at,
+    }
+}
+
+// Before the first group.
+pub fn begin() -> PlanSoFar
+    ensures { λ r. ⌜ r .next ≡ Next.Kind ⌝ }
+{
+    let k = Next::Kind;
+    let l = edges::no_edges(0);
+    PlanSoFar { next: k, edges: l }
+}
+
+fn wants_next(n: Next) -> bool
+    ensures { λ r. ⌜ r ≡ wanting n ⌝ }
+{
+    match n {
+        Next::Kind => true,
+        Next::Count => true,
+        Next::First => true,
+        Next::Second { first: _ } => true,
+        Next::Low => true,
+        Next::Width { low: _ } => true,
+        Next::Tree => false,
+        Next::Range { low: _, width: _ } => false,
+        Next::Refused {
+            number: _,
+            place: _,
+        } => false,
+    }
+}
+
+// Does a further group belong to the plan?
+pub fn wants(p: PlanSoFar) -> bool
+    ensures { λ r. ⌜ r ≡ wanting (p .next) ⌝ }
+{
+    let n = p.next;
+    wants_next(n)
+}
+
+// The question that was answered by no, and its place.
+fn refused(number: u8, place: usize) -> Next
+    ensures { λ r. ⌜ r ≡ Next.Refused number place ⌝ }
+{
+    Next::Refused { number, place }
+}
+
+// Question 5: the kind k, read at `at`.
+fn after_kind(k: u32, at: usize) -> Next
+    ensures { λ r. ⌜ r ≡ kindNext k at ⌝ }
+{
+    if k == 1 {
+        return Next::Count;
+    }
+    if k == 2 {
+        return Next::Low;
+    }
+    refused(5, at)
+}
+
+// Question 10: the width, read at `at`, after the low reading's group.
+fn after_width(low: u32, width: u32, at: usize) -> Next
+    ensures { λ r. ⌜ r ≡ widthNext low width at ⌝ }
+{
+    let reading = signed::offset_of_zigzag(low);
+    if base::MAX_WIDTH < width {
+        return refused(10, at);
+    }
+    if base::MAX_READING - reading < width {
+        return refused(10, at);
+    }
+    Next::Range {
+        low: reading,
+        width,
+    }
+}
+
+// A further edge, or the end of the tree.
+fn after_edges(l: edges::EdgeList) -> Next
+    ensures { λ r. ⌜ r ≡ afterEdges l ⌝ }
+{
+    if l.vertices <= 1 {
+        return Next::Tree;
+    }
+    if l.count < l.vertices - 1 {
+        return Next::First;
+    }
+    Next::Tree
+}
+
+// Question 6: the vertex count v, read at `at`.
+fn take_count(l: edges::EdgeList, v: u32, at: usize) -> PlanSoFar
+    ensures { λ r. ⌜ ((next : ℕ) → Taken Next.Count l (VarintRead.Value v next) at (r .next) (r .edges)) ⌝ }
+{
+    if v < 1 {
+        let n = refused(6, at);
+        return PlanSoFar { next: n, edges: l };
+    }
+    if base::MAX_VERTICES < v as usize {
+        let n = refused(6, at);
+        return PlanSoFar { next: n, edges: l };
+    }
+    let m = edges::no_edges(v as usize);
+    let n = after_edges(m);
+    PlanSoFar { next: n, edges: m }
+}
+
+// Questions 7 to 9: the second end b of an edge from a, read at `at`.
+fn take_second(l: edges::EdgeList, a: u32, b: u32, at: usize) -> PlanSoFar
+    requires { ⌜ Sound (Next.Second a) l ⌝ }
+    ensures { λ r. ⌜ ((next : ℕ) → Taken (Next.Second a) l (VarintRead.Value b next) at (r .next) (r .edges)) ⌝ }
+{
+    let fault = edges::fault(l, a as usize, b as usize);
+    if fault != 0 {
+        let n = refused(fault, at);
+        return PlanSoFar { next: n, edges: l };
+    }
+    let m = edges::add_edge(l, a as usize, b as usize);
+    let n = after_edges(m);
+    PlanSoFar { next: n, edges: m }
+}
+
+// A group that was found at `at`.
+pub fn take(p: PlanSoFar, found: varint::VarintRead, at: usize) -> PlanSoFar
+    requires { ⌜ Sound (p .next) (p .edges) ⌝ }
+    ensures { λ r. ⌜ (T (wanting (p .next)) → Taken (p .next) (p .edges) found at (r .next) (r .edges)) ⌝ }
+{
+    let l = p.edges;
+    let next = p.next;
+    let varint::VarintRead::Value(x, _) = found else {
+        let n = refused(4, at);
+        return PlanSoFar { next: n, edges: l };
+    };
+    match next {
+        Next::Kind => {
+            let n = after_kind(x, at);
+            PlanSoFar { next: n, edges: l }
+        }
+        Next::Count => take_count(l, x, at),
+        Next::First => {
+            let n = Next::Second { first: x };
+            PlanSoFar { next: n, edges: l }
+        }
+        Next::Second { first } => take_second(l, first, x, at),
+        Next::Low => {
+            let n = Next::Width { low: x };
+            PlanSoFar { next: n, edges: l }
+        }
+        Next::Width { low } => {
+            let n = after_width(low, x, at);
+            PlanSoFar { next: n, edges: l }
+        }
+        Next::Tree => p,
+        Next::Range { low: _, width: _ } => p,
+        Next::Refused {
+            number: _,
+            place: _,
+        } => p,
+    }
+}
+
+// Question 11: the plan that no further group belongs to, after its last group at `at`.
+pub fn finish(p: PlanSoFar, s: &[u8], at: usize) -> plan::PlanRead
+    requires { ⌜ Sound (p .next) (p .edges) ⌝ }
+    ensures { λ r. ⌜ (T (not (wanting (p .next))) → r ≡ answered (restOf (p .next) (p .edges) (now (s .entry)) at)) ⌝ }
+{
+    let l = p.edges;
+    let next = p.next;
+    match next {
+        Next::Tree => {
+            if at != s.len() {
+                return plan::refuse(11, at);
+            }
+            let one = l.one;
+            let two = l.two;
+            plan::accept(plan::tree_plan(&one, &two, l.vertices as u32))
+        }
+        Next::Range { low, width } => {
+            if s.len() != at {
+                return plan::refuse(11, at);
+            }
+            plan::accept(plan::range_plan(low, width))
+        }
+        Next::Refused { number, place } => plan::refuse(number, place),
+        Next::Kind => plan::refuse(4, at),
+        Next::Count => plan::refuse(4, at),
+        Next::First => plan::refuse(4, at),
+        Next::Second { first: _ } => plan::refuse(4, at),
+        Next::Low => plan::refuse(4, at),
+        Next::Width { low: _ } => plan::refuse(4, at),
+    }
+}

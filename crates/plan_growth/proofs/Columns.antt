@@ -1,0 +1,222 @@
+-- Laws of edges kept in columns: a row more, and how many rows there can be.
+use mathlib.Core.Path.{_≡_, refl, sym, ap, ap₂, _∙_, subst, subst₂}
+use mathlib.Core.Logic.{_⊎_, inl, inr}
+use mathlib.Core.List.{List, [], _∷_, _++_}
+use mathlib.Core.Bool.{Bool, true, false, not, _||_}
+use Prim.Native.Nat.{ℕ, zero, suc, _+_, _-_, _≤_, _<_}
+use native.Mathlib.Decide.{ℕ-discrete}
+use native.Mathlib.Numerals.{add-one}
+use native.Mathlib.Omega.{arith}
+use lib.Dec.{T, eqb, eqb→eq, eqb-refl, not-T}
+use lib.ListN.{length, getD, set, replicate, length-append, length-set, length-replicate, getD-replicate}
+use lib.Seq.{getD-set-same, getD-set-other, set-append-seam, append-snoc, getD-at}
+use borrow.Author.Tests.{ne-eqb}
+use Rattle.base.specs.Sets.{bit, count}
+use Rattle.base.proofs.Bools.{T→true, not-T→false, true→T, false→not-T}
+use Rattle.base.proofs.Counts.{count-pos, count-not}
+use Rattle.tree.specs.Edges.{Edge, Edges, Below}
+use Rattle.tree.specs.Growth.{reached, Grown, sweep, sweeps}
+use Rattle.tree.proofs.GrowthSweeps.{Settled, sweep-progress, sweeps-stop}
+use Rattle.tree.proofs.GrowthComplete.{reached-count, sweeps-length}
+use Rattle.edges.specs.Rows.{rows, column}
+use Rattle.plan_growth.specs.Inner.{edge, filled, Laid}
+
+-- ---- how many rows
+
+-- while a position below v is not reached there is room for a row
+pub room : (v : ℕ) (F : Edges) (x : ℕ) → 0 < v → Grown F → Below v F → x < v → (T (reached F x) → ⊥) → suc (suc (length F)) ≤ v
+room v F x h g b l d =
+    let p : 0 < count v (λ i. not (reached F i)) = count-pos v (λ i. not (reached F i)) x l (not-T (reached F x) d) in
+    omega (arith, reached-count v F h b g, count-not v (reached F))
+
+-- ---- columns
+
+pub column-length : (f : Edge → ℕ) (F : Edges) → length (column f F) ≡ length F
+unfolding column
+column-length f [] = refl
+column-length f (e ∷ F) = length-append (column f F) (f e ∷ []) ∙ ap (λ (n : ℕ). n + 1) (column-length f F) ∙ add-one (length F)
+
+-- a value stored at the first place that is not used
+pub store : (n : ℕ) (l : List ℕ) (x : ℕ) → length l < n → set (filled n l) (length l) x ≡ filled n (l ++ (x ∷ []))
+store n l x h = go (n - length l) (n - length (l ++ (x ∷ []))) refl refl
+  where
+    go : (i j : ℕ) → n - length l ≡ i → n - length (l ++ (x ∷ [])) ≡ j → set (l ++ replicate i 0) (length l) x ≡ (l ++ (x ∷ [])) ++ replicate j 0
+    go zero j a b = absurd (omega arith)
+    go (suc i) j a b =
+        let e : i ≡ j = omega (arith, length-append l (x ∷ [])) in
+        set-append-seam l 0 (replicate i 0) x ∙ sym (append-snoc l x (replicate i 0)) ∙ ap (λ (m : ℕ). (l ++ (x ∷ [])) ++ replicate m 0) e
+
+-- a position is reached exactly if its mark is 1
+pub bit-one : (b : Bool) → bit b ≡ 1 → T b
+bit-one true h = tt
+bit-one false h = omega arith
+
+pub one-bit : (b : Bool) → T b → bit b ≡ 1
+one-bit true h = refl
+one-bit false h = absurd h
+
+module _ {v : ℕ} {F : Edges} {parent child seen : List ℕ} {k : ℕ} (h : Laid v F parent child seen k) where
+  marked : (x : ℕ) → x < v → getD seen x 0 ≡ 1 → T (reached F x)
+  marked x l e = bit-one (reached F x) (sym (h .marks x l) ∙ e)
+
+  unmarked : (x : ℕ) → x < v → (getD seen x 0 ≡ 1 → ⊥) → T (reached F x) → ⊥
+  unmarked x l d r = d (h .marks x l ∙ one-bit (reached F x) r)
+
+  -- where a position below v is not marked, there is a place for a row
+  pub laid-room : (b : ℕ) → b < v → (getD seen b 0 ≡ 1 → ⊥) → (k < length parent) × (k < length child)
+  laid-room b l d =
+      let m : suc (suc (length F)) ≤ v = room v F b (h .some) (h .grown) (h .below) l (unmarked b l d) in
+      (omega (arith, h .many, h .places .0), omega (arith, h .many, h .places .1))
+
+  column-more : (f : Edge → ℕ) (l : List ℕ) (e : Edge) → k < length l → l ≡ filled (length l) (column f F) → set l k (f e) ≡ filled (length (set l k (f e))) (column f (e ∷ F))
+  unfolding column
+  column-more f l e w i =
+      let m : k ≡ length (column f F) = h .many ∙ sym (column-length f F) in
+      ap₂ (λ (x : List ℕ) (n : ℕ). set x n (f e)) i m
+      ∙ store (length l) (column f F) (f e) (omega arith)
+      ∙ ap (λ (n : ℕ). filled n (column f F ++ (f e ∷ []))) (sym (length-set l k (f e)))
+
+  mark-more : (b : ℕ) → b < v → (x : ℕ) → x < v → (c : Bool) → eqb x b ≡ c → getD (set seen b 1) x 0 ≡ bit (c || reached F x)
+  mark-more b lb x l true i = rw (eqb→eq x b (true→T i)) (getD-set-same seen b 1 0 (omega (arith, h .places .2)))
+  mark-more b lb x l false i = getD-set-other seen b x 1 0 (λ e. false→not-T i (subst (λ (z : ℕ). T (eqb x z)) e (eqb-refl x))) ∙ h .marks x l
+
+  -- a row more, from a position that is reached to one that is not
+  laid-more : (a b : ℕ) → a < v → b < v → getD seen a 0 ≡ 1 → (getD seen b 0 ≡ 1 → ⊥) → Laid v (edge a b ∷ F) (set parent k a) (set child k b) (set seen b 1) (k + 1)
+  unfolding reached
+  laid-more a b la lb r d =
+      let w = laid-room b lb d in
+      record {
+        some = h .some;
+        many = omega (arith, h .many);
+        parents = column-more (λ e. e .one) parent (edge a b) (w .0) (h .parents);
+        children = column-more (λ e. e .two) child (edge a b) (w .1) (h .children);
+        places = simp length-set (h .places);
+        grown = (marked a la r, unmarked b lb d, h .grown);
+        below = (la, lb, h .below);
+        marks = λ x l. mark-more b lb x l (eqb x b) refl;
+      }
+
+  -- the edge a-b, by the marks of its ends
+  pub extend-both : (a b : ℕ) → a < v → b < v → getD seen a 0 ≡ 1 → getD seen b 0 ≡ 1 → Laid v (sweep (edge a b ∷ []) F) parent child seen k
+  unfolding sweep
+  extend-both a b la lb r s = rw (T→true (reached F a) (marked a la r), T→true (reached F b) (marked b lb s)) h
+
+  pub extend-none : (a b : ℕ) → a < v → b < v → (getD seen a 0 ≡ 1 → ⊥) → (getD seen b 0 ≡ 1 → ⊥) → Laid v (sweep (edge a b ∷ []) F) parent child seen k
+  unfolding sweep
+  extend-none a b la lb r s = rw (not-T→false (reached F a) (unmarked a la r), not-T→false (reached F b) (unmarked b lb s)) h
+
+  pub extend-on : (a b : ℕ) {parent′ child′ seen′ : List ℕ} → a < v → b < v → getD seen a 0 ≡ 1 → (getD seen b 0 ≡ 1 → ⊥)
+      → parent′ ≡ set parent k a → child′ ≡ set child k b → seen′ ≡ set seen b 1 → Laid v (sweep (edge a b ∷ []) F) parent′ child′ seen′ (k + 1)
+  unfolding sweep
+  extend-on a b la lb r s e f g =
+      rw (e, f, g, T→true (reached F a) (marked a la r), not-T→false (reached F b) (unmarked b lb s)) (laid-more a b la lb r s)
+
+  pub extend-back : (a b : ℕ) {parent′ child′ seen′ : List ℕ} → a < v → b < v → (getD seen a 0 ≡ 1 → ⊥) → getD seen b 0 ≡ 1
+      → parent′ ≡ set parent k b → child′ ≡ set child k a → seen′ ≡ set seen a 1 → Laid v (sweep (edge a b ∷ []) F) parent′ child′ seen′ (k + 1)
+  unfolding sweep
+  extend-back a b la lb r s e f g =
+      rw (e, f, g, not-T→false (reached F a) (unmarked a la r), T→true (reached F b) (marked b lb s)) (laid-more b a lb la s r)
+
+-- the rows of the columns are F
+pub column-rows : (F : Edges) (xs ys : List ℕ) → rows (column (λ e. e .one) F ++ xs) (column (λ e. e .two) F ++ ys) (length F) ≡ F
+unfolding column rows
+column-rows [] xs ys = refl
+column-rows (e ∷ F) xs ys =
+    ap₂ (λ (ps cs : List ℕ). edge (getD ps (length F) 0) (getD cs (length F) 0) ∷ rows ps cs (length F))
+    (append-snoc (column (λ d. d .one) F) (e .one) xs) (append-snoc (column (λ d. d .two) F) (e .two) ys)
+    ∙ ap₂ (λ (a b : ℕ). edge a b ∷ rows (column (λ d. d .one) F ++ (e .one ∷ xs)) (column (λ d. d .two) F ++ (e .two ∷ ys)) (length F))
+    (getD-at (column (λ d. d .one) F) (e .one) xs 0 (length F) (column-length (λ d. d .one) F))
+    (getD-at (column (λ d. d .two) F) (e .two) ys 0 (length F) (column-length (λ d. d .two) F))
+    ∙ ap (λ (G : Edges). e ∷ G) (column-rows F (e .one ∷ xs) (e .two ∷ ys))
+
+pub laid-rows : {v : ℕ} {F : Edges} {parent child seen : List ℕ} {k : ℕ} → Laid v F parent child seen k → rows parent child k ≡ F
+laid-rows {v} {F} {parent} {child} {seen} {k} h =
+    ap₂ (λ (ps cs : List ℕ). rows ps cs k) (h .parents) (h .children)
+    ∙ ap (rows (filled (length parent) (column (λ e. e .one) F)) (filled (length child) (column (λ e. e .two) F))) (h .many)
+    ∙ column-rows F (replicate (length parent - length (column (λ e. e .one) F)) 0) (replicate (length child - length (column (λ e. e .two) F)) 0)
+
+-- so they can be named by the columns
+pub laid-named : {v : ℕ} {F : Edges} {parent child seen : List ℕ} {k : ℕ} → Laid v F parent child seen k → Laid v (rows parent child k) parent child seen k
+laid-named h = rw (laid-rows h) h
+
+-- ends of a row
+pub row-below : (v : ℕ) (ps cs : List ℕ) (m i : ℕ) → i < m → Below v (rows ps cs m) → (getD ps i 0 < v) × (getD cs i 0 < v)
+unfolding rows
+row-below v ps cs zero i l b = absurd (omega arith)
+row-below v ps cs (suc m) i l b = go (ℕ-discrete i m) (row-below v ps cs m i)
+  where
+    go : Dec (i ≡ m) → (i < m → Below v (rows ps cs m) → (getD ps i 0 < v) × (getD cs i 0 < v)) → (getD ps i 0 < v) × (getD cs i 0 < v)
+    go (yes e) ih = rw e (b .0, b .1)
+    go (no d) ih = ih (omega arith) (b .2)
+
+-- a sweep over one edge more
+pub laid-step : {v : ℕ} {p c s p′ c′ s′ : List ℕ} {k r : ℕ} (one two : List ℕ) (i : ℕ) (F : Edges) → Laid v (sweep (rows one two i) F) p c s k
+    → Laid v (sweep (edge (getD one i 0) (getD two i 0) ∷ []) (rows p c k)) p′ c′ s′ r → Laid v (sweep (rows one two (i + 1)) F) p′ c′ s′ r
+unfolding sweep rows
+laid-step {v} {p} {c} {s} {p′} {c′} {s′} {k} {r} one two i F h g =
+    rw (add-one i) (subst (λ (G : Edges). Laid v (sweep (edge (getD one i 0) (getD two i 0) ∷ []) G) p′ c′ s′ r) (laid-rows h) g)
+
+-- before the first edge
+pub laid-start : {v : ℕ} {p c s : List ℕ} {k : ℕ} (one two : List ℕ) (F : Edges) → Laid v F p c s k → Laid v (sweep (rows one two 0) F) p c s k
+unfolding sweep rows
+laid-start one two F h = h
+
+-- after the last
+pub laid-end : {v : ℕ} {p c s : List ℕ} {k : ℕ} (one two : List ℕ) (i m : ℕ) (F : Edges) → i ≡ m → Laid v (sweep (rows one two i) F) p c s k → Laid v (sweep (rows one two m) F) p c s k
+laid-end one two i m F e h = rw (← e) h
+
+-- ---- sweep after sweep
+
+-- before the first sweep
+pub laid-none : {v : ℕ} {p c s : List ℕ} (E : Edges) → Laid v [] p c s 0 → Laid v (sweeps 0 E) p c s 0
+unfolding sweeps
+laid-none E h = h
+
+-- one sweep more
+pub laid-again : {v : ℕ} {p c s p′ c′ s′ : List ℕ} {k r : ℕ} (E : Edges) (j : ℕ) → Laid v (sweeps j E) p c s k → Laid v (sweep E (rows p c k)) p′ c′ s′ r → Laid v (sweeps (j + 1) E) p′ c′ s′ r
+unfolding sweeps
+laid-again {v} {p} {c} {s} {p′} {c′} {s′} {k} {r} E j h g = rw (add-one j) (subst (λ (G : Edges). Laid v (sweep E G) p′ c′ s′ r) (laid-rows h) g)
+
+-- the sweep added no row: further ones add none
+pub laid-stop : {v : ℕ} {p c s p′ c′ s′ : List ℕ} {k r : ℕ} (E : Edges) (j m : ℕ) → j ≤ m → r ≡ k → Laid v (sweeps j E) p c s k → Laid v (sweep E (rows p c k)) p′ c′ s′ r
+    → Laid v (sweeps m E) p′ c′ s′ k
+laid-stop {v} {p} {c} {s} {p′} {c′} {s′} {k} {r} E j m l e h g = go (sweep-progress E (sweeps j E))
+  where
+    g′ : Laid v (sweep E (sweeps j E)) p′ c′ s′ k
+    g′ = subst₂ (λ (G : Edges) (n : ℕ). Laid v (sweep E G) p′ c′ s′ n) (laid-rows h) e g
+
+    go : ((sweep E (sweeps j E) ≡ sweeps j E) × Settled E (sweeps j E)) ⊎ (length (sweeps j E) < length (sweep E (sweeps j E))) → Laid v (sweeps m E) p′ c′ s′ k
+    go (inl (i, s)) = rw (sweeps-stop E j m l i, ← i) g′
+    go (inr i) = absurd (omega (arith, i, h .many, g′ .many))
+
+-- there are rows for all positions: further sweeps add none
+pub laid-full : {v : ℕ} {p c s : List ℕ} {k : ℕ} (E : Edges) (j m : ℕ) → j ≤ m → Below v E → k + 1 ≡ v → Laid v (sweeps j E) p c s k → Laid v (sweeps m E) p c s k
+laid-full {v} E j m l b e h = rw (sweeps-length v E (h .some) b j m l (omega (arith, h .many))) h
+
+-- after the last sweep
+pub laid-last : {v : ℕ} {p c s : List ℕ} {k : ℕ} (E : Edges) (j m : ℕ) → j ≡ m → Laid v (sweeps j E) p c s k → Laid v (sweeps m E) p c s k
+laid-last E j m e h = rw (← e) h
+
+-- ---- the first and the last
+
+-- columns that are all 0 hold no rows, and only 0 is reached
+pub laid-empty : (v n m : ℕ) → 0 < v → v ≤ suc n → v ≤ m → Laid v [] (replicate n 0) (replicate n 0) (set (replicate m 0) 0 1) 0
+unfolding reached column
+laid-empty v n m a b c =
+    record {
+      some = a;
+      many = refl;
+      parents = empty;
+      children = empty;
+      places = (omega (arith, length-replicate {A = ℕ} n 0), omega (arith, length-replicate {A = ℕ} n 0), omega (arith, length-set {A = ℕ} (replicate m 0) 0 1, length-replicate {A = ℕ} m 0));
+      grown = tt;
+      below = tt;
+      marks = λ x l. mark x l (ℕ-discrete x 0);
+    }
+  where
+    empty : replicate {A = ℕ} n 0 ≡ replicate (length (replicate {A = ℕ} n 0) - 0) 0
+    empty = let e : n ≡ length (replicate {A = ℕ} n 0) - 0 = omega (arith, length-replicate {A = ℕ} n 0) in ap (λ (j : ℕ). replicate {A = ℕ} j 0) e
+
+    mark : (x : ℕ) → x < v → Dec (x ≡ 0) → getD (set (replicate m 0) 0 1) x 0 ≡ bit (eqb x 0)
+    mark x l (yes e) = rw e (getD-set-same (replicate m 0) 0 1 0 (omega (arith, length-replicate {A = ℕ} m 0)))
+    mark x l (no d) = getD-set-other (replicate m 0) 0 x 1 0 d ∙ getD-replicate m x 0 0 (omega arith) ∙ sym (ap bit (ne-eqb x 0 d))

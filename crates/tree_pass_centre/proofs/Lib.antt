@@ -1,0 +1,2 @@
+pub mod SizePass
+pub mod LightPass
