@@ -1,11 +1,13 @@
 -- The definitions of journal records, case by case.
 use mathlib.Core.Path.{_≡_, sym, ap}
-use mathlib.Core.List.{List}
-use Prim.Native.Nat.{ℕ, _+_, _≤_}
+use mathlib.Core.List.{List, _++_}
+use Prim.Native.Nat.{ℕ, _+_, _≤_, _<_}
 use native.Mathlib.Omega.{arith}
 use lib.ListN.{length, length-append}
 use borrow.Author.Tests.{eq-eqb, ne-eqb}
 use Rattle.base.specs.Limits.{maxSender}
+use Rattle.base.specs.Put.{putAt}
+use Rattle.base.proofs.Puts.{then-put}
 use Rattle.varint.specs.declared.VarintRead.{VarintRead}
 use Rattle.varint.specs.declared.VarintRead.the-variants.{Value}
 use Rattle.varint.specs.Varint.{varintAt, varintWithin, varintBytes}
@@ -36,6 +38,31 @@ start-length agreement x = simp (length-append, length-last 1 (omega arith))
 pub taken-length : (sender : ℕ) (m : Message) → length (recordBytes (Taken sender m)) ≡ 1 + length (varintBytes sender) + length (messageBytes m)
 unfolding recordBytes
 taken-length sender m = simp (length-append, length-last 2 (omega arith))
+
+-- its tag has one, and the number after it the rest of its head
+pub head-length : (tag number : ℕ) → tag < 128 → length (varintBytes tag ++ varintBytes number) ≡ 1 + length (varintBytes number)
+head-length tag number h = simp (length-append, length-last tag h)
+
+-- written head first: from the first byte of l on, so that l1 and then l2 come of it
+abbrev pub Written : List ℕ → ℕ → List ℕ → ℕ → List ℕ → Type 0
+Written l at bs r l1 = (r ≡ at + length bs) × (l1 ≡ putAt l at bs)
+
+module _ (l l1 l2 : List ℕ) where
+  pub start-put : (a x i k : ℕ) → length (recordBytes (Start a x)) ≤ length l → (i ≡ length (varintBytes 1 ++ varintBytes a)) × (l1 ≡ putAt l 0 (varintBytes 1 ++ varintBytes a))
+      → Written l1 i (varintBytes x) k l2 → (k ≡ length (recordBytes (Start a x))) × (l2 ≡ putAt l 0 (recordBytes (Start a x)))
+  unfolding recordBytes
+  start-put a x i k f h w =
+      let n = start-length a x in
+      let m = head-length 1 a (omega arith) in
+      (omega (arith, h .0, w .0), then-put l l1 l2 0 i (varintBytes 1 ++ varintBytes a) (varintBytes x) (omega arith) (h .1) (omega (arith, h .0)) (w .1))
+
+  pub taken-put : (s : ℕ) (m : Message) (i k : ℕ) → length (recordBytes (Taken s m)) ≤ length l → (i ≡ length (varintBytes 2 ++ varintBytes s)) × (l1 ≡ putAt l 0 (varintBytes 2 ++ varintBytes s))
+      → Written l1 i (messageBytes m) k l2 → (k ≡ length (recordBytes (Taken s m))) × (l2 ≡ putAt l 0 (recordBytes (Taken s m)))
+  unfolding recordBytes
+  taken-put s m i k f h w =
+      let n = taken-length s m in
+      let b = head-length 2 s (omega arith) in
+      (omega (arith, h .0, w .0), then-put l l1 l2 0 i (varintBytes 2 ++ varintBytes s) (messageBytes m) (omega arith) (h .1) (omega (arith, h .0)) (w .1))
 
 -- a message has at most four varints, in the table or not
 pub message-most : (m : Message) → length (messageBytes m) ≤ 20

@@ -1,24 +1,28 @@
 // Journal records: a start, or a taken message.
 ghost use mathlib.Core.Path.{_≡_};
+ghost use mathlib.Core.List.{_++_};
 ghost use Prim.Native.Nat.{_+_, _≤_};
 ghost use lib.ListN.{length};
 ghost use Rattle.base.specs.Put.{putAt};
 ghost use Rattle.base.specs.Limits.{maxPosition, maxSender};
-ghost use Rattle.varint.specs.Varint.{varintAt, varintWithin};
+ghost use Rattle.varint.specs.Varint.{varintAt, varintWithin, varintBytes};
 ghost use Rattle.message.specs.Message.{messageAt};
-ghost use Rattle.journal.specs.declared.Record.the-variants.{Start, Taken};
 ghost use Rattle.journal.specs.Journal.{recordBytes, recordAt, withPosition, withAgreement, withMessage, withSender};
 
 pub enum Record {
-    // agreement number and position
-    Start(u32, u32),
-    // sender and message
-    Taken(u8, message::Message),
+    Start {
+        agreement: u32,
+        position: u32,
+    },
+    Taken {
+        sender: u8,
+        message: message::Message,
+    },
 }
 
 // What reading a record finds: it and the place past it; a beginning of one, which only further bytes could make whole; or neither.
 pub enum RecordRead {
-    Read(Record, usize),
+    Read { record: Record, next: usize },
     Torn,
     Bad,
 }
@@ -28,7 +32,13 @@ fn read_position(s: &[u8], at: usize, agreement: u32) -> RecordRead
     ensures { λ r. ⌜ r ≡ withPosition agreement (varintWithin 0 maxPosition (now (s .entry)) at) ⌝ }
 {
     match varint::read_within(s, at, 0, base::MAX_POSITION) {
-        varint::VarintRead::Value(x, end) => RecordRead::Read(Record::Start(agreement, x), end),
+        varint::VarintRead::Value(x, end) => RecordRead::Read {
+            record: Record::Start {
+                agreement: agreement,
+                position: x,
+            },
+            next: end,
+        },
         varint::VarintRead::Short(_) => RecordRead::Torn,
         varint::VarintRead::Malformed => RecordRead::Bad,
     }
@@ -50,7 +60,13 @@ fn read_message(s: &[u8], at: usize, sender: u8) -> RecordRead
     ensures { λ r. ⌜ r ≡ withMessage sender (messageAt (now (s .entry)) at) ⌝ }
 {
     match message::read_at(s, at) {
-        message::MessageRead::Read(m, end) => RecordRead::Read(Record::Taken(sender, m), end),
+        message::MessageRead::Read(m, end) => RecordRead::Read {
+            record: Record::Taken {
+                sender: sender,
+                message: m,
+            },
+            next: end,
+        },
         message::MessageRead::Short => RecordRead::Torn,
         message::MessageRead::Bad => RecordRead::Bad,
     }
@@ -88,39 +104,40 @@ pub fn size(r: Record) -> usize
     ensures { λ k. ⌜ k ≡ length (recordBytes r) ⌝ }
 {
     match r {
-        Record::Start(agreement, x) => 1 + varint::size(agreement) + varint::size(x),
-        Record::Taken(sender, m) => 1 + varint::size(sender as u32) + message::size(m),
+        Record::Start {
+            agreement,
+            position: x,
+        } => 1 + varint::size(agreement) + varint::size(x),
+        Record::Taken { sender, message: m } => 1 + varint::size(sender as u32) + message::size(m),
     }
 }
 
-// A start's record is written from the slice's first byte on; its length.
-fn put_start(out: &mut [u8], agreement: u32, x: u32) -> usize
-    requires { ⌜ length (recordBytes (Start agreement x)) ≤ length (now out) ⌝ }
-    ensures { λ k. ⌜ (k ≡ length (recordBytes (Start agreement x))) × (now (out .exit) ≡ putAt (now (out .entry)) 0 (recordBytes (Start agreement x))) ⌝ }
+// A record's tag and the number after it are written from the slice's first byte on; the place past them.
+fn put_head(out: &mut [u8], tag: u32, number: u32) -> usize
+    requires { ⌜ length (varintBytes tag ++ varintBytes number) ≤ length (now out) ⌝ }
+    ensures { λ k. ⌜ (k ≡ length (varintBytes tag ++ varintBytes number)) × (now (out .exit) ≡ putAt (now (out .entry)) 0 (varintBytes tag ++ varintBytes number)) ⌝ }
 {
-    let i = varint::put(out, 0, 1);
-    let j = varint::put(out, i, agreement);
-    varint::put(out, j, x)
+    let i = varint::put(out, 0, tag);
+    varint::put(out, i, number)
 }
 
-// The same of a taken message's record.
-fn put_taken(out: &mut [u8], sender: u8, m: message::Message) -> usize
-    requires { ⌜ length (recordBytes (Taken sender m)) ≤ length (now out) ⌝ }
-    ensures { λ k. ⌜ (k ≡ length (recordBytes (Taken sender m))) × (now (out .exit) ≡ putAt (now (out .entry)) 0 (recordBytes (Taken sender m))) ⌝ }
-{
-    let i = varint::put(out, 0, 2);
-    let j = varint::put(out, i, sender as u32);
-    message::put(out, j, m)
-}
-
-// The same of any record.
+// A record is written from the slice's first byte on; its length.
 fn put(out: &mut [u8], r: Record) -> usize
     requires { ⌜ length (recordBytes r) ≤ length (now out) ⌝ }
     ensures { λ k. ⌜ (k ≡ length (recordBytes r)) × (now (out .exit) ≡ putAt (now (out .entry)) 0 (recordBytes r)) ⌝ }
 {
     match r {
-        Record::Start(agreement, x) => put_start(out, agreement, x),
-        Record::Taken(sender, m) => put_taken(out, sender, m),
+        Record::Start {
+            agreement,
+            position: x,
+        } => {
+            let i = put_head(out, 1, agreement);
+            varint::put(out, i, x)
+        }
+        Record::Taken { sender, message: m } => {
+            let i = put_head(out, 2, sender as u32);
+            message::put(out, i, m)
+        }
     }
 }
 

@@ -7,9 +7,8 @@ use lib.ListN.{getD, set, replicate}
 use Rattle.base.specs.Pick.{pick}
 use Rattle.base.specs.Sets.{Set}
 use Rattle.base.specs.Limits.{levelCount}
-use Rattle.tree.specs.Component.{upto}
 use Rattle.plan.specs.declared.Plan.{Plan}
-use Rattle.component.specs.Component.{sizeOf, centreOf, degreeOf, portOf, neighbourOf, sideOf}
+use Rattle.component.specs.Component.{wholeOf, sizeOf, centreOf, degreeOf, portOf, neighbourOf, sideOf}
 use Rattle.message.specs.declared.Message.{Message}
 use Rattle.level.specs.declared.Level.{Level}
 use Rattle.level.specs.declared.Context.{Context}
@@ -30,7 +29,7 @@ withLevel p i l =
 
 -- level 0 is over the whole plan, and each next over a side of the one before
 unfoldable pub componentOf : Party → ℕ → Set
-componentOf p zero = upto (p .plan .count)
+componentOf p zero = wholeOf (p .plan)
 componentOf p (suc i) = sideOf (p .plan) (componentOf p i) (levelAt p (suc i) .side)
 
 -- the board has started: it has entered level 0
@@ -59,7 +58,7 @@ entering p i S k x = withLevel p i (withEntry (levelAt p i) k x (pick (leb 3 (si
 
 -- "A board enters level 0 at its start, at its input."
 unfoldable pub entered : Party → ℕ → Party
-entered p x = entering p 0 (upto (p .plan .count)) 0 x
+entered p x = entering p 0 (wholeOf (p .plan)) 0 x
 
 -- the message is held already
 unfoldable pub heldBy : Party → ℕ → Message → Bool

@@ -79,7 +79,7 @@ runUpTo (suc f) p =
     (oneMore (madeBy (p .agreement) (openLevel p) (ruleAt p (openLevel p) .effect)) (runUpTo f (stepAt p (openLevel p))))
     (resting p)
 
--- crate bounds shows that no rule applies after that many (run-quiescent) and that a life counts at most maxRules (within-rules)
+-- crate party_bounds shows that no rule applies after that many (run-quiescent) and that a life counts at most maxRules (within-rules)
 unfoldable pub run : Party → Ran
 run p = runUpTo maxRules p
 

@@ -1,11 +1,12 @@
 -- Document 01, question 19, part by part.
 use mathlib.Core.Bool.{Bool, true, false, not, _&&_, _||_}
 use mathlib.Core.List.{List, [], _∷_}
-use Prim.Native.Nat.{ℕ, zero, suc, _+_, _*_}
+use Prim.Native.Nat.{ℕ, zero, suc}
 use lib.Dec.{leb, ltb, eqb}
 use Rattle.base.specs.Pick.{pick}
 use Rattle.base.specs.Sets.{Set}
-use Rattle.base.specs.Limits.{maxBoards, levelCount}
+use Rattle.base.specs.Limits.{levelCount}
+use Rattle.settings.specs.Settings.{settingsFit}
 use Rattle.plan.specs.Valid.{planValid}
 use Rattle.component.specs.Component.{sizeOf, degreeOf}
 use Rattle.message.specs.Message.{noneValue}
@@ -22,7 +23,7 @@ everyLevel (suc i) f = everyLevel i f && f i
 
 -- "whose settings pass 1 to 3"
 abbrev pub settingsPass : Party → Bool
-settingsPass p = (leb 1 (p .n) && leb (p .n) maxBoards) && (ltb (3 * p .t) (p .n) && ltb (p .own) (p .n))
+settingsPass p = settingsFit (p .n) (p .t) (p .own)
 
 -- "whose sender sets name only boards below n"
 unfoldable pub setsPass : ℕ → List ℕ → Bool

@@ -7,7 +7,7 @@ use native.Mathlib.Omega.{arith}
 use lib.Dec.{T}
 use lib.ListN.{length}
 use Rattle.base.specs.Pick.{pick}
-use Rattle.base.specs.Limits.{lastLevel, maxRules, outgoingSize}
+use Rattle.base.specs.Limits.{lastLevel, maxRules, outgoingSize, messageSize}
 use Rattle.plan.specs.declared.Plan.{Plan}
 use Rattle.plan.specs.Valid.{planValid}
 use Rattle.message.specs.declared.Message.{Message}
@@ -20,6 +20,7 @@ use Rattle.party.specs.Party.{newParty, started, entered, heldBy, hearing}
 use Rattle.party.specs.Valid.{settingsPass}
 use Rattle.party.specs.Run.{Ran, resting, run, starting, taking, bytesOf}
 use Rattle.party_life.specs.Life.{replayed, following, lived, Fits, Life}
+use Rattle.party_life.proofs.Fits.{fits-start, fits-taken}
 use Rattle.party_laws.proofs.Laws.{sending-entered, open-sending, run-keeps, starting-keeps, taking-keeps, entered-level, keeps-hearing, keeps-entered}
 use Rattle.party_laws.proofs.Calls.{new-level}
 use Rattle.party_bounds.proofs.Measures.{Aged}
@@ -40,8 +41,8 @@ sized-taking p z s m h k = taking-keeps Sized (λ q i w. sized-step q w i) p s m
 
 pub sized-replayed : (p : Party) → Sized p → (r : Record) → Fits p r → Sized (replayed p r .party)
 unfolding replayed
-sized-replayed p z (Start a x) f = sized-starting p z x (f .1) (f .2)
-sized-replayed p z (Taken s m) f = sized-taking p z s m (f .1) (f .2)
+sized-replayed p z (Start a x) f = let g = fits-start p a x f in sized-starting p z x (g .1) (g .2)
+sized-replayed p z (Taken s m) f = let g = fits-taken p s m f in sized-taking p z s m (g .1) (g .2)
 
 pub sized-lived : (p : Party) → Sized p → (rs : List Record) → Life p rs → Sized (lived p rs .party)
 unfolding lived
@@ -90,8 +91,8 @@ module _ (L : ℕ) (all : lastLevel < L) where
 
   pub replayed-within : (p : Party) → Sized p → (r : Record) → Fits p r → Within L p (replayed p r)
   unfolding replayed
-  replayed-within p z (Start a x) f = starting-within p z x (f .1) (f .2)
-  replayed-within p z (Taken s m) f = taking-within p z s m (f .1) (f .2)
+  replayed-within p z (Start a x) f = let g = fits-start p a x f in starting-within p z x (g .1) (g .2)
+  replayed-within p z (Taken s m) f = let g = fits-taken p s m f in taking-within p z s m (g .1) (g .2)
 
   -- a whole life
   pub lived-within : (p : Party) → Sized p → (rs : List Record) → Life p rs → Within L p (lived p rs)
@@ -108,12 +109,12 @@ pub within-rules : (p : Party) (r : Ran) → Within (lastLevel + 1) p r → r .r
 within-rules p r w = omega (arith, w .rules, rules-most (lastLevel + 1) p)
 
 -- "2,640 bytes (15 × 22 × 8)"
-pub outgoing-enough : (p : Party) → 8 * messagesLeft (lastLevel + 1) p ≤ outgoingSize
+pub outgoing-enough : (p : Party) → messageSize * messagesLeft (lastLevel + 1) p ≤ outgoingSize
 outgoing-enough p = omega (arith, messages-most (lastLevel + 1) p)
 
-pub within-outgoing : ((m : Message) → T (inTable m) → length (messageBytes m) ≤ 8) → (p : Party) (r : Ran) → Within (lastLevel + 1) p r
+pub within-outgoing : ((m : Message) → T (inTable m) → length (messageBytes m) ≤ messageSize) → (p : Party) (r : Ran) → Within (lastLevel + 1) p r
     → length (bytesOf (r .made)) ≤ outgoingSize
-within-outgoing short p r w = omega (arith, within-bytes 8 short (lastLevel + 1) p r w, outgoing-enough p)
+within-outgoing short p r w = omega (arith, within-bytes messageSize short (lastLevel + 1) p r w, outgoing-enough p)
 
 -- over all starts and takes from set-up
 pub set-up-rules : (n t own a : ℕ) (plan : Plan) → T (settingsPass (newParty n t own a plan)) → T (planValid plan) → (rs : List Record)
@@ -142,8 +143,8 @@ taking-quiescent p z q s m h k = go (heldBy p s m)
 
 pub replayed-quiescent : (p : Party) → Sized p → Quiescent p → (r : Record) → Fits p r → Quiescent (replayed p r .party)
 unfolding replayed
-replayed-quiescent p z q (Start a x) f = starting-quiescent p z x (f .1) (f .2)
-replayed-quiescent p z q (Taken s m) f = taking-quiescent p z q s m (f .1) (f .2)
+replayed-quiescent p z q (Start a x) f = let g = fits-start p a x f in starting-quiescent p z x (g .1) (g .2)
+replayed-quiescent p z q (Taken s m) f = let g = fits-taken p s m f in taking-quiescent p z q s m (g .1) (g .2)
 
 pub lived-quiescent : (p : Party) → Sized p → Quiescent p → (rs : List Record) → Life p rs → Quiescent (lived p rs .party)
 unfolding lived

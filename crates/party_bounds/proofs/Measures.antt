@@ -11,7 +11,7 @@ use Rattle.base.specs.Sets.{bit}
 use Rattle.message.specs.declared.Body.{Body}
 use Rattle.level.specs.declared.Level.{Level}
 use Rattle.level.specs.Level.{noOutput, withHeard, withEntry}
-use Rattle.level.proofs.Bounds as Bounds
+use Rattle.level_laws.proofs.Bounds as Bounds
 use Rattle.party.specs.declared.Party.{Party}
 use Rattle.party.specs.Party.{levelAt}
 use Rattle.party_bounds.proofs.Sums.{sum, sum-most, sum-le, sum-less}

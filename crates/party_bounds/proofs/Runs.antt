@@ -17,7 +17,7 @@ use Rattle.message.specs.Message.{inTable, messageBytes}
 use Rattle.level.specs.declared.Effect.{Effect}
 use Rattle.level.specs.declared.Effect.the-variants.{Nothing, Quiet, Send, Enter, SendEnter}
 use Rattle.level.specs.Rules.{applies}
-use Rattle.level.proofs.Moves.{AtRest, lowest-rest}
+use Rattle.level_laws.proofs.Moves.{AtRest, lowest-rest}
 use Rattle.party.specs.declared.Party.{Party}
 use Rattle.party.specs.Party.{levelAt, sending, contextOf}
 use Rattle.party.specs.Run.{Ran, ruleAt, openAt, openLevel, madeBy, stepAt, resting, oneMore, runUpTo, bytesOf}

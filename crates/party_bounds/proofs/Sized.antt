@@ -11,21 +11,20 @@ use lib.ListN.{length, length-set, length-replicate}
 use Rattle.base.specs.Pick.{pick}
 use Rattle.base.specs.Sets.{Set}
 use Rattle.base.specs.Limits.{levelCount}
-use Rattle.tree.specs.Component.{upto}
 use Rattle.plan.specs.declared.Plan.{Plan}
 use Rattle.plan.specs.Valid.{planValid}
-use Rattle.component.specs.Component.{sizeOf, sideOf}
+use Rattle.component.specs.Component.{wholeOf, sizeOf, sideOf}
 use Rattle.message.specs.declared.Message.{Message}
 use Rattle.message.specs.Message.{inTable}
 use Rattle.level.specs.declared.Level.{Level}
 use Rattle.level.specs.declared.Context.{Context}
 use Rattle.level.specs.declared.Effect.{Effect}
 use Rattle.level.specs.declared.Effect.the-variants.{Nothing, Quiet, Send, Enter, SendEnter}
-use Rattle.level.specs.Level.{noOutput, withHeard, withEntry}
+use Rattle.level.specs.Level.{noOutput, withHeard, withEntry, valueCount}
 use Rattle.level.specs.Rules.{applies}
-use Rattle.level.proofs.Bounds as Bounds
-use Rattle.level.proofs.Moves.{Move}
-use Rattle.level.proofs.Moves.{port-echo, none-echo, first-proposal, first-value, first-none, own-echo, relay, second-proposal, sure-result, none-result, unsure-result, centre-output, sure-entry, unsure-entry, centre-message, sided-entry, told-output, next-output}
+use Rattle.level_laws.proofs.Bounds as Bounds
+use Rattle.level_laws.proofs.Moves.{Move}
+use Rattle.level_laws.proofs.Moves.{port-echo, none-echo, first-proposal, first-value, first-none, own-echo, relay, second-proposal, sure-result, none-result, unsure-result, centre-output, sure-entry, unsure-entry, centre-message, sided-entry, told-output, next-output}
 use Rattle.level_laws.proofs.Grows.{move-unmoved}
 use Rattle.party.specs.declared.Party.{Party}
 use Rattle.party.specs.Party.{newParty, levelAt, withLevel, componentOf, contextOf, sending, entering, entered, started, hearing}
@@ -38,7 +37,7 @@ use Rattle.party_bounds.proofs.Measures.{Later, same, heard, entry, Age
 -- a party that passes question 19 and has all its levels, each with a place for every second echo
 pub record Sized (p : Party) : Type 0 where
   pub formed : Formed p
-  pub echoes : (i : ℕ) → i < levelCount → length (levelAt p i .echoed) ≡ 17
+  pub echoes : (i : ℕ) → i < levelCount → length (levelAt p i .echoed) ≡ valueCount
 
 -- ---- positions
 
@@ -49,7 +48,7 @@ position-low p w x h = omega (arith, shape (p .plan) (valid→ p (w .valid) .pla
 entered-low : (p : Party) → Formed p → (i : ℕ) → T (levelAt p i .entered) → levelAt p i .position < noOutput
 entered-low p w i h =
     let e = entered-level p w i h in
-    position-low p w (levelAt p i .position) (e .component .below (levelAt p i .position) (e .place))
+    position-low p w (levelAt p i .position) (e .plan .below (levelAt p i .position) (e .place))
 
 -- ---- a level entered
 
@@ -141,17 +140,17 @@ aged-hearing p s m = record {
 pub aged-entered : (p : Party) → Formed p → (x : ℕ) → Formed (entered p x) → Aged p (entered p x)
 unfolding entered
 aged-entered p w x v = record {
-  entered = λ i. ap (λ (l : Level). l .entered) (entry-other p 0 (upto (p .plan .count)) 0 x (i + 1) (λ e. omega arith));
+  entered = λ i. ap (λ (l : Level). l .entered) (entry-other p 0 (wholeOf (p .plan)) 0 x (i + 1) (λ e. omega arith));
   levels = λ i. at i (ℕ-discrete i 0);
 }
   where
     q : Party
-    q = entering p 0 (upto (p .plan .count)) 0 x
+    q = entering p 0 (wholeOf (p .plan)) 0 x
 
     at : (i : ℕ) → Dec (i ≡ 0) → Later (levelAt p i) (levelAt q i)
     at i (yes e) =
-        subst (λ (z : ℕ). Later (levelAt p z) (levelAt q z)) (sym e) (entering-later p 0 (upto (p .plan .count)) 0 x (omega (arith, w .full)) v)
-    at i (no d) = subst (Later (levelAt p i)) (sym (entry-other p 0 (upto (p .plan .count)) 0 x i d)) same
+        subst (λ (z : ℕ). Later (levelAt p z) (levelAt q z)) (sym e) (entering-later p 0 (wholeOf (p .plan)) 0 x (omega (arith, w .full)) v)
+    at i (no d) = subst (Later (levelAt p i)) (sym (entry-other p 0 (wholeOf (p .plan)) 0 x i d)) same
 
 -- ---- places for second echoes
 
@@ -189,7 +188,7 @@ aged-sized p q z w a = record { formed = w; echoes = λ i l. later-echoes (level
 pub sized-new : (n t own a : ℕ) (plan : Plan) → T (settingsPass (newParty n t own a plan)) → T (planValid plan) → Sized (newParty n t own a plan)
 sized-new n t own a plan s h = record {
   formed = formed-new n t own a plan s h;
-  echoes = λ i l. ap (λ (m : Level). length (m .echoed)) (new-level n t own a plan i l) ∙ length-replicate 17 false;
+  echoes = λ i l. ap (λ (m : Level). length (m .echoed)) (new-level n t own a plan i l) ∙ length-replicate valueCount false;
 }
 
 -- a message of the table taken from a board
@@ -209,7 +208,7 @@ sized-step p z i h = record { formed = formed-step p (z .formed) i h; echoes = �
     r : Ruled p i (ruleAt p i .level) (Bounds.enters (ruleAt p i .effect)) (stepAt p i)
     r = open-ruled p (z .formed) i h
 
-    at : (j : ℕ) → j < levelCount → Dec (j ≡ i) → length (levelAt (stepAt p i) j .echoed) ≡ 17
+    at : (j : ℕ) → j < levelCount → Dec (j ≡ i) → length (levelAt (stepAt p i) j .echoed) ≡ valueCount
     at j l (yes e) =
         ap (λ (k : ℕ). length (levelAt (stepAt p i) k .echoed)) e ∙ ap (λ (m : Level). length (m .echoed)) (r .here)
         ∙ move-echoes (contextOf p i) (levelAt p i) (ruleAt p i .level) (ruleAt p i .effect) (open-move p i h)

@@ -7,7 +7,7 @@ use native.Mathlib.Omega.{arith}
 use lib.Dec.{T, leb, le→leb}
 use lib.ListN.{length}
 use Rattle.base.specs.Sets.{bit}
-use Rattle.base.specs.Limits.{lastLevel}
+use Rattle.base.specs.Limits.{lastLevel, levelRules, levelMessages}
 use Rattle.base.proofs.Bools.{T-and, T→true}
 use Rattle.message.specs.declared.Body.the-variants.{Side}
 use Rattle.message.specs.declared.Message.{Message}
@@ -18,9 +18,10 @@ use Rattle.level.specs.declared.Effect.{Effect}
 use Rattle.level.specs.declared.Effect.the-variants.{Nothing, Quiet, Send, Enter, SendEnter}
 use Rattle.level.specs.Level.{notYet}
 use Rattle.level.specs.Rules.{applies}
-use Rattle.level.proofs.Bounds as Bounds
-use Rattle.level.proofs.Moves.{Move, Candidate}
-use Rattle.level.proofs.Moves.{port-echo, none-echo, first-proposal, first-value, first-none, own-echo, relay, second-proposal, sure-result, none-result, unsure-result, centre-output, sure-entry, unsure-entry, centre-message, sided-entry, told-output, next-output}
+use Rattle.level_laws.proofs.Bounds as Bounds
+use Rattle.level_laws.proofs.Moves.{Move}
+use Rattle.level_laws.specs.Inner.{Candidate}
+use Rattle.level_laws.proofs.Moves.{port-echo, none-echo, first-proposal, first-value, first-none, own-echo, relay, second-proposal, sure-result, none-result, unsure-result, centre-output, sure-entry, unsure-entry, centre-message, sided-entry, told-output, next-output}
 use Rattle.party.specs.declared.Party.{Party}
 use Rattle.party.specs.Party.{levelAt, contextOf}
 use Rattle.party.specs.Run.{ruleAt, openAt, madeBy, stepAt}
@@ -36,11 +37,11 @@ abbrev pub messagesLeft : ℕ → Party → ℕ
 messagesLeft L p = total Bounds.messagesLeft L p
 
 -- "26 rules", "22 worst" for each level
-pub rules-most : (L : ℕ) (p : Party) → rulesLeft L p ≤ 26 * L
-rules-most L p = total-most Bounds.rulesLeft 26 Bounds.rules-most L p
+pub rules-most : (L : ℕ) (p : Party) → rulesLeft L p ≤ levelRules * L
+rules-most L p = total-most Bounds.rulesLeft levelRules Bounds.rules-most L p
 
-pub messages-most : (L : ℕ) (p : Party) → messagesLeft L p ≤ 22 * L
-messages-most L p = total-most Bounds.messagesLeft 22 Bounds.messages-most L p
+pub messages-most : (L : ℕ) (p : Party) → messagesLeft L p ≤ levelMessages * L
+messages-most L p = total-most Bounds.messagesLeft levelMessages Bounds.messages-most L p
 
 -- ---- a message taken, and a start
 

@@ -11,6 +11,7 @@ use lib.Dec.{T, leb, ltb, leb→le, le→leb, ltb→lt}
 use lib.ListN.{length, getD, set, length-set, length-map}
 use lib.Seq.{getD-set-same, getD-set-other}
 use borrow.Author.Tests.{lt-ltb, le-ltb}
+use Rattle.level.specs.Level.{valueCount}
 use Rattle.base.specs.Sets.{Set}
 use Rattle.base.specs.Limits.{levelCount}
 use Rattle.base.proofs.Bools.{T-and, T-left, T-right, T-dec, T→true, true→T, not-T→false, T-ext}
@@ -27,8 +28,7 @@ use Rattle.party.specs.Valid.{everyLevel, settingsPass, setsPass, outputPasses,
 use Rattle.party_laws.proofs.Laws.{valid→, sending-entered, sending-three}
 use Rattle.party_laws.proofs.Components as components
 use Rattle.party_inspect.specs.declared.Inspected.{Inspected}
-use Rattle.party_inspect.specs.Arrays.{Filled}
-use Rattle.party_inspect.specs.Inner.{entryFits, partOf, resultsFit, placeFits, levelFits, Deepest, Ready, Adds, Answers}
+use Rattle.party_inspect.specs.Inner.{entryFits, partOf, resultsFit, placeFits, levelFits, Deepest, Ready, Adds, Answers, Filled}
 use Rattle.party_inspect.proofs.Entries.{below→, →below, entry-plan}
 
 -- the chart of the levels below i
@@ -254,7 +254,7 @@ pub record Passed (p : Party) (i : ℕ) (c : Chart) : Type 0 where
   pub levels : T (everyLevel i (levelPasses p))
   pub chart : ChartsTo p i c
   pub room : length (c .surveys) ≡ levelCount
-  pub echoed : (j : ℕ) → j < i → length (levelAt p j .echoed) ≡ 17
+  pub echoed : (j : ℕ) → j < i → length (levelAt p j .echoed) ≡ valueCount
 
 -- a level added is written in its place
 adds-room : (p : Plan) (b : Bool) (S : Set) (x i : ℕ) (c d : Chart) → Adds p b S x i c d → length (d .surveys) ≡ length (c .surveys)
@@ -299,7 +299,7 @@ module _ (p : Party) where
 
   -- a level passes
   pub passed-next : (i : ℕ) (c : Chart) (r : Inspected) → T (planValid (p .plan)) → i < levelCount → Passed p i c
-      → Answers (p .plan) (levelFits (p .plan) (p .n) (levelAt p i) c i) (levelAt p i) c i r → length (levelAt p i .echoed) ≡ 17 → r .ok ≡ true → Passed p (i + 1) (r .chart)
+      → Answers (p .plan) (levelFits (p .plan) (p .n) (levelAt p i) c i) (levelAt p i) c i r → length (levelAt p i .echoed) ≡ valueCount → r .ok ≡ true → Passed p (i + 1) (r .chart)
   unfolding everyLevel
   passed-next i c r v h P a q e =
       let t : T (levelPasses p i) = true→T (sym (level-same p i c (P .chart)) ∙ sym (a .passes) ∙ e) in
@@ -311,7 +311,7 @@ module _ (p : Party) where
         echoed = λ j l. at j (ℕ-discrete j i) l;
       })
     where
-      at : (j : ℕ) → Dec (j ≡ i) → j < suc i → length (levelAt p j .echoed) ≡ 17
+      at : (j : ℕ) → Dec (j ≡ i) → j < suc i → length (levelAt p j .echoed) ≡ valueCount
       at j (yes w) l = ap (λ (k : ℕ). length (levelAt p k .echoed)) w ∙ q
       at j (no d) l = P .echoed j (omega arith)
 

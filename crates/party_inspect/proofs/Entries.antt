@@ -6,15 +6,12 @@ use native.Mathlib.Omega.{arith}
 use lib.Dec.{T, leb, eqb, leb→le, le→leb, eqb→eq, eqb-refl}
 use lib.ListN.{getD}
 use Rattle.base.proofs.Bools.{T-and, T-left, T-right, T→true, not-T→false}
-use Rattle.tree.specs.Component.{upto}
-use Rattle.tree.proofs.Laws.{side-component}
 use Rattle.plan.specs.declared.Plan.{Plan}
-use Rattle.plan.specs.Positions.{edgesOf}
 use Rattle.component.specs.declared.Component.{Component}
-use Rattle.component.specs.Component.{members, OfPlan, sizeOf, centreOf, degreeOf, sideOf}
+use Rattle.component.specs.Component.{wholeOf, members, OfPlan, sizeOf, centreOf, degreeOf, sideOf}
 use Rattle.party.specs.declared.Chart.{Chart}
 use Rattle.party.specs.Chart.{noSurvey}
-use Rattle.party_laws.proofs.Laws.{shape, of-plan, plan-component, plan-whole}
+use Rattle.component_laws.proofs.Laws.{whole-plan, side-plan}
 use Rattle.party_inspect.specs.Inner.{entryFits, partOf, Ready, Enters}
 
 -- ---- what the test of an entry tells
@@ -50,7 +47,7 @@ before i d = omega arith
 -- ---- answers
 
 module _ (p : Plan) (c : Chart) (i k : ℕ) where
-  pub enters-whole : i ≡ 0 → (w : Component) → members p w ≡ upto (p .count) → Enters p c i k (record { ok = eqb k 0; component = w })
+  pub enters-whole : i ≡ 0 → (w : Component) → members p w ≡ wholeOf p → Enters p c i k (record { ok = eqb k 0; component = w })
   unfolding entryFits partOf
   enters-whole e w h = subst (λ (j : ℕ). Enters p c j k (record { ok = eqb k 0; component = w })) (sym e) (record { passes = refl; part = λ _. h })
 
@@ -82,11 +79,8 @@ side-asks p c i k y b =
 
 pub entry-plan : (p : Plan) (c : Chart) (i k : ℕ) → Ready p c i → T (entryFits c i k) → OfPlan p (partOf p c i k)
 unfolding partOf
-entry-plan p c zero k y h = of-plan p (upto (p .count)) (y .valid) (plan-whole p (y .valid))
+entry-plan p c zero k y h = whole-plan p (y .valid)
 entry-plan p c (suc j) k y h =
     let b = below→ c j k h in
     let d = y .last j (b .sends) in
-    of-plan p (sideOf p (members p (c .deepest)) k) (y .valid)
-    (side-component (edgesOf p) (shape p (y .valid) .acyclic) (p .count) (members p (c .deepest)) (plan-component p (members p (c .deepest)) (d .plan)) k
-    (b .low)
-    (subst (λ (x : ℕ). k ≤ x) (d .degree) (b .high)))
+    side-plan p (members p (c .deepest)) (d .plan) k (b .low) (subst (λ (x : ℕ). k ≤ x) (d .degree) (b .high))

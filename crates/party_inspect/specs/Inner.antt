@@ -1,19 +1,20 @@
--- Question 19 of one level by the chart of the levels before it: for the functions inside this crate.
+-- Question 19 of one level by the chart of the levels before it, for the functions inside this crate; and how long a record's arrays are.
 use mathlib.Core.Path.{_≡_}
 use mathlib.Core.Bool.{Bool, not, _&&_, _||_}
 use Prim.Native.Nat.{ℕ, zero, suc, _≤_, _<_}
 use lib.Dec.{T, leb, ltb, eqb}
-use lib.ListN.{getD, set}
+use lib.ListN.{length, getD, set}
 use Rattle.base.specs.Pick.{pick}
 use Rattle.base.specs.Sets.{Set}
 use Rattle.base.specs.Limits.{levelCount}
-use Rattle.tree.specs.Component.{upto}
 use Rattle.plan.specs.declared.Plan.{Plan}
 use Rattle.plan.specs.Valid.{planValid}
-use Rattle.component.specs.Component.{members, OfPlan, sizeOf, centreOf, degreeOf, sideOf, surveyOf}
+use Rattle.component.specs.Component.{wholeOf, members, OfPlan, sizeOf, centreOf, degreeOf, sideOf, surveyOf}
 use Rattle.level.specs.declared.Level.{Level}
-use Rattle.level.specs.Level.{notYet, noOutput}
+use Rattle.level.specs.Level.{notYet, noOutput, valueCount}
+use Rattle.party.specs.declared.Party.{Party}
 use Rattle.party.specs.declared.Chart.{Chart}
+use Rattle.party.specs.Party.{levelAt}
 use Rattle.party.specs.Chart.{noSurvey}
 use Rattle.party.specs.Valid.{setsPass, valuePasses}
 use Rattle.party_inspect.specs.declared.Entry.{Entry}
@@ -36,7 +37,7 @@ entryFits c (suc i) k = eqb (c .sending) (suc i) && (leb 1 k && leb k (getD (c .
 
 -- the component that is entered so
 unfoldable pub partOf : Plan → Chart → ℕ → ℕ → Set
-partOf p c zero k = upto (p .count)
+partOf p c zero k = wholeOf p
 partOf p c (suc i) k = sideOf p (members p (c .deepest)) k
 
 -- the results of a level over S, which sends or not
@@ -90,3 +91,11 @@ pub record Settles (p : Plan) (S : Set) (l : Level) (c : Chart) (i : ℕ) (r : I
 pub record Answers (p : Plan) (test : Bool) (l : Level) (c : Chart) (i : ℕ) (r : Inspected) : Type 0 where
   pub passes : r .ok ≡ test
   pub chart : T (r .ok) → Adds p (l .entered && leb 3 (sizeOf p (partOf p c i (l .side)))) (partOf p c i (l .side)) (l .position) i c (r .chart)
+
+-- ---- arrays
+
+-- the lengths of a record's arrays, which the language knows of every value of these types, for the laws that need them
+pub record Filled (p : Party) : Type 0 where
+  pub levels : length (p .levels) ≡ levelCount
+  -- a place for every second echo
+  pub echoed : (i : ℕ) → i < levelCount → length (levelAt p i .echoed) ≡ valueCount

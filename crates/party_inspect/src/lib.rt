@@ -2,13 +2,13 @@
 ghost use mathlib.Core.Path.{_≡_};
 ghost use Prim.Native.Nat.{suc, _≤_, _<_};
 ghost use lib.Dec.{T};
+ghost use Rattle.level.specs.Level.{valueCount};
 ghost use lib.ListN.{length, set};
 ghost use Rattle.base.specs.Limits.{maxBoards, levelCount};
 ghost use Rattle.component.specs.Component.{OfPlan, members};
 ghost use Rattle.party.specs.Valid.{settingsPass, setsPass, valuePasses, partyValid};
 ghost use Rattle.party.specs.Chart.{Charts};
-ghost use Rattle.party_inspect.specs.Arrays.{Filled};
-ghost use Rattle.party_inspect.specs.Inner.{outputFits, isUnresolved, placeFits, levelFits, Ready, Enters, Settles, Answers};
+ghost use Rattle.party_inspect.specs.Inner.{outputFits, isUnresolved, placeFits, levelFits, Ready, Enters, Settles, Answers, Filled};
 
 pub struct Inspected {
     pub ok: bool,
@@ -39,21 +39,7 @@ fn sets_pass(sets: &[u16], n: u32) -> bool
 fn settings_pass(p: party::Party) -> bool
     ensures { λ r. ⌜ r ≡ settingsPass p ⌝ }
 {
-    let n = p.n;
-    let t = p.t;
-    if n < 1 {
-        return false;
-    }
-    if base::MAX_BOARDS < n {
-        return false;
-    }
-    if n <= t {
-        return false;
-    }
-    if n <= 3 * t {
-        return false;
-    }
-    p.own < n
+    settings::fault(p.n, p.t, p.own) == 0
 }
 
 // Is a result a value of at most d, none, or not there yet?
@@ -237,7 +223,7 @@ fn inspect_level(
 ) -> Inspected
     requires { ⌜ Ready plan chart i × (n ≤ maxBoards) ⌝ }
     ensures answers { λ r. ⌜ Answers plan (levelFits plan n l chart i) l chart i r ⌝ }
-    ensures sized { λ r. ⌜ length (l .echoed) ≡ 17 ⌝ }
+    ensures sized { λ r. ⌜ length (l .echoed) ≡ valueCount ⌝ }
 {
     let sets = l.sets;
     if !sets_pass(&sets, n) {
@@ -269,7 +255,7 @@ pub fn inspect(p: party::Party) -> Inspected
         };
     }
     let plan = p.plan;
-    if !plan::valid(plan) {
+    if !plan_test::valid(plan) {
         return Inspected {
             ok: false,
             chart: chart,

@@ -4,14 +4,14 @@ use mathlib.Core.Logic.{inl, inr}
 use mathlib.Core.Bool.{Bool}
 use Prim.Native.Nat.{ℕ, _^_, _≤_, _<_}
 use native.Mathlib.Omega.{arith}
-use lib.Dec.{T, leb, leb→le, lt→ltb}
+use lib.Dec.{T, leb, leb→le}
 use lib.ListN.{length, getD, getD-replicate}
 use Rattle.base.specs.Limits.{levelCount}
 use Rattle.base.proofs.Bools.{T-left}
-use Rattle.tree.specs.Component.{upto}
 use Rattle.plan.specs.declared.Plan.{Plan}
 use Rattle.plan.specs.Valid.{planValid}
-use Rattle.component.specs.Component.{degreeOf}
+use Rattle.component.specs.Component.{wholeOf, degreeOf}
+use Rattle.component_laws.proofs.Laws.{whole-in}
 use Rattle.message.specs.declared.Body.{Body}
 use Rattle.message.specs.declared.Message.{Message}
 use Rattle.message.specs.Message.{inTable, bodyInTable, lastLevel}
@@ -82,7 +82,7 @@ hearing-valid p v full s m h k =
 -- ---- a start
 
 pub entered-valid : (p : Party) → Valid p → length (p .levels) ≡ levelCount → (x : ℕ) → (T (started p) → ⊥) → x < p .plan .count → Valid (entered p x)
-unfolding entered upto
+unfolding entered
 entered-valid p v full x new h =
-    enter-valid p v full 0 (upto (p .plan .count)) 0 x (omega arith) new (entry-whole p 0 (upto (p .plan .count)) 0 x)
-    (ap (λ (l : Level). l .side) (entry-level p 0 (upto (p .plan .count)) 0 x (omega arith))) h (lt→ltb x (p .plan .count) h)
+    enter-valid p v full 0 (wholeOf (p .plan)) 0 x (omega arith) new (entry-whole p 0 (wholeOf (p .plan)) 0 x)
+    (ap (λ (l : Level). l .side) (entry-level p 0 (wholeOf (p .plan)) 0 x (omega arith))) h (whole-in (p .plan) x h)

@@ -3,13 +3,12 @@ use mathlib.Core.Path.{_≡_, _∙_}
 use Prim.Native.Nat.{ℕ, suc, _+_, _≤_, _<_}
 use native.Mathlib.Omega.{arith}
 use lib.Dec.{T}
-use lib.ListN.{length, length-replicate}
+use lib.ListN.{length-replicate}
 use Rattle.base.specs.Limits.{maxDegree, lastLevel, levelCount}
-use Rattle.tree.proofs.Laws.{Component, centre-member}
 use Rattle.plan.specs.declared.Plan.{Plan}
-use Rattle.plan.specs.Positions.{edgesOf}
 use Rattle.plan.specs.Valid.{planValid}
 use Rattle.component.specs.Component.{OfPlan, sizeOf, centreOf, degreeOf, portOf}
+use Rattle.component_laws.proofs.Laws.{centre-in}
 use Rattle.message.specs.declared.Message.{Message}
 use Rattle.message.specs.Message.{inTable}
 use Rattle.level.specs.Level.{notYet, noOutput, blankLevel}
@@ -18,9 +17,9 @@ use Rattle.level_laws.proofs.Law.{Same}
 use Rattle.party.specs.declared.Party.{Party}
 use Rattle.party.specs.Party.{newParty, levelAt, componentOf, sending, contextOf, entered, started, hearing}
 use Rattle.party.specs.Run.{openAt, stepAt, runUpTo, run, starting, taking}
-use Rattle.party.specs.Valid.{settingsPass, partyValid}
-use Rattle.plan.proofs.Shape.{shape}
-use Rattle.party_laws.proofs.Levels.{SameBoard}
+use Rattle.party.specs.Valid.{settingsPass}
+use Rattle.plan_laws.proofs.Shape.{shape}
+use Rattle.party_laws.specs.Inner.{SameBoard, Grown, Formed}
 use Rattle.party_laws.proofs.Valid.{Value, Holds, Entry, Valid, valid→, →valid}
 use Rattle.party_laws.proofs.Components as components
 use Rattle.party_laws.proofs.Components.{sending-entered, sending-three}
@@ -29,19 +28,12 @@ use Rattle.party_laws.proofs.Calls.{new-valid, hearing-valid, entered-v
 use Rattle.party_laws.proofs.Runs.{runs-keep, run-keeps, starting-keeps, taking-keeps}
 use Rattle.party_laws.proofs.Kept as kept
 use Rattle.party_laws.proofs.Kept.{Keeps, step-kept, keeps-hearing, keeps-entered}
-use Rattle.party_laws.proofs.Grown.{Grown}
-
--- a party that passes question 19 and has all its levels
-pub record Formed (p : Party) : Type 0 where
-  pub valid : T (partyValid p)
-  pub full : length (p .levels) ≡ levelCount
 
 -- an entered level
 pub record EnteredLevel (p : Party) (i : ℕ) : Type 0 where
   pub exists : i < levelCount
   pub entry : Entry p i
   pub plan : OfPlan (p .plan) (componentOf p i)
-  pub component : Component (edgesOf (p .plan)) (p .plan .count) (componentOf p i)
   pub place : T (componentOf p i (levelAt p i .position))
   pub degree : degreeOf (p .plan) (componentOf p i) ≤ maxDegree
   pub port : portOf (p .plan) (componentOf p i) (levelAt p i .position) ≤ degreeOf (p .plan) (componentOf p i)
@@ -91,7 +83,6 @@ module _ (p : Party) (w : Formed p) where
     exists = components.entered-level p v (w .full) i h;
     entry = components.entered-entry p v (w .full) i h;
     plan = components.entered-plan p v (w .full) i h;
-    component = components.entered-component p v (w .full) i h;
     place = components.entered-place p v (w .full) i h;
     degree = components.level-degree p v (w .full) i;
     port = components.entered-port p v (w .full) i h;
@@ -109,7 +100,7 @@ module _ (p : Party) (w : Formed p) where
         next = omega arith;
         three = sending-three p i h;
         some = components.sending-degree p v (w .full) i h;
-        centre = centre-member (edgesOf (p .plan)) (shape (p .plan) (v .plan) .acyclic) (p .plan .count) (componentOf p i) (components.entered-component p v (w .full) i e);
+        centre = centre-in (p .plan) (componentOf p i) (components.entered-plan p v (w .full) i e);
         first = r .0;
         result = r .1;
         limits = level-limits i (omega arith);
@@ -122,7 +113,7 @@ module _ (p : Party) (w : Formed p) where
   -- the centre that the rules see is a position
   pub context-centre : (i : ℕ) → T (sending p i) → contextOf p i .centre < p .plan .count
   unfolding contextOf
-  context-centre i h = let s = sending-level i h in s .level .component .below (centreOf (p .plan) (componentOf p i)) (s .centre)
+  context-centre i h = let s = sending-level i h in s .level .plan .below (centreOf (p .plan) (componentOf p i)) (s .centre)
 
 -- ---- question 19 is kept
 

@@ -8,38 +8,26 @@ use lib.ListN.{length}
 use Rattle.base.specs.Pick.{pick}
 use Rattle.base.specs.Sets.{Set}
 use Rattle.base.specs.Limits.{levelCount}
-use Rattle.tree.specs.Component.{upto}
 use Rattle.plan.specs.declared.Plan.{Plan}
-use Rattle.component.specs.Component.{sizeOf, sideOf}
+use Rattle.component.specs.Component.{wholeOf, sizeOf, sideOf}
 use Rattle.message.specs.declared.Body.{Body}
 use Rattle.message.specs.declared.Message.{Message}
 use Rattle.level.specs.declared.Level.{Level}
-use Rattle.level.specs.Level.{noOutput, withHeard}
-use Rattle.level_laws.proofs.Law.{Untouched, blank-untouched}
+use Rattle.level.specs.Level.{withHeard}
+use Rattle.level_laws.specs.Inner.{Grows}
+use Rattle.level_laws.proofs.Law.{blank-untouched}
 use Rattle.level_laws.proofs.Evidence.{untouched-heard}
-use Rattle.level_laws.proofs.Grows.{Grows, grows-refl, grows-trans, grows-heard, grows-entry, move-grows, Unmoved, move-unmoved}
+use Rattle.level_laws.proofs.Grows.{grows-refl, grows-trans, grows-heard, grows-entry, move-grows, Unmoved, move-unmoved}
 use Rattle.party.specs.declared.Party.{Party}
 use Rattle.party.specs.Party.{newParty, levelAt, withLevel, componentOf, contextOf, entering, entered, started, hearing}
 use Rattle.party.specs.Run.{openAt, stepAt, runUpTo, run, starting, taking}
+use Rattle.party_laws.specs.Inner.{Unused, Fresh, Grown}
 use Rattle.party_laws.proofs.Levels.{level-past, level-all, board-with, board-entering}
 use Rattle.party_laws.proofs.Components.{sending-entered}
 use Rattle.party_laws.proofs.Moves.{open-sending}
 use Rattle.party_laws.proofs.Calls.{new-level}
 use Rattle.party_laws.proofs.Runs.{runs-keep, run-keeps, starting-keeps, taking-keeps}
 use Rattle.party_laws.proofs.Kept.{Step, changes, enters, open-step, keeps-entered, keeps-hearing}
-
--- no rule touched the level's record
-pub record Unused (l : Level) : Type 0 where
-  pub untouched : Untouched l
-  pub output : l .output ≡ noOutput
-
--- none touched the levels that are not entered
-abbrev pub Fresh : Party → Type 0
-Fresh p = (i : ℕ) → i < levelCount → (T (levelAt p i .entered) → ⊥) → Unused (levelAt p i)
-
--- what is there at each level of p is so in q
-abbrev pub Grown : Party → Party → Type 0
-Grown p q = (i : ℕ) → Grows (levelAt p i) (levelAt q i)
 
 pub grown-refl : (p : Party) → Grown p p
 grown-refl p i = grows-refl (levelAt p i)
@@ -111,11 +99,11 @@ grown-hearing p s m = grown-with p (m .level) _ (λ _. grows-heard (levelAt p (m
 module _ (p : Party) (full : length (p .levels) ≡ levelCount) (f : Fresh p) where
   pub fresh-entered : (x : ℕ) → (T (started p) → ⊥) → Fresh (entered p x)
   unfolding entered
-  fresh-entered x new = fresh-entering p full f 0 (upto (p .plan .count)) 0 x new
+  fresh-entered x new = fresh-entering p full f 0 (wholeOf (p .plan)) 0 x new
 
   pub grown-entered : (x : ℕ) → (T (started p) → ⊥) → Grown p (entered p x)
   unfolding entered
-  grown-entered x new = grown-entering p full f 0 (upto (p .plan .count)) 0 x new
+  grown-entered x new = grown-entering p full f 0 (wholeOf (p .plan)) 0 x new
 
 -- q is p after rules
 record Later (p q : Party) : Type 0 where

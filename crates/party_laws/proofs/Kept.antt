@@ -9,8 +9,7 @@ use Rattle.base.specs.Pick.{pick}
 use Rattle.base.specs.Sets.{Set}
 use Rattle.base.specs.Limits.{levelCount}
 use Rattle.base.proofs.Bools.{T→true}
-use Rattle.tree.specs.Component.{upto}
-use Rattle.component.specs.Component.{degreeOf, centreOf, portOf, sideOf}
+use Rattle.component.specs.Component.{wholeOf, degreeOf, centreOf, portOf, sideOf}
 use Rattle.message.specs.declared.Body.{Body}
 use Rattle.message.specs.declared.Message.{Message}
 use Rattle.senders.specs.Senders.{withSender}
@@ -18,14 +17,15 @@ use Rattle.senders.proofs.Laws.{with-old}
 use Rattle.level.specs.declared.Level.{Level}
 use Rattle.level.specs.declared.Effect.{Effect}
 use Rattle.level.specs.Level.{senders, slot, held, withHeard}
-use Rattle.level.proofs.Moves.{Move}
-use Rattle.level.proofs.Moves.{port-echo, none-echo, first-proposal, first-value, first-none, own-echo, relay, second-proposal, sure-result, none-result, unsure-result, centre-output, sure-entry, unsure-entry, centre-message, sided-entry, told-output, next-output}
+use Rattle.level_laws.proofs.Moves.{Move}
+use Rattle.level_laws.proofs.Moves.{port-echo, none-echo, first-proposal, first-value, first-none, own-echo, relay, second-proposal, sure-result, none-result, unsure-result, centre-output, sure-entry, unsure-entry, centre-message, sided-entry, told-output, next-output}
 use Rattle.level_laws.proofs.Law.{Same}
 use Rattle.level_laws.proofs.Grows.{Unmoved, move-unmoved}
 use Rattle.party.specs.declared.Party.{Party}
 use Rattle.party.specs.Party.{levelAt, withLevel, componentOf, sending, contextOf, entering, entered, started, heldBy, hearing}
 use Rattle.party.specs.Run.{ruleAt, openAt, descend, gate, afterRule, stepAt, resting, runUpTo, run, starting, taking}
-use Rattle.party_laws.proofs.Levels.{SameBoard, board-refl, board-trans, board-with, board-entering, level-field, level-back, entry-other, component-same}
+use Rattle.party_laws.specs.Inner.{SameBoard}
+use Rattle.party_laws.proofs.Levels.{board-refl, board-trans, board-with, board-entering, level-field, level-back, entry-other, component-same}
 use Rattle.party_laws.proofs.Valid.{Valid}
 use Rattle.party_laws.proofs.Components.{entered-down}
 use Rattle.party_laws.proofs.Updates.{sending-same}
@@ -133,11 +133,11 @@ keeps-hearing p s m = keeps-with p (m .level) (withHeard (levelAt p (m .level)) 
 
 pub keeps-entered : (p : Party) (x : ℕ) → (T (started p) → ⊥) → Keeps p (entered p x)
 unfolding entered
-keeps-entered p x new = keeps-entering p 0 (upto (p .plan .count)) 0 x new
+keeps-entered p x new = keeps-entering p 0 (wholeOf (p .plan)) 0 x new
 
 pub sets-entered : (p : Party) (x : ℕ) → SameSets p (entered p x)
 unfolding entered
-sets-entered p x = sets-entering p 0 (upto (p .plan .count)) 0 x
+sets-entered p x = sets-entering p 0 (wholeOf (p .plan)) 0 x
 
 -- ---- the same along a run
 

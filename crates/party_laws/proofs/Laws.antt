@@ -1,11 +1,12 @@
--- The laws of parties that other crates use, gathered from the files of this folder.
+-- The laws of parties that other crates use, gathered from the files of this folder, with the definitions that they speak of.
 
+pub use Rattle.party_laws.specs.Inner.{Formed, SameBoard, Unused, Fresh, Grown}
 -- ---- one level replaced
 
 -- the new level, and the others; what holds of all; a field that stays; a level put back
 pub use Rattle.party_laws.proofs.Levels.{level-same, level-other, level-all, level-field, level-past, level-back}
 -- the settings, the plan and the number of levels stay
-pub use Rattle.party_laws.proofs.Levels.{SameBoard, board-refl, board-trans, board-with, board-entering}
+pub use Rattle.party_laws.proofs.Levels.{board-refl, board-trans, board-with, board-entering}
 -- components: the same where the sides are, where the side of the new level is the old one's, and above it
 pub use Rattle.party_laws.proofs.Levels.{component-same, component-side, component-above, whole-component, next-component}
 -- a level entered: its record, the others, the components above, and its own, which is the side said
@@ -14,14 +15,13 @@ pub use Rattle.party_laws.proofs.Levels.{entry-level, entry-other, entr
 
 -- part by part
 pub use Rattle.party_laws.proofs.Valid.{Value, Output, Contents, Entry, Place, Holds, Settings, Valid, valid→, →valid, settings→, →settings}
--- a valid plan is a tree, and components of it
-pub use Rattle.plan.proofs.Shape.{Shape, shape}
-pub use Rattle.party_laws.proofs.Components.{of-plan, plan-component, plan-whole}
+-- a valid plan is a tree
+pub use Rattle.plan_laws.proofs.Shape.{Shape, shape}
 -- what it is to send
 pub use Rattle.party_laws.proofs.Components.{sending-entered, sending-three, entered-sending, entered-below}
 -- ---- a party that passes question 19 and has all its levels
 
-pub use Rattle.party_laws.proofs.Formed.{Formed, EnteredLevel, SendingLevel}
+pub use Rattle.party_laws.proofs.Formed.{EnteredLevel, SendingLevel}
 -- levels that send are a prefix, and so are those that are entered; the level before an entered one sends
 pub use Rattle.party_laws.proofs.Formed.{sending-before, entered-before, entered-down}
 -- what is known of each level
@@ -44,8 +44,8 @@ pub use Rattle.party_laws.proofs.Kept.{hearing-held, taking-sets}
 -- an entered level stays over its component, sends if it did, and its rules see the same, but for the next level
 pub use Rattle.party_laws.proofs.Formed.{kept-component, kept-sending, kept-context}
 -- no rule touched a level that is not entered: of a new party, and kept by all
-pub use Rattle.party_laws.proofs.Grown.{Unused, Fresh, fresh-new, fresh-hearing, fresh-entered}
+pub use Rattle.party_laws.proofs.Grown.{fresh-new, fresh-hearing, fresh-entered}
 -- so what is there at a level never changes
-pub use Rattle.party_laws.proofs.Grown.{Grown, grown-refl, grown-trans, grown-hearing, grown-entered, step-grown, runs-grown, run-grown, starting-grown, taking-grown}
+pub use Rattle.party_laws.proofs.Grown.{grown-refl, grown-trans, grown-hearing, grown-entered, step-grown, runs-grown, run-grown, starting-grown, taking-grown}
 -- nor does an output
 pub use Rattle.party_laws.proofs.Formed.{output-stays}

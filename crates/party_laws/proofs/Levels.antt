@@ -10,14 +10,14 @@ use lib.ListN.{length, getD, length-set}
 use lib.Seq.{getD-set-same, getD-set-other, set-getD, set-out}
 use Rattle.base.specs.Pick.{pick}
 use Rattle.base.specs.Sets.{Set, count}
-use Rattle.tree.specs.Component.{upto}
 use Rattle.plan.specs.declared.Plan.{Plan}
-use Rattle.component.specs.Component.{sizeOf, sideOf}
+use Rattle.component.specs.Component.{wholeOf, sizeOf, sideOf}
 use Rattle.level.specs.declared.Level.{Level}
 use Rattle.level.specs.Level.{noLevel, withEntry}
 use Rattle.party.specs.declared.Party.{Party}
 use Rattle.party.specs.Party.{levelAt, withLevel, componentOf, entering}
 use Rattle.party.specs.Run.{descend}
+use Rattle.party_laws.specs.Inner.{SameBoard}
 
 -- ---- one level replaced
 
@@ -67,15 +67,6 @@ level-back p i k = record {
 
 -- ---- one board in one vote
 
--- q has the settings, the plan and as many levels as p
-pub record SameBoard (p q : Party) : Type 0 where
-  pub n : q .n ≡ p .n
-  pub t : q .t ≡ p .t
-  pub own : q .own ≡ p .own
-  pub agreement : q .agreement ≡ p .agreement
-  pub plan : q .plan ≡ p .plan
-  pub levels : length (q .levels) ≡ length (p .levels)
-
 pub board-refl : (p : Party) → SameBoard p p
 board-refl p = record { n = refl; t = refl; own = refl; agreement = refl; plan = refl; levels = refl }
 
@@ -99,7 +90,7 @@ board-with p i l = record { n = refl; t = refl; own = refl; agreement = refl; pl
 pub component-same : (p q : Party) → q .plan ≡ p .plan → (i : ℕ) → ((j : ℕ) → 1 ≤ j → j ≤ i → levelAt q j .side ≡ levelAt p j .side)
     → componentOf q i ≡ componentOf p i
 unfolding componentOf
-component-same p q e zero h = ap (λ (x : Plan). upto (x .count)) e
+component-same p q e zero h = ap (λ (x : Plan). wholeOf x) e
 component-same p q e (suc i) h =
     let c : componentOf q i ≡ componentOf p i = component-same p q e i (λ j a b. h j a (omega arith)) in
     let s : levelAt q (suc i) .side ≡ levelAt p (suc i) .side = h (suc i) (omega arith) (omega arith) in
@@ -136,9 +127,9 @@ unfolding entering
 entry-above p i S k x j h = component-above p i _ j h
 
 -- level 0 is over the whole plan as before
-pub entry-whole : (p : Party) (i : ℕ) (S : Set) (k x : ℕ) → componentOf (entering p i S k x) 0 ≡ upto (p .plan .count)
+pub entry-whole : (p : Party) (i : ℕ) (S : Set) (k x : ℕ) → componentOf (entering p i S k x) 0 ≡ wholeOf (p .plan)
 unfolding componentOf
-entry-whole p i S k x = ap (λ (y : Plan). upto (y .count)) (board-entering p i S k x .plan)
+entry-whole p i S k x = ap (λ (y : Plan). wholeOf y) (board-entering p i S k x .plan)
 
 -- its own component is the side said
 pub entry-component : (p : Party) (i : ℕ) (S : Set) (k x : ℕ) → suc i < length (p .levels)
@@ -153,7 +144,7 @@ descend-component p i k x h =
     subst (λ (j : ℕ). j < length (p .levels) → componentOf (entering p j S k x) j ≡ S) (sym (add-one i)) (entry-component p i S k x) h
 
 -- level 0 is over the whole plan
-pub whole-component : (p : Party) → componentOf p 0 ≡ upto (p .plan .count)
+pub whole-component : (p : Party) → componentOf p 0 ≡ wholeOf (p .plan)
 unfolding componentOf
 whole-component p = refl
 

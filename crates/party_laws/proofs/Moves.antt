@@ -11,26 +11,24 @@ use Rattle.base.specs.Pick.{pick}
 use Rattle.base.specs.Sets.{Set}
 use Rattle.base.specs.Limits.{levelCount}
 use Rattle.base.proofs.Bools.{T-left, T-right}
-use Rattle.tree.specs.Edges.{Edges, Acyclic}
-use Rattle.tree.proofs.Laws.{Component, centre-member, neighbour-side, side-member, port-side}
-use Rattle.plan.specs.Positions.{edgesOf}
-use Rattle.component.specs.Component.{degreeOf, sideOf}
+use Rattle.component.specs.Component.{OfPlan, degreeOf, sideOf}
+use Rattle.component_laws.proofs.Laws.{centre-in, neighbour-in, side-in, port-in}
 use Rattle.message.specs.Message.{noneValue}
 use Rattle.level.specs.declared.Level.{Level}
 use Rattle.level.specs.declared.Context.{Context}
 use Rattle.level.specs.declared.Effect.{Effect}
 use Rattle.level.specs.Level.{withFirst, withResult, withOutput, withCentreTold}
 use Rattle.level.specs.Rules.{unanswered, applies}
-use Rattle.level.proofs.Moves.{Aside, Move, lowest-moves}
-use Rattle.level.proofs.Moves.{port-echo, none-echo, first-proposal, first-value, first-none, own-echo, relay, second-proposal, sure-result, none-result, unsure-result, centre-output, sure-entry, unsure-entry, centre-message, sided-entry, told-output, next-output}
+use Rattle.level_laws.specs.Inner.{Aside}
+use Rattle.level_laws.proofs.Moves.{Move, lowest-moves}
+use Rattle.level_laws.proofs.Moves.{port-echo, none-echo, first-proposal, first-value, first-none, own-echo, relay, second-proposal, sure-result, none-result, unsure-result, centre-output, sure-entry, unsure-entry, centre-message, sided-entry, told-output, next-output}
 use Rattle.level_laws.proofs.Grows.{Unmoved, move-unmoved}
 use Rattle.party.specs.declared.Party.{Party}
 use Rattle.party.specs.Party.{levelAt, withLevel, componentOf, sending, contextOf, entering}
 use Rattle.party.specs.Run.{ruleAt, openAt, descend, gate, afterRule, stepAt}
-use Rattle.plan.proofs.Shape.{shape}
 use Rattle.party_laws.proofs.Levels.{level-back, board-entering, entry-level, entry-above, entry-component, entry-other}
 use Rattle.party_laws.proofs.Valid.{Value, Output, Contents, Entry, Valid}
-use Rattle.party_laws.proofs.Components.{sending-entered, entered-component, entered-place, sending-level}
+use Rattle.party_laws.proofs.Components.{sending-entered, entered-plan, entered-place, sending-level}
 use Rattle.party_laws.proofs.Updates.{sending-same, update-valid, enter-valid}
 
 -- ---- what a move leaves in the record
@@ -78,17 +76,11 @@ side-number d l a (inr (inl e)) = absurd (omega (arith, a .1))
 side-number d l a (inr (inr e)) = absurd (omega (arith, a .1))
 
 module _ (p : Party) (v : Valid p) (full : length (p .levels) ≡ levelCount) (i : ℕ) (on : T (sending p i)) where
-  abbrev E : Edges
-  E = edgesOf (p .plan)
-
   abbrev S : Set
   S = componentOf p i
 
-  acyclic : Acyclic (edgesOf (p .plan))
-  acyclic = shape (p .plan) (v .plan) .acyclic
-
-  component : Component (edgesOf (p .plan)) (p .plan .count) (componentOf p i)
-  component = entered-component p v full i (sending-entered p i on)
+  component : OfPlan (p .plan) (componentOf p i)
+  component = entered-plan p v full i (sending-entered p i on)
 
   -- ---- side k is entered at x
 
@@ -124,19 +116,19 @@ module _ (p : Party) (v : Valid p) (full : length (p .levels) ≡ levelCount) (i
       go : (T (levelAt p (suc i) .entered) → ⊥) → Valid q
       go new =
           enter-valid p v full (suc i) D k x last new (entry-component p i D k x here) entry
-          (component .below x (side-member E acyclic (p .plan .count) S component k x t)) t
+          (component .below x (side-in (p .plan) S component k x t)) t
 
   -- neighbour k lies in side k
   gate-in : (k : ℕ) → 1 ≤ k → k ≤ contextOf p i .degree → T (sideOf (p .plan) (componentOf p i) k (gate p i k))
   unfolding contextOf
-  gate-in k low high = neighbour-side E acyclic (p .plan .count) S component k low high
+  gate-in k low high = neighbour-in (p .plan) S component k low high
 
   -- and so does a position whose port is k
   place-in : (k : ℕ) → 1 ≤ k → k ≤ contextOf p i .degree → (b : Bool) → eqb (contextOf p i .port) k ≡ b
       → T (sideOf (p .plan) (componentOf p i) k (pick b (levelAt p i .position) (gate p i k)))
   unfolding contextOf
   place-in k low high true e =
-      port-side E acyclic (p .plan .count) S component (levelAt p i .position) k (entered-place p v full i (sending-entered p i on)) low
+      port-in (p .plan) S component (levelAt p i .position) k (entered-place p v full i (sending-entered p i on)) low
       (eqb→eq (contextOf p i .port) k (subst T (sym e) tt))
   place-in k low high false e = gate-in k low high
 
@@ -155,7 +147,7 @@ module _ (p : Party) (v : Valid p) (full : length (p .levels) ≡ levelCount) (i
   stays m e x =
       let u : Unmoved (levelAt p i) m = move-unmoved (contextOf p i) (levelAt p i) m e x in
       let last : suc i < levelCount = sending-level p v full i on in
-      let c = component .below (contextOf p i .centre) (centre-member E acyclic (p .plan .count) S component) in
+      let c = component .below (contextOf p i .centre) (centre-in (p .plan) S component) in
       update-valid p v i m (omega arith) (record { entered = u .entered; side = u .side; position = u .position })
       (move-contents (p .n) (p .plan .count) (sending p i) on (contextOf p i) (levelAt p i) m e x (v .holds i (omega arith)) c
       (subst (λ (j : ℕ). Output (p .plan .count) (levelAt p j .output)) (sym (add-one i)) (v .holds (suc i) last .output)))

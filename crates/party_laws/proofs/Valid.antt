@@ -3,7 +3,7 @@ use mathlib.Core.Path.{_≡_, sym, subst}
 use mathlib.Core.Logic.{_⊎_, inl, inr}
 use mathlib.Core.Bool.{Bool, true, false, not, _&&_, _||_}
 use mathlib.Core.List.{List, [], _∷_}
-use Prim.Native.Nat.{ℕ, zero, suc, _*_, _^_, _≤_, _<_}
+use Prim.Native.Nat.{ℕ, zero, suc, _^_, _≤_, _<_}
 use native.Mathlib.Decide.{ℕ-discrete}
 use native.Mathlib.Nat.{le-refl, not-suc-le-zero}
 use native.Mathlib.Omega.{arith}
@@ -12,8 +12,9 @@ use lib.Pow.{pow-pos}
 use lib.ListN.{getD}
 use Rattle.base.specs.Pick.{pick}
 use Rattle.base.specs.Sets.{Set}
-use Rattle.base.specs.Limits.{maxBoards, levelCount}
+use Rattle.base.specs.Limits.{levelCount}
 use Rattle.base.proofs.Bools.{T-and, T-left, T-right, or-split, or-left, or-right}
+use Rattle.settings.proofs.Laws.{Passed, fit→, →fit}
 use Rattle.plan.specs.Valid.{planValid}
 use Rattle.component.specs.Component.{degreeOf}
 use Rattle.message.specs.Message.{noneValue}
@@ -54,11 +55,8 @@ abbrev pub Holds : Party → ℕ → Type 0
 Holds p i = Contents (p .n) (p .plan .count) (degreeOf (p .plan) (componentOf p i)) (sending p i) (levelAt p i)
 
 -- "n 1 to 16", "3t below n", "own number below n"
-pub record Settings (p : Party) : Type 0 where
-  pub some : 1 ≤ p .n
-  pub most : p .n ≤ maxBoards
-  pub faults : 3 * p .t < p .n
-  pub own : p .own < p .n
+abbrev pub Settings : Party → Type 0
+Settings p = Passed (p .n) (p .t) (p .own)
 
 -- question 19
 pub record Valid (p : Party) : Type 0 where
@@ -212,33 +210,11 @@ module _ (p : Party) (i : ℕ) where
       (→results (degreeOf (p .plan) (componentOf p i)) (levelAt p i .first) (levelAt p i .result) (sending p i) (h .results) (h .blank)))
 
 module _ (p : Party) where
-  abbrev low : Bool
-  low = leb 1 (p .n)
-
-  abbrev high : Bool
-  high = leb (p .n) maxBoards
-
-  abbrev few : Bool
-  few = ltb (3 * p .t) (p .n)
-
-  abbrev mine : Bool
-  mine = ltb (p .own) (p .n)
-
   pub settings→ : T (settingsPass p) → Settings p
-  settings→ h =
-      let a = T-left (low && high) (few && mine) h in
-      let b = T-right (low && high) (few && mine) h in
-      record {
-        some = leb→le 1 (p .n) (T-left low high a);
-        most = leb→le (p .n) maxBoards (T-right low high a);
-        faults = ltb→lt (3 * p .t) (p .n) (T-left few mine b);
-        own = ltb→lt (p .own) (p .n) (T-right few mine b);
-      }
+  settings→ = fit→ (p .n) (p .t) (p .own)
 
   pub →settings : Settings p → T (settingsPass p)
-  →settings s =
-      T-and (low && high) (few && mine) (T-and low high (le→leb 1 (p .n) (s .some)) (le→leb (p .n) maxBoards (s .most)))
-      (T-and few mine (lt→ltb (3 * p .t) (p .n) (s .faults)) (lt→ltb (p .own) (p .n) (s .own)))
+  →settings = →fit (p .n) (p .t) (p .own)
 
   pub valid→ : T (partyValid p) → Valid p
   unfolding partyValid

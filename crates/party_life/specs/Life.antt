@@ -1,15 +1,15 @@
 -- A party's life: what the records of its accepted calls make of it.
-use mathlib.Core.Path.{_≡_}
-use mathlib.Core.Bool.{Bool, true, false, not, _&&_}
+use mathlib.Core.Bool.{Bool, true, _&&_}
 use mathlib.Core.List.{List, [], _∷_, _++_}
-use Prim.Native.Nat.{ℕ, _+_, _<_, _≤_}
-use lib.Dec.{T}
+use Prim.Native.Nat.{ℕ, _+_}
+use lib.Dec.{T, ltb, eqb}
+use Rattle.base.specs.Pick.{pick}
 use Rattle.message.specs.declared.Message.{Message}
 use Rattle.message.specs.Message.{inTable}
 use Rattle.journal.specs.declared.Record.{Record}
 use Rattle.journal.specs.declared.Record.the-variants.{Start, Taken}
 use Rattle.party.specs.declared.Party.{Party}
-use Rattle.party.specs.Party.{started, heldBy}
+use Rattle.party.specs.Party.{started}
 use Rattle.party.specs.Run.{Ran, resting, starting, taking}
 
 -- what a record's call did
@@ -26,10 +26,26 @@ unfoldable pub lived : Party → List Record → Ran
 lived p [] = resting p
 lived p (r ∷ rs) = following (lived p rs) (replayed (lived p rs .party) r)
 
--- a record that a restore accepts after these: the only start, on the plan; or a message of this vote from one of its boards
+-- "Restore, each record: .. Our number? 16. Sender below n? 14. Not a second start? 13. Position on the plan? 12.": the number of the first question that
+-- fails, or 0, of a party that has started or not
+abbrev pub faultOf : Party → Bool → Record → ℕ
+faultOf p begun (Start a x) = pick (eqb a (p .agreement)) (pick begun 13 (pick (ltb x (p .plan .count)) 0 12)) 16
+faultOf p begun (Taken s m) = pick (eqb (m .number) (p .agreement)) (pick (ltb s (p .n)) 0 14) 16
+
+abbrev pub fault : Party → Record → ℕ
+fault p r = faultOf p (started p) r
+
+-- "A whole record has every value .. in the message table."
+abbrev pub tabled : Record → Bool
+tabled (Start a x) = true
+tabled (Taken s m) = inTable m
+
+-- a whole record that a restore accepts after these: the only start, on the plan; or a message of this vote from one of its boards (proofs/Fits.antt)
+abbrev pub passes : Party → Record → Bool
+passes p r = eqb (fault p r) 0 && tabled r
+
 abbrev pub Fits : Party → Record → Type 0
-Fits p (Start a x) = (a ≡ p .agreement) × (T (started p) → ⊥) × (x < p .plan .count)
-Fits p (Taken s m) = (m .number ≡ p .agreement) × (s < p .n) × T (inTable m)
+Fits p r = T (passes p r)
 
 -- a life from p on
 abbrev pub Life : Party → List Record → Type 0

@@ -8,9 +8,8 @@ use lib.Dec.{T}
 use Rattle.base.specs.Pick.{pick}
 use Rattle.base.specs.Limits.{maxBoards, levelCount}
 use Rattle.base.proofs.Bools.{true→T, false→not-T}
-use Rattle.tree.specs.Component.{upto}
 use Rattle.component.specs.declared.Component.{Component}
-use Rattle.component.specs.Component.{members}
+use Rattle.component.specs.Component.{wholeOf, members}
 use Rattle.message.specs.declared.Message.{Message}
 use Rattle.message.specs.Message.{inTable}
 use Rattle.message.proofs.RoundTrip.{table-parts}
@@ -25,11 +24,11 @@ use Rattle.party.specs.Valid.{partyValid}
 use Rattle.party.specs.Chart.{Charts}
 use Rattle.party_laws.proofs.Laws.{Formed, valid→, formed-entered, formed-hearing}
 use Rattle.party_run.specs.declared.Ran as Code
-use Rattle.party_run.specs.declared.Charted.{Charted}
-use Rattle.party_run.specs.Gives.{Gives}
-use Rattle.party_run.specs.Inner.{Leads}
-use Rattle.party_run.proofs.Charts.{charts-hearing}
-use Rattle.party_run.proofs.Entries.{start-entered}
+use Rattle.party_step.specs.declared.Charted.{Charted}
+use Rattle.party_run.specs.Inner.{Gives}
+use Rattle.party_step.specs.Inner.{Leads}
+use Rattle.party_step.proofs.Charts.{charts-hearing}
+use Rattle.party_step.proofs.Entries.{start-entered}
 
 -- a valid party's plan, and how many boards there are
 pub valid-plan : (p : Party) → T (partyValid p) → T (planValid (p .plan))
@@ -44,7 +43,7 @@ table-level m t = omega (arith, table-parts m t .0)
 
 -- ---- a start
 
-module _ (p : Party) (part : Component) (x : ℕ) (whole : members (p .plan) part ≡ upto (p .plan .count)) (r : Charted)
+module _ (p : Party) (part : Component) (x : ℕ) (whole : members (p .plan) part ≡ wholeOf (p .plan)) (r : Charted)
     (h : Leads (entering p 0 (members (p .plan) part) 0 x) r) where
   start-party : r .party ≡ entered p x
   start-party = h .party ∙ start-entered p part x whole

@@ -14,7 +14,7 @@ use Rattle.message.specs.Message.{messageBytes}
 use Rattle.level.specs.declared.Effect.{Effect}
 use Rattle.level.specs.declared.Effect.the-variants.{Nothing, Quiet, Send, Enter, SendEnter}
 use Rattle.party.specs.Run.{madeBy, bytesOf}
-use Rattle.party_run.specs.Gives.{voiced}
+use Rattle.party_run.specs.Inner.{voiced}
 use Rattle.party_run.proofs.Going.{voiced-none}
 
 -- from `at` on the buffer `after` has bs, and r is the place past them

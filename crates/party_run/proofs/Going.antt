@@ -21,7 +21,7 @@ use Rattle.party.specs.Run.{Ran, openAt, openLevel, ruleAt, madeBy, stepAt, res
 use Rattle.party.specs.Chart.{Charts}
 use Rattle.party_laws.proofs.Laws.{open-level}
 use Rattle.party_bounds.proofs.Laws.{Sized, sized-step, messagesLeft, open-last, step-bytes, outgoing-enough}
-use Rattle.party_run.specs.Gives.{voiced, Gives}
+use Rattle.party_run.specs.Inner.{voiced, Gives}
 
 -- ---- bytes
 

@@ -2,12 +2,13 @@ use mathlib.Core.Path.{_≡_}
 use lib.ListN.{length}
 use borrow.Author.Needs.{needs}
 use borrow.Author.Tests.{not-true, not-false}
+use Rattle.level.specs.Level.{valueCount}
 use Rattle.party_inspect.proofs.Places.{answers-sets, answers-output, answers-level}
 use Rattle.party_inspect.proofs.inspect_level.Statement.{statement}
 use Rattle.party_inspect.proofs.inspect_level.Tie as tie
 
 -- the array's length
-places : (s : tie.Start) → length (s .args .l .echoed) ≡ 17
+places : (s : tie.Start) → length (s .args .l .echoed) ≡ valueCount
 places s = search needs
 
 slice-aggregate-sets-pass : tie.Need-slice-aggregate-sets-pass

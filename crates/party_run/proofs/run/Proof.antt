@@ -9,8 +9,8 @@ use Rattle.base.specs.Limits.{maxRules}
 use Rattle.message.specs.declared.Message.{Message}
 use Rattle.party.specs.Run.{bytesOf}
 use Rattle.party.specs.Run.{madeBy}
-use Rattle.party_run.proofs.Typed.{typed-sized}
-use Rattle.party_run.proofs.Openings.{found-none, found-level, found-below, found-open, found-rule, found-step, found-made}
+use Rattle.party_step.proofs.Typed.{typed-sized}
+use Rattle.party_step.proofs.Openings.{found-none, found-level, found-below, found-open, found-rule, found-step, found-made}
 use Rattle.party_run.proofs.Going.{Going, going-start, going-end, going-fits, going-on, run-end, run-stop}
 use Rattle.party_run.proofs.run.Statement.{statement}
 use Rattle.party_run.proofs.run.Tie as tie
@@ -25,10 +25,10 @@ loop-holds : tie.Need-loop-holds Inv-loop μ-loop
 loop-holds c =
     let s = c .before in
     let a = s .args in
-    going-start (a .p) (a .loud) (now (a .out)) (a .c) (typed-sized (a .p) _ (s .good .0) (s .pre .0)) (s .pre .1)
+    going-start (a .p) (a .loud) (now (a .out)) (a .c) (typed-sized (a .p) _ (s .good .0) (s .pre .valid)) (s .pre .charts)
 
 lowest-open-requires : tie.Need-lowest-open-requires Inv-loop μ-loop
-lowest-open-requires c κs = let g = c .before .loop .inv in (g .sized .formed .valid, g .charts)
+lowest-open-requires c κs = let g = c .before .loop .inv in record { valid = g .sized .formed .valid; charts = g .charts }
 
 same-length : tie.Need-same-length Inv-loop μ-loop
 same-length c = c .before .before .before .loop .inv .long
@@ -49,7 +49,7 @@ emit-requires c κs =
     let a = s .args in
     let o = t .before .lowest-open in (
       subst (λ (ms : List Message). l .sent + length (bytesOf ms) ≤ length (l .out)) (sym (found-made (l .q) (o .result) (o .ensures) (t .if1 .left)))
-          (going-fits (a .p) (a .loud) (now (a .out)) (l .q) (l .d) (l .out) (l .sent) (l .rules) (l .inv) (found-level (l .q) (o .result) (o .ensures) (t .if1 .left)) (s .pre .2)),
+          (going-fits (a .p) (a .loud) (now (a .out)) (l .q) (l .d) (l .out) (l .sent) (l .rules) (l .inv) (found-level (l .q) (o .result) (o .ensures) (t .if1 .left)) (s .pre .room)),
       omega (arith, found-below (l .q) (o .result) (o .ensures) (t .if1 .left)),
     )
 
@@ -58,8 +58,7 @@ step-requires c κs =
     let t = c .before .before .before .before .before in
     let l = t .before .before .before .loop in
     let o = t .before .lowest-open in (
-      l .inv .sized .formed .valid,
-      l .inv .charts,
+      record { valid = l .inv .sized .formed .valid; charts = l .inv .charts },
       found-open (l .q) (o .result) (o .ensures) (t .if1 .left),
       found-rule (l .q) (o .result) (o .ensures) (t .if1 .left),
     )
@@ -83,7 +82,7 @@ loop-again c =
     let o = t .before .lowest-open in
     let m = c .before .before .before .before .before .emit in
     let r = c .before .before .step in
-    going-on (a .p) (a .loud) (now (a .out)) (l .q) (l .d) (l .out) (l .sent) (l .rules) (l .inv) (found-level (l .q) (o .result) (o .ensures) (t .if1 .left)) (s .pre .2)
+    going-on (a .p) (a .loud) (now (a .out)) (l .q) (l .d) (l .out) (l .sent) (l .rules) (l .inv) (found-level (l .q) (o .result) (o .ensures) (t .if1 .left)) (s .pre .room)
     (t .before .before .loop-test .taken) (r .result .party) (r .result .chart) (m .last .0) (m .result)
     (r .ensures .party ∙ found-step (l .q) (o .result) (o .ensures) (t .if1 .left)) (r .ensures .chart)
     (madeBy (l .q .agreement) (o .result .at) (o .result .applied .effect)) (found-made (l .q) (o .result) (o .ensures) (t .if1 .left)) (m .ensures .0) (m .ensures .1)

@@ -1,31 +1,32 @@
 -- `party_run::start` meets its contract.
 use borrow.Author.Needs.{needs}
 use denote.Ref.{now}
-use Rattle.party_run.proofs.Typed.{typed-formed}
-use Rattle.party_run.proofs.Entries.{start-enterable}
+use Rattle.party_step.proofs.Typed.{typed-formed}
+use Rattle.party_step.proofs.Entries.{start-enterable}
 use Rattle.party_run.proofs.Calls.{valid-plan, start-valid, start-gives}
 use Rattle.party_run.proofs.start.Statement.{statement}
 use Rattle.party_run.proofs.start.Tie as tie
 
 whole-requires : tie.Need-whole-requires
-whole-requires c κs = let s = c .before .before in valid-plan (s .args .p) (s .pre .0)
+whole-requires c κs = let s = c .before .before in valid-plan (s .args .p) (s .pre .0 .valid)
 
 enter-requires : tie.Need-enter-requires
 enter-requires c κs =
     let s = c .before .before .before in
     let a = s .args in
-    start-enterable (a .p) (a .c) (c .whole .result) (a .x) (typed-formed (a .p) _ (s .good .0) (s .pre .0)) (s .pre .1) (c .whole .ensures) (s .pre .3) (s .pre .4)
+    start-enterable (a .p) (a .c) (c .whole .result) (a .x) (typed-formed (a .p) _ (s .good .0) (s .pre .0 .valid)) (s .pre .0 .charts) (c .whole .ensures) (s .pre .1) (s .pre .2)
 
 run-requires : tie.Need-run-requires
 run-requires c κs =
     let e = c .before .before .before in
     let s = e .before .before .before .before in
-    let a = s .args in (
-      start-valid (a .p) (e .before .whole .result) (a .x) (e .before .whole .ensures) (e .enter .result) (e .enter .ensures)
-          (typed-formed (a .p) _ (s .good .0) (s .pre .0)) (s .pre .3) (s .pre .4),
-      e .enter .ensures .chart,
-      s .pre .2,
-    )
+    let a = s .args in
+    record {
+      valid = start-valid (a .p) (e .before .whole .result) (a .x) (e .before .whole .ensures) (e .enter .result) (e .enter .ensures)
+          (typed-formed (a .p) _ (s .good .0) (s .pre .0 .valid)) (s .pre .1) (s .pre .2);
+      charts = e .enter .ensures .chart;
+      room = s .pre .0 .room;
+    }
 
 same-length : tie.Need-same-length
 same-length c = search needs

@@ -10,10 +10,9 @@ use borrow.Author.Tests.{le-leb, lt-leb}
 use Rattle.base.specs.Pick.{pick}
 use Rattle.base.specs.Sets.{Set}
 use Rattle.base.specs.Limits.{levelCount}
-use Rattle.tree.specs.Component.{upto}
 use Rattle.component.specs.declared.Component.{Component}
 use Rattle.component.specs.declared.Survey.{Survey}
-use Rattle.component.specs.Component.{members, OfPlan, sizeOf, centreOf, degreeOf, neighbourOf, sideOf, surveyOf}
+use Rattle.component.specs.Component.{wholeOf, members, OfPlan, sizeOf, centreOf, degreeOf, neighbourOf, sideOf, surveyOf}
 use Rattle.level.specs.declared.Level.{Level}
 use Rattle.level.specs.Level.{withEntry}
 use Rattle.party.specs.declared.Party.{Party}
@@ -23,10 +22,10 @@ use Rattle.party.specs.Run.{gate}
 use Rattle.party.specs.Valid.{partyValid}
 use Rattle.party.specs.Chart.{Charts, noSurvey}
 use Rattle.party_laws.proofs.Laws.{Formed, Entry, entry-level, entry-above, entry-whole, board-entering, descend-component, sending-level, entered-level, SendingLevel, formed-entered}
-use Rattle.party_run.specs.Inner.{Enterable, Descends, descended, Leads}
-use Rattle.party_run.specs.declared.Charted.{Charted}
+use Rattle.party_step.specs.Inner.{Enterable, Descends, descended, Leads}
+use Rattle.party_step.specs.declared.Charted.{Charted}
 use Rattle.base.proofs.Bools.{false→not-T}
-use Rattle.party_run.proofs.Charts.{sends-charted, new-charted, small-charts, more-charts}
+use Rattle.party_step.proofs.Charts.{sends-charted, new-charted, small-charts, more-charts}
 
 -- what leads to a party leads to any that equals it
 pub leads-to : (q r : Party) (s : Charted) → q ≡ r → Leads q s → Leads r s
@@ -93,7 +92,7 @@ module _ (p : Party) (c : Chart) (i : ℕ) (part : Component) (k x : ℕ) (w : F
 
 -- ---- a start
 
-pub start-enterable : (p : Party) (c : Chart) (part : Component) (x : ℕ) → Formed p → Charts p c → members (p .plan) part ≡ upto (p .plan .count)
+pub start-enterable : (p : Party) (c : Chart) (part : Component) (x : ℕ) → Formed p → Charts p c → members (p .plan) part ≡ wholeOf (p .plan)
     → started p ≡ false → x < p .plan .count → Enterable p c 0 part 0 x
 unfolding entered
 start-enterable p c part x w h e new l =
@@ -107,7 +106,7 @@ start-enterable p c part x w h e new l =
       after = subst (λ (S : Set). T (partyValid (entering p 0 S 0 x))) (sym e) (formed-entered p w x (false→not-T new) l .valid);
     }
 
-pub start-entered : (p : Party) (part : Component) (x : ℕ) → members (p .plan) part ≡ upto (p .plan .count)
+pub start-entered : (p : Party) (part : Component) (x : ℕ) → members (p .plan) part ≡ wholeOf (p .plan)
     → entering p 0 (members (p .plan) part) 0 x ≡ entered p x
 unfolding entered
 start-entered p part x e = ap (λ (S : Set). entering p 0 S 0 x) e

@@ -1,13 +1,13 @@
--- `party_run::descend` meets its contract.
+-- `party_step::descend` meets its contract.
 use native.Mathlib.Omega.{arith}
 use Prim.Native.Nat.{_+_, _<_}
 use Rattle.base.specs.Limits.{levelCount}
 use Rattle.party.specs.Party.{levelAt}
 use Rattle.party_laws.proofs.Laws.{Formed}
-use Rattle.party_run.proofs.Typed.{typed-formed}
-use Rattle.party_run.proofs.Entries.{leads-to, descends-next, descends-asks, descends-party, descends-enterable}
-use Rattle.party_run.proofs.descend.Statement.{statement}
-use Rattle.party_run.proofs.descend.Tie as tie
+use Rattle.party_step.proofs.Typed.{typed-formed}
+use Rattle.party_step.proofs.Entries.{leads-to, descends-next, descends-asks, descends-party, descends-enterable}
+use Rattle.party_step.proofs.descend.Statement.{statement}
+use Rattle.party_step.proofs.descend.Tie as tie
 
 formed : (s : tie.Start) → Formed (s .args .t1)
 formed s = typed-formed (s .args .t1) _ (s .good .0) (s .pre .valid)

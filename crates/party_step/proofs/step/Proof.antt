@@ -1,21 +1,21 @@
--- `party_run::step` meets its contract.
+-- `party_step::step` meets its contract.
 use borrow.Author.Needs.{needs}
 use native.Mathlib.Omega.{arith}
 use Prim.Native.Nat.{_<_}
 use Rattle.base.specs.Limits.{levelCount}
 use Rattle.party.specs.Party.{withLevel}
 use Rattle.party_laws.proofs.Laws.{Formed}
-use Rattle.party_run.proofs.Typed.{typed-formed}
-use Rattle.party_run.proofs.Entries.{leads-to}
-use Rattle.party_run.proofs.Steps.{step-below, step-nothing, step-quiet, step-send, step-enter, step-send-enter}
-use Rattle.party_run.proofs.step.Statement.{statement}
-use Rattle.party_run.proofs.step.Tie as tie
+use Rattle.party_step.proofs.Typed.{typed-formed}
+use Rattle.party_step.proofs.Entries.{leads-to}
+use Rattle.party_step.proofs.Steps.{step-below, step-nothing, step-quiet, step-send, step-enter, step-send-enter}
+use Rattle.party_step.proofs.step.Statement.{statement}
+use Rattle.party_step.proofs.step.Tie as tie
 
 formed : (s : tie.Start) → Formed (s .args .p)
-formed s = typed-formed (s .args .p) _ (s .good .0) (s .pre .0)
+formed s = typed-formed (s .args .p) _ (s .good .0) (s .pre .0 .valid)
 
 below : (s : tie.Start) → s .args .i < levelCount
-below s = step-below (s .args .p) (s .args .c) (s .args .i) (s .args .a) (formed s) (s .pre .1) (s .pre .2) (s .pre .3)
+below s = step-below (s .args .p) (s .args .c) (s .args .i) (s .args .a) (formed s) (s .pre .0 .charts) (s .pre .1) (s .pre .2)
 
 mul-l : tie.Need-mul-l
 mul-l c = omega (arith, below (c .before))
@@ -40,7 +40,7 @@ unfolding withLevel
 descend-requires c κs =
     let s = c .before .before .before .before in
     let a = s .args in
-    step-enter (a .p) (a .c) (a .i) (a .a) (formed s) (s .pre .1) (s .pre .2) (s .pre .3)
+    step-enter (a .p) (a .c) (a .i) (a .a) (formed s) (s .pre .0 .charts) (s .pre .1) (s .pre .2)
     (c .before .e .given .0 .0) (c .before .e .given .0 .1 .0) (c .before .e .given .1) .0
 
 enum-known-e-2 : tie.Need-enum-known-e-2
@@ -51,28 +51,28 @@ unfolding withLevel
 descend-requires-2 c κs =
     let s = c .before .before .before .before in
     let a = s .args in
-    step-send-enter (a .p) (a .c) (a .i) (a .a) (formed s) (s .pre .1) (s .pre .2) (s .pre .3)
+    step-send-enter (a .p) (a .c) (a .i) (a .a) (formed s) (s .pre .0 .charts) (s .pre .1) (s .pre .2)
     (c .before .e2 .given .0 .0) (c .before .e2 .given .1) .0
 
 returns : tie.Need-returns
 returns c =
     let s = c .before .before .before in
     let a = s .args in
-    step-nothing (a .p) (a .c) (a .i) (a .a) (formed s) (s .pre .1) (s .pre .2) (s .pre .3) (c .enum-told .given .1)
+    step-nothing (a .p) (a .c) (a .i) (a .a) (formed s) (s .pre .0 .charts) (s .pre .1) (s .pre .2) (c .enum-told .given .1)
 
 returns-2 : tie.Need-returns-2
 unfolding withLevel
 returns-2 c =
     let s = c .before .before .before in
     let a = s .args in
-    step-quiet (a .p) (a .c) (a .i) (a .a) (formed s) (s .pre .1) (s .pre .2) (s .pre .3) (c .enum-told2 .given .1)
+    step-quiet (a .p) (a .c) (a .i) (a .a) (formed s) (s .pre .0 .charts) (s .pre .1) (s .pre .2) (c .enum-told2 .given .1)
 
 returns-3 : tie.Need-returns-3
 unfolding withLevel
 returns-3 c =
     let s = c .before .before .before in
     let a = s .args in
-    step-send (a .p) (a .c) (a .i) (a .a) (formed s) (s .pre .1) (s .pre .2) (s .pre .3)
+    step-send (a .p) (a .c) (a .i) (a .a) (formed s) (s .pre .0 .charts) (s .pre .1) (s .pre .2)
     (c .enum-told3 .given .0 .0) (c .enum-told3 .given .1)
 
 returns-4 : tie.Need-returns-4
@@ -82,7 +82,7 @@ returns-4 c =
     let a = s .args in
     let e = c .before .before .e .given in
     leads-to _ _ (c .descend .result)
-    (step-enter (a .p) (a .c) (a .i) (a .a) (formed s) (s .pre .1) (s .pre .2) (s .pre .3) (e .0 .0) (e .0 .1 .0) (e .1) .1)
+    (step-enter (a .p) (a .c) (a .i) (a .a) (formed s) (s .pre .0 .charts) (s .pre .1) (s .pre .2) (e .0 .0) (e .0 .1 .0) (e .1) .1)
     (c .descend .ensures)
 
 returns-5 : tie.Need-returns-5
@@ -92,7 +92,7 @@ returns-5 c =
     let a = s .args in
     let e = c .before .before .e2 .given in
     leads-to _ _ (c .descend2 .result)
-    (step-send-enter (a .p) (a .c) (a .i) (a .a) (formed s) (s .pre .1) (s .pre .2) (s .pre .3) (e .0 .0) (e .1) .1)
+    (step-send-enter (a .p) (a .c) (a .i) (a .a) (formed s) (s .pre .0 .charts) (s .pre .1) (s .pre .2) (e .0 .0) (e .1) .1)
     (c .descend2 .ensures)
 
 pub step-spec : {M : Type 1} → statement M

@@ -23,9 +23,9 @@ use Rattle.party.specs.Run.{ruleAt, openAt, openLevel, stepAt, madeBy}
 use Rattle.party.specs.Chart.{Charts, noSurvey}
 use Rattle.party_laws.proofs.Laws.{Formed, sending-level, open-sending, open-level}
 use Rattle.party_bounds.proofs.Laws.{levels-quiescent}
-use Rattle.party_run.specs.declared.Opening.{Opening}
-use Rattle.party_run.specs.Inner.{seen, Opens}
-use Rattle.party_run.proofs.Charts.{charted-sends, sends-charted}
+use Rattle.party_step.specs.declared.Opening.{Opening}
+use Rattle.party_step.specs.Inner.{seen, Opens}
+use Rattle.party_step.proofs.Charts.{charted-sends, sends-charted}
 
 -- no rule applies below i
 abbrev pub Closed : Party → ℕ → Type 0

@@ -1,14 +1,14 @@
--- `party_run::enter` meets its contract.
+-- `party_step::enter` meets its contract.
 use mathlib.Core.Path.{subst}
 use Prim.Native.Nat.{ℕ, _≤_, _<_}
 use native.Mathlib.Omega.{arith}
 use Rattle.base.specs.Limits.{levelCount}
 use Rattle.party.specs.Party.{levelAt, withLevel}
 use Rattle.party_laws.proofs.Laws.{Formed}
-use Rattle.party_run.proofs.Typed.{typed-formed, chart-surveys}
-use Rattle.party_run.proofs.Entries.{enter-plan, enter-place, small-leads, large-leads}
-use Rattle.party_run.proofs.enter.Statement.{statement}
-use Rattle.party_run.proofs.enter.Tie as tie
+use Rattle.party_step.proofs.Typed.{typed-formed, chart-surveys}
+use Rattle.party_step.proofs.Entries.{enter-plan, enter-place, small-leads, large-leads}
+use Rattle.party_step.proofs.enter.Statement.{statement}
+use Rattle.party_step.proofs.enter.Tie as tie
 
 formed : (s : tie.Start) → Formed (s .args .t1)
 formed s = typed-formed (s .args .t1) _ (s .good .0) (s .pre .valid)

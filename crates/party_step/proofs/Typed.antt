@@ -13,7 +13,7 @@ use denote.Array.{each}
 use denote.Laws.{Is}
 use Rattle.base.specs.Limits.{levelCount}
 use Rattle.level.specs.declared.Level.{Level}
-use Rattle.level.specs.Level.{noLevel}
+use Rattle.level.specs.Level.{noLevel, valueCount}
 use Rattle.level.proofs.Level as LevelType
 use Rattle.party.specs.declared.Party.{Party}
 use Rattle.party.specs.declared.Chart.{Chart}
@@ -32,13 +32,13 @@ each-at g f (x ∷ xs) [] z h i l = absurd h
 each-at g f (x ∷ xs) (u ∷ us) z h zero l = (u, h .0)
 each-at g f (x ∷ xs) (u ∷ us) z h (suc i) l = each-at g f xs us z (h .1) i (omega arith)
 
-level-echoes : (l : Level) (vs : List Val) → Is LevelType.the-row l vs → length (l .echoed) ≡ 17
+level-echoes : (l : Level) (vs : List Val) → Is LevelType.the-row l vs → length (l .echoed) ≡ valueCount
 level-echoes l vs h = sym (length-map (l .echoed) _) ∙ h .1 .1 .1 .1 .1 .1 .1 .1 .1 .1 .0 .1 .0 .1
 
 party-levels : (p : Party) (vs : List Val) → Is PartyType.the-row p vs → length (p .levels) ≡ levelCount
 party-levels p vs h = sym (length-map (p .levels) _) ∙ h .1 .1 .1 .1 .1 .1 .1 .0 .1 .0 .1
 
-party-echoes : (p : Party) (vs : List Val) → Is PartyType.the-row p vs → (i : ℕ) → i < levelCount → length (levelAt p i .echoed) ≡ 17
+party-echoes : (p : Party) (vs : List Val) → Is PartyType.the-row p vs → (i : ℕ) → i < levelCount → length (levelAt p i .echoed) ≡ valueCount
 unfolding levelAt
 party-echoes p vs h i l =
     let a = h .1 .1 .1 .1 .1 .1 .1 .0 in

@@ -1,14 +1,14 @@
--- `party_run::lowest_open` meets its contract. The loop's invariant: i is at most the number of levels that send, and no rule applies below i.
+-- `party_step::lowest_open` meets its contract. The loop's invariant: i is at most the number of levels that send, and no rule applies below i.
 use borrow.Author.Needs.{needs}
 use mathlib.Core.Path.{_∙_}
 use Prim.Native.Nat.{_-_, _≤_}
 use native.Mathlib.Omega.{arith}
 use Rattle.party.specs.Party.{levelAt}
 use Rattle.party_laws.proofs.Laws.{Formed}
-use Rattle.party_run.proofs.Typed.{typed-formed}
-use Rattle.party_run.proofs.Openings.{Closed, closed-start, opens-none, rule-limits, rule-found, opens-here, closed-next}
-use Rattle.party_run.proofs.lowest_open.Statement.{statement}
-use Rattle.party_run.proofs.lowest_open.Tie as tie
+use Rattle.party_step.proofs.Typed.{typed-formed}
+use Rattle.party_step.proofs.Openings.{Closed, closed-start, opens-none, rule-limits, rule-found, opens-here, closed-next}
+use Rattle.party_step.proofs.lowest_open.Statement.{statement}
+use Rattle.party_step.proofs.lowest_open.Tie as tie
 
 abbrev Inv-loop : tie.InvT-loop
 Inv-loop p c i₀ i = (i ≤ c .sending) × Closed p i
@@ -17,31 +17,31 @@ abbrev μ-loop : tie.MeasureT-loop
 μ-loop p c i₀ i = c .sending - i
 
 formed : (s : tie.Start Inv-loop μ-loop) → Formed (s .args .t1)
-formed s = typed-formed (s .args .t1) _ (s .good .0) (s .pre .0)
+formed s = typed-formed (s .args .t1) _ (s .good .0) (s .pre .valid)
 
 loop-holds : tie.Need-loop-holds Inv-loop μ-loop
 loop-holds c = (omega arith, closed-start (c .args .t1))
 
 mul-s : tie.Need-mul-s Inv-loop μ-loop
-mul-s c = omega (arith, c .before .before .pre .1 .last)
+mul-s c = omega (arith, c .before .before .pre .charts .last)
 
 element-copy-out-s : tie.Need-element-copy-out-s Inv-loop μ-loop
-element-copy-out-s c = omega (arith, c .before .before .pre .1 .last)
+element-copy-out-s c = omega (arith, c .before .before .pre .charts .last)
 
 mul-l : tie.Need-mul-l Inv-loop μ-loop
-mul-l c = omega (arith, c .before .before .before .pre .1 .last)
+mul-l c = omega (arith, c .before .before .before .pre .charts .last)
 
 element-copy-out-l : tie.Need-element-copy-out-l Inv-loop μ-loop
-element-copy-out-l c = omega (arith, c .before .before .before .pre .1 .last)
+element-copy-out-l c = omega (arith, c .before .before .before .pre .charts .last)
 
 add-next : tie.Need-add-next Inv-loop μ-loop
-add-next c = omega (arith, c .before .before .before .before .pre .1 .last)
+add-next c = omega (arith, c .before .before .before .before .pre .charts .last)
 
 mul-next : tie.Need-mul-next Inv-loop μ-loop
-mul-next c = omega (arith, c .before .before .before .before .pre .1 .last)
+mul-next c = omega (arith, c .before .before .before .before .pre .charts .last)
 
 element-copy-out-next : tie.Need-element-copy-out-next Inv-loop μ-loop
-element-copy-out-next c = omega (arith, c .before .before .before .before .pre .1 .last)
+element-copy-out-next c = omega (arith, c .before .before .before .before .pre .charts .last)
 
 context-requires : tie.Need-context-requires Inv-loop μ-loop
 context-requires c κs = search needs
@@ -51,7 +51,7 @@ unfolding levelAt
 lowest-rule-requires c κs =
     let b = c .before .before .before .before in
     let s = b .before .before in
-    rule-limits (s .args .t1) (s .args .t2) (formed s) (s .pre .1) (b .before .loop .i) (b .loop-test .taken)
+    rule-limits (s .args .t1) (s .args .t2) (formed s) (s .pre .charts) (b .before .loop .i) (b .loop-test .taken)
     (c .context .result) (c .context .ensures)
 
 applies-requires : tie.Need-applies-requires Inv-loop μ-loop
@@ -66,14 +66,14 @@ returns c =
     let i = b .before .loop .i in
     let w = formed s in
     let a = c .before .before .lowest-rule in
-    opens-here (s .args .t1) (s .args .t2) w (s .pre .1) i (b .loop-test .taken) (a .result)
-    (a .ensures ∙ rule-found (s .args .t1) (s .args .t2) w (s .pre .1) i (b .loop-test .taken) (d .context .result) (d .context .ensures))
+    opens-here (s .args .t1) (s .args .t2) w (s .pre .charts) i (b .loop-test .taken) (a .result)
+    (a .ensures ∙ rule-found (s .args .t1) (s .args .t2) w (s .pre .charts) i (b .loop-test .taken) (d .context .result) (d .context .ensures))
     (c .before .applies .result) (c .before .applies .ensures) (b .before .loop .inv .1) (c .if1 .taken)
 
 add-i : tie.Need-add-i Inv-loop μ-loop
 add-i c =
     let b = c .before .before .before .before .before .before .before in
-    omega (arith, b .loop-test .taken, b .before .before .pre .1 .last)
+    omega (arith, b .loop-test .taken, b .before .before .pre .charts .last)
 
 loop-less : tie.Need-loop-less Inv-loop μ-loop
 loop-less c =
@@ -90,8 +90,8 @@ loop-again c =
     let w = formed s in
     let a = c .before .before .lowest-rule in (
       omega (arith, b .loop-test .taken),
-      closed-next (s .args .t1) (s .args .t2) w (s .pre .1) i (b .loop-test .taken) (a .result)
-          (a .ensures ∙ rule-found (s .args .t1) (s .args .t2) w (s .pre .1) i (b .loop-test .taken) (d .context .result) (d .context .ensures))
+      closed-next (s .args .t1) (s .args .t2) w (s .pre .charts) i (b .loop-test .taken) (a .result)
+          (a .ensures ∙ rule-found (s .args .t1) (s .args .t2) w (s .pre .charts) i (b .loop-test .taken) (d .context .result) (d .context .ensures))
           (c .before .applies .result) (c .before .applies .ensures) (b .before .loop .inv .1) (c .if1 .left),
     )
 
@@ -102,7 +102,7 @@ returns-2 : tie.Need-returns-2 Inv-loop μ-loop
 returns-2 c =
     let b = c .before in
     let s = b .before .before in
-    opens-none (s .args .t1) (s .args .t2) (formed s) (s .pre .1) (b .before .loop .i) (b .before .loop .inv .1)
+    opens-none (s .args .t1) (s .args .t2) (formed s) (s .pre .charts) (b .before .loop .i) (b .before .loop .inv .1)
     (b .loop-test .left) _
 
 pub lowest-open-spec : {M : Type 1} → statement M

@@ -13,18 +13,18 @@ use Rattle.level.specs.declared.Context.{Context}
 use Rattle.level.specs.declared.Applied.{Applied}
 use Rattle.level.specs.declared.Effect.{Effect}
 use Rattle.level.specs.declared.Effect.the-variants.{Nothing, Quiet, Send, Enter, SendEnter}
-use Rattle.level.proofs.Moves.{Move}
-use Rattle.level.proofs.Moves.{port-echo, none-echo, first-proposal, first-value, first-none, own-echo, relay, second-proposal, sure-result, none-result, unsure-result, centre-output, sure-entry, unsure-entry, centre-message, sided-entry, told-output, next-output}
+use Rattle.level_laws.proofs.Moves.{Move}
+use Rattle.level_laws.proofs.Moves.{port-echo, none-echo, first-proposal, first-value, first-none, own-echo, relay, second-proposal, sure-result, none-result, unsure-result, centre-output, sure-entry, unsure-entry, centre-message, sided-entry, told-output, next-output}
 use Rattle.level_laws.proofs.Grows.{Unmoved, move-unmoved}
 use Rattle.party.specs.declared.Party.{Party}
 use Rattle.party.specs.declared.Chart.{Chart}
 use Rattle.party.specs.Party.{levelAt, withLevel, contextOf, sending}
-use Rattle.party.specs.Run.{ruleAt, openAt, gate, descend, afterRule, stepAt, madeBy}
+use Rattle.party.specs.Run.{ruleAt, openAt, gate, descend, afterRule, stepAt}
 use Rattle.party.specs.Valid.{partyValid}
 use Rattle.party.specs.Chart.{Charts}
 use Rattle.party_laws.proofs.Laws.{Formed, level-back, sending-level, open-sending, open-move, formed-step}
-use Rattle.party_run.specs.Inner.{Descends, descended, Leads}
-use Rattle.party_run.proofs.Charts.{charts-with}
+use Rattle.party_step.specs.Inner.{Descends, descended, Leads}
+use Rattle.party_step.proofs.Charts.{charts-with}
 
 -- a rule that enters leaves its level's record, and the next level was not entered
 abbrev Enters : Context → Level → Level → Effect → Type 0

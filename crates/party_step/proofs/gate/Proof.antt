@@ -1,7 +1,7 @@
--- `party_run::gate` meets its contract.
+-- `party_step::gate` meets its contract.
 use borrow.Author.Needs.{needs}
-use Rattle.party_run.proofs.gate.Statement.{statement}
-use Rattle.party_run.proofs.gate.Tie as tie
+use Rattle.party_step.proofs.gate.Statement.{statement}
+use Rattle.party_step.proofs.gate.Tie as tie
 
 returns : tie.Need-returns
 returns c = search needs

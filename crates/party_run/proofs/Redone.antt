@@ -1,0 +1,47 @@
+-- What a record's call gives when it is made again.
+use mathlib.Core.Path.{_≡_, refl, sym, ap, _∙_, subst}
+use mathlib.Core.Bool.{Bool, true}
+use mathlib.Core.List.{List}
+use Prim.Native.Nat.{ℕ}
+use lib.ListN.{length}
+use Rattle.base.specs.Put.{putAt}
+use Rattle.base.proofs.Puts.{put-none}
+use Rattle.message.specs.declared.Message.{Message}
+use Rattle.journal.specs.declared.Record.{Record}
+use Rattle.journal.specs.declared.Record.the-variants.{Start, Taken}
+use Rattle.party.specs.declared.Party.{Party}
+use Rattle.party.specs.declared.Chart.{Chart}
+use Rattle.party.specs.Party.{heldBy}
+use Rattle.party.specs.Run.{Ran, resting, starting, taking}
+use Rattle.party.specs.Chart.{Charts}
+use Rattle.party_life.specs.Life.{replayed}
+use Rattle.party_run.specs.Inner.{Gives}
+use Rattle.party_run.specs.declared.Ran as Running
+use Rattle.party_run.proofs.Going.{voiced-none}
+
+module _ (p : Party) (x : Record) where
+  pub replayed-start : {a y : ℕ} → x ≡ Start a y → replayed p x ≡ starting p y
+  unfolding replayed
+  replayed-start e = ap (replayed p) e
+
+  pub replayed-taken : {s : ℕ} {m : Message} → x ≡ Taken s m → replayed p x ≡ taking p s m
+  unfolding replayed
+  replayed-taken e = ap (replayed p) e
+
+  pub replayed-held : {s : ℕ} {m : Message} → x ≡ Taken s m → heldBy p s m ≡ true → replayed p x ≡ resting p
+  unfolding taking
+  replayed-held e h = replayed-taken e ∙ rw h
+
+module _ {loud : Bool} {out outThen : List ℕ} {g : Running.Ran} where
+  pub gives-same : {x y : Ran} → x ≡ y → Gives y loud out g outThen → Gives x loud out g outThen
+  gives-same e h = subst (λ (z : Ran). Gives z loud out g outThen) (sym e) h
+
+-- nothing is done
+pub gives-rest : (p : Party) (c : Chart) (loud : Bool) (out : List ℕ) → Charts p c → Gives (resting p) loud out (record { party = p; chart = c; rules = 0; sent = 0 }) out
+gives-rest p c loud out h = record {
+  party = refl;
+  chart = h;
+  rules = refl;
+  sent = ap length (sym (voiced-none loud));
+  outgoing = sym (ap (putAt out 0) (voiced-none loud) ∙ put-none out 0);
+}
