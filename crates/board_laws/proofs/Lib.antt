@@ -1,0 +1,6 @@
+pub mod Inputs
+pub mod Questions
+pub mod Recorded
+pub mod Replays
+pub mod Kept
+pub mod Restored

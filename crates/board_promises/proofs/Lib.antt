@@ -1,0 +1,4 @@
+pub mod Given
+pub mod Outgoing
+pub mod Refused
+pub mod Starts

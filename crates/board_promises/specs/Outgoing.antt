@@ -1,0 +1,46 @@
+-- "An accepted call writes its messages from the outgoing buffer's first byte": the messages that bytes are, read one after the other.
+use mathlib.Core.Path.{_≡_}
+use mathlib.Core.Bool.{true}
+use mathlib.Core.List.{List, [], _∷_, List·Memᴰ}
+use mathlib.Core.Option.{Option, none, some}
+use Prim.Native.Nat.{ℕ, zero, suc, _^_, _<_}
+use lib.Dec.{eqb}
+use lib.ListN.{length}
+use Rattle.base.specs.Pick.{pick}
+use Rattle.base.specs.Limits.{levelCount}
+use Rattle.message.specs.declared.Message.{Message}
+use Rattle.message.specs.declared.MessageRead.{MessageRead}
+use Rattle.message.specs.Message.{inTable, messageAt}
+use Rattle.level.specs.Level.{valueCount}
+use Rattle.party.specs.declared.Party.{Party}
+use Rattle.party.specs.Party.{levelAt}
+
+-- a message, and then the rest if that is messages
+abbrev pub withRest : Message → Option (List Message) → Option (List Message)
+withRest m none = none
+withRest m (some ms) = some (m ∷ ms)
+
+-- what is read first, and then what stands after it
+abbrev pub withNext : MessageRead → (ℕ → Option (List Message)) → Option (List Message)
+withNext (MessageRead.Read m next) more = withRest m (more next)
+withNext MessageRead.Short more = none
+withNext MessageRead.Bad more = none
+
+-- the messages from `at` to the last byte of s, at most f; none if something else stands there
+unfoldable pub messagesFrom : ℕ → List ℕ → ℕ → Option (List Message)
+messagesFrom zero s at = pick (eqb at (length s)) (some []) none
+messagesFrom (suc f) s at = pick (eqb at (length s)) (some []) (withNext (messageAt s at) (messagesFrom f s))
+
+-- the messages that all the bytes of s are; there are no more than bytes
+abbrev pub messagesOf : List ℕ → Option (List Message)
+messagesOf s = messagesFrom (length s) s 0
+
+-- messages that can be written: of the table, with an agreement number of 32 bits
+abbrev pub AllWritable : List Message → Type 0
+AllWritable ms = (m : Message) → List·Memᴰ m ms → (inTable m ≡ true) × (m .number < 2 ^ 32)
+
+-- what a party has by its type: all levels, in each a place for every second echo, and an agreement number of 32 bits
+pub record Typed (p : Party) : Type 0 where
+  pub levels : length (p .levels) ≡ levelCount
+  pub echoes : (i : ℕ) → i < levelCount → length (levelAt p i .echoed) ≡ valueCount
+  pub agreement : p .agreement < 2 ^ 32

@@ -1,0 +1,4 @@
+pub mod Befores
+pub mod Faults
+pub mod Restores
+pub mod Scans
