@@ -5,10 +5,8 @@ use mathlib.Core.Bool.{Bool, true, false}
 use Prim.Native.Nat.{ℕ, zero, suc, _≤_, _<_}
 use native.Mathlib.Decide.{ℕ-discrete}
 use native.Mathlib.Omega.{arith}
-use Rattle.base.specs.Sets.{Set}
-use Rattle.execution.specs.Machine.{Sound}
-use Rattle.descent.specs.Shape.{Shape, OnSide, Laws, Convex}
-use Rattle.descent.specs.Levels.{Levels, Entry, stays, moves, follows, Outcome, on-entry, by-zero, by-none, from-below, Shared, Ported, Differ, Graded, Facts}
+use Rattle.base.specs.Sets.{Set, Sound}
+use Rattle.descent.specs.Inner.{Shape, OnSide, Laws, Convex, Levels, Entry, stays, moves, follows, Outcome, on-entry, by-zero, by-none, from-below, Shared, Ported, Differ, Graded, Facts}
 
 -- one position by itself is convex
 pub alone : (P : Shape) (p : ℕ) → Convex P (λ x. x ≡ p)

@@ -6,12 +6,10 @@ use Prim.Native.Nat.{ℕ, zero, suc, _*_, _≤_, _<_}
 use native.Mathlib.Decide.{decLt}
 use native.Mathlib.Omega.{arith}
 use lib.Dec.{T}
-use Rattle.base.specs.Sets.{Set, count}
+use Rattle.base.specs.Sets.{Set, count, Sound}
 use Rattle.base.proofs.Bools.{T-left, T-right, T-dec}
 use Rattle.base.proofs.Counts.{count-not, count-split, member}
-use Rattle.execution.specs.Machine.{Sound}
-use Rattle.descent.specs.Shape.{Shape, Laws}
-use Rattle.descent.specs.Levels.{Levels, Graded, Facts, Reached, Resulted, Answered, Many, Quiet}
+use Rattle.descent.specs.Inner.{Shape, Laws, Levels, Graded, Facts, Reached, Resulted, Answered, Many, Quiet}
 use Rattle.descent.proofs.Descent.{Here, Has, Together, shared, together, consensus, side-there, enters, smaller}
 
 -- where each sound board has A or B, a set tells which

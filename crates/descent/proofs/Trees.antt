@@ -4,13 +4,11 @@ use mathlib.Core.Logic.{_⊎_, inl, inr}
 use Prim.Native.Nat.{ℕ, _*_, _≤_, _<_}
 use native.Mathlib.Omega.{arith}
 use lib.Dec.{T}
-use Rattle.base.specs.Sets.{Set, count}
+use Rattle.base.specs.Sets.{Set, count, Sound}
 use Rattle.tree.specs.Edges.{Edges, Adjacent, Acyclic}
 use Rattle.tree.specs.Component.{centre, degree, port, neighbour, side}
 use Rattle.tree.proofs.Laws.{flip, small, Component, port-high, port-zero, port-side, side-component, side-halves, neighbour-side, neighbour-adjacent, ports-path, neighbour-path, Hull, hull-member, hull-path}
-use Rattle.execution.specs.Machine.{Sound}
-use Rattle.descent.specs.Shape.{Shape, OnSide, Laws, Convex}
-use Rattle.descent.specs.Levels.{Levels, Facts, Input, Reached, Answered, Quiet}
+use Rattle.descent.specs.Inner.{Shape, OnSide, Laws, Convex, Levels, Facts, Input, Reached, Answered, Quiet}
 use Rattle.descent.proofs.Descent.{answers-in, outputs-near}
 use Rattle.descent.proofs.Ending.{answers}
 

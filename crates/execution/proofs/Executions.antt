@@ -5,9 +5,9 @@ use mathlib.Core.List.{List, [], _∷_}
 use mathlib.Core.Bool.{Bool, true, false}
 use Prim.Native.Nat.{ℕ}
 use lib.Dec.{eqb}
-use Rattle.base.specs.Sets.{Set}
-use Rattle.execution.specs.Machine.{Event, start, take, Machine, Sound}
-use Rattle.execution.specs.Execution.{Step, move, state, Fair, Valid}
+use Rattle.base.specs.Sets.{Set, Sound}
+use Rattle.execution.specs.Machine.{Event, start, take, Machine}
+use Rattle.execution.specs.Inner.{Step, move, state, Fair, Valid}
 use Rattle.execution.proofs.Lawful.{Lawful}
 
 module _ (M : Machine) (W : Lawful M) where

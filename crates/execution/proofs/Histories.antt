@@ -2,9 +2,10 @@
 use mathlib.Core.Path.{sym, subst}
 use mathlib.Core.List.{List}
 use Prim.Native.Nat.{ℕ}
-use Rattle.base.specs.Sets.{Set}
-use Rattle.execution.specs.Machine.{Machine, Sound}
-use Rattle.execution.specs.History.{HStep, log, after, ValidH}
+use Rattle.base.specs.Sets.{Set, Sound}
+use Rattle.execution.specs.Machine.{Machine}
+use Rattle.execution.specs.History.{HStep, log, after}
+use Rattle.execution.specs.Inner.{ValidH}
 use Rattle.execution.proofs.Lawful.{Lawful}
 use Rattle.execution.proofs.Executions.{authentic, causal}
 use Rattle.execution.proofs.Uncut.{uncut}

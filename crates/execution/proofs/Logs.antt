@@ -10,8 +10,9 @@ use lib.ListN.{length, drop, length-drop}
 use lib.Seq.{drop-drop}
 use Rattle.base.specs.Pick.{pick}
 use Rattle.base.specs.Sets.{Set}
-use Rattle.execution.specs.Machine.{Event, start, take, Machine}
-use Rattle.execution.specs.History.{HStep, act, hand, mark, cut, log, held, after, Handed, Seen, ValidH}
+use Rattle.execution.specs.Machine.{Event, Machine}
+use Rattle.execution.specs.History.{HStep, act, hand, mark, cut, log, held, after, Handed}
+use Rattle.execution.specs.Inner.{Seen, ValidH}
 use Rattle.execution.proofs.Lawful.{Lawful}
 
 module _ (M : Machine) where

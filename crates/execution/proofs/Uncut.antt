@@ -11,8 +11,8 @@ use lib.Seq.{drop-drop}
 use Rattle.base.specs.Pick.{pick}
 use Rattle.base.specs.Sets.{Set}
 use Rattle.execution.specs.Machine.{Event, start, take, Machine}
-use Rattle.execution.specs.Execution.{Step, move, state, Fair, Valid}
-use Rattle.execution.specs.History.{HStep, act, hand, mark, cut, log, held, after, FairH, ValidH}
+use Rattle.execution.specs.Inner.{Step, move, state, Fair, Valid, ValidH}
+use Rattle.execution.specs.History.{HStep, act, hand, mark, cut, log, held, after, FairH}
 use Rattle.execution.proofs.Lawful.{Lawful}
 use Rattle.execution.proofs.Logs.{held-le, Kept, handed-kept}
 

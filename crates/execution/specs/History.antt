@@ -3,12 +3,12 @@
 use mathlib.Core.Path.{_≡_}
 use mathlib.Core.Logic.{_⊎_}
 use mathlib.Core.List.{List, [], _∷_}
-use Prim.Native.Nat.{ℕ, _-_, _≤_}
+use Prim.Native.Nat.{ℕ, _-_}
 use lib.Dec.{eqb}
 use lib.ListN.{length, drop}
 use Rattle.base.specs.Pick.{pick}
-use Rattle.base.specs.Sets.{Set}
-use Rattle.execution.specs.Machine.{Event, start, take, Machine, Sound}
+use Rattle.base.specs.Sets.{Set, Sound}
+use Rattle.execution.specs.Machine.{Event, start, take, Machine}
 
 module _ (M : Machine) where
   -- act i e: board i makes the recorded call e.
@@ -50,28 +50,8 @@ module _ (M : Machine) where
   Handed j m (mark i ∷ h) = Handed j m h
   Handed j m (cut i k ∷ h) = Handed j m h
 
-  -- P held of board j's state at some mark or handing over of it
-  abbrev pub Seen : ℕ → (M .State → Type 0) → List HStep → Type 0
-  Seen j P [] = ⊥
-  Seen j P (act i e ∷ h) = Seen j P h
-  Seen j P (hand i m ∷ h) = ((i ≡ j) × P (after j (log j h))) ⊎ Seen j P h
-  Seen j P (mark i ∷ h) = ((i ≡ j) × P (after j (log j h))) ⊎ Seen j P h
-  Seen j P (cut i k ∷ h) = Seen j P h
-
   module _ (n : ℕ) (bad : Set) where
     -- a message taken as a sound board's was handed over by it before
     abbrev pub FairH : Event (M .Msg) (M .Input) → List HStep → Type 0
     FairH (start x) h = Unit {0}
     FairH (take s m) h = Sound n bad s → Handed s m h
-
-    -- what the steps so far allow next: only made messages are handed over, and a cut leaves what is held
-    abbrev pub May : HStep → List HStep → Type 0
-    May (act i e) h = FairH e h
-    May (hand i m) h = M .Sent (after i (log i h)) m
-    May (mark i) h = Unit {0}
-    May (cut i k) h = (held i h ≤ k) × (k ≤ length (log i h))
-
-    -- every step was allowed when it was made
-    abbrev pub ValidH : List HStep → Type 0
-    ValidH [] = Unit {0}
-    ValidH (x ∷ h) = ValidH h × May x h

@@ -1,3 +1,3 @@
 pub mod Machine
-pub mod Execution
 pub mod History
+pub mod Inner

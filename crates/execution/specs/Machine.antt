@@ -1,8 +1,5 @@
 -- A board as a state machine: its state is what its recorded calls make of it.
-use Prim.Native.Nat.{ℕ, _<_}
-use mathlib.Core.Bool.{not}
-use lib.Dec.{T}
-use Rattle.base.specs.Sets.{Set}
+use Prim.Native.Nat.{ℕ}
 
 -- a recorded call: a start with an input, or a message taken as board s's
 pub data Event (Msg Input : Type 0) : Type 0 where
@@ -17,11 +14,7 @@ pub record Machine : Type 1 where
   pub initial : (i : ℕ) → State
   -- one recorded call
   pub run : State → Event Msg Input → State
-  -- the message was taken as that board's
+  -- what the state tells, for proofs: the message was taken as that board's
   pub Heard : State → ℕ → Msg → Type 0
-  -- the message was made
+  -- and: the message was made
   pub Sent : State → Msg → Type 0
-
--- a sound board: one of the n, and not faulty
-abbrev pub Sound : ℕ → Set → ℕ → Type 0
-Sound n bad i = (i < n) × T (not (bad i))

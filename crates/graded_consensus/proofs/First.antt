@@ -7,10 +7,11 @@ use native.Mathlib.Omega.{arith}
 use lib.Dec.{T, eqb, eqb→eq}
 use Rattle.base.specs.Sets.{count}
 use Rattle.base.proofs.Bools.{T-left, T-right, or-split}
+use Rattle.base.proofs.Any.{below-some}
 use Rattle.message.specs.declared.Body.the-variants.{FirstEcho, FirstProposal}
 use Rattle.message.specs.Message.{noneValue}
-use Rattle.graded_consensus.specs.View.{Setting, Sound, Fair, View, Justified, echoers, others, digitSide}
-use Rattle.graded_consensus.proofs.Tests.{differs, below-some}
+use Rattle.graded_consensus.specs.Inner.{Setting, Sound, Fair, View, Justified, echoers, others, digitSide}
+use Rattle.graded_consensus.proofs.Tests.{differs}
 use Rattle.graded_consensus.proofs.Digits.{digit}
 use Rattle.graded_consensus.proofs.Sounds.{sound-of, sender-of, sender-of-both}
 

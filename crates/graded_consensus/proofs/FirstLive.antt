@@ -7,13 +7,14 @@ use native.Mathlib.Decide.{decLt, ℕ-discrete}
 use native.Mathlib.Omega.{arith}
 use lib.Dec.{T, eqb, eqb→eq, eqb-refl}
 use Rattle.base.specs.Sets.{Set, count}
+use Rattle.base.proofs.Any.{some-below}
 use Rattle.base.proofs.Bools.{T-and, or-split, or-left, or-right}
 use Rattle.base.proofs.Counts.{count-not, count-split}
 use Rattle.message.specs.declared.Body.the-variants.{FirstEcho, FirstProposal}
 use Rattle.message.specs.Message.{noneValue}
 use Rattle.level.specs.Level.{notYet}
-use Rattle.graded_consensus.specs.View.{Setting, Sound, Fair, View, Justified, Settled, echoers, others, orNone, digitSide}
-use Rattle.graded_consensus.proofs.Tests.{same, differs, not-same, some-below}
+use Rattle.graded_consensus.specs.Inner.{Setting, Sound, Fair, View, Justified, Settled, echoers, others, orNone, digitSide}
+use Rattle.graded_consensus.proofs.Tests.{same, differs, not-same}
 use Rattle.graded_consensus.proofs.Digits.{digit, digits-differ, both-digits}
 use Rattle.graded_consensus.proofs.Sounds.{sounds, all-reach, sounds-reach, part-reach}
 use Rattle.graded_consensus.proofs.First.{echo-none-differ}

@@ -7,7 +7,7 @@ use native.Mathlib.Omega.{arith}
 use Rattle.message.specs.declared.Body.the-variants.{SecondProposal}
 use Rattle.message.specs.Message.{noneValue}
 use Rattle.level.specs.Level.{notYet}
-use Rattle.graded_consensus.specs.View.{Setting, Sound, Fair, View, Justified, Settled}
+use Rattle.graded_consensus.specs.Inner.{Setting, Sound, Fair, View, Justified, Settled}
 use Rattle.graded_consensus.proofs.Sounds.{sender-of-both}
 use Rattle.graded_consensus.proofs.First.{SoundPort, Differ}
 use Rattle.graded_consensus.proofs.Second.{echoes-origin, by-proposals-origin, result-origin, origin-agree, origin-port, origin-none-differ}

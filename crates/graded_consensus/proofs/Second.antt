@@ -6,7 +6,7 @@ use native.Mathlib.Omega.{arith}
 use Rattle.base.specs.Sets.{count}
 use Rattle.message.specs.declared.Body.the-variants.{SecondEcho, SecondProposal}
 use Rattle.message.specs.Message.{noneValue}
-use Rattle.graded_consensus.specs.View.{Setting, Sound, Fair, View, Justified, Origin, ByProposals}
+use Rattle.graded_consensus.specs.Inner.{Setting, Sound, Fair, View, Justified, Origin, ByProposals}
 use Rattle.graded_consensus.proofs.Sounds.{sender-of}
 use Rattle.graded_consensus.proofs.First.{SoundPort, Differ, first-agree, first-port, first-none-differ}
 

@@ -12,7 +12,7 @@ use Rattle.base.proofs.Counts.{count-not, count-split}
 use Rattle.message.specs.declared.Body.the-variants.{SecondEcho, SecondProposal}
 use Rattle.message.specs.Message.{noneValue}
 use Rattle.level.specs.Level.{notYet}
-use Rattle.graded_consensus.specs.View.{Setting, Sound, Fair, View, Justified, Settled, Value}
+use Rattle.graded_consensus.specs.Inner.{Setting, Sound, Fair, View, Justified, Settled, Value}
 use Rattle.graded_consensus.proofs.Tests.{same, differs}
 use Rattle.graded_consensus.proofs.Sounds.{sounds, sound-of, all-reach, sounds-reach, part-reach}
 use Rattle.graded_consensus.proofs.First.{first-agree}

@@ -7,7 +7,7 @@ use Rattle.base.specs.Sets.{Set, count}
 use Rattle.base.proofs.Bools.{T-left, T-right}
 use Rattle.base.proofs.Counts.{count-mono, count-not, sound-member, sound-part, quorum}
 use Rattle.message.specs.declared.Body.{Body}
-use Rattle.graded_consensus.specs.View.{Setting, Sound, Fair, View, Justified}
+use Rattle.graded_consensus.specs.Inner.{Setting, Sound, Fair, View, Justified}
 
 -- a set's sound boards
 abbrev pub sounds : Setting → Set → Set

@@ -5,27 +5,25 @@ use mathlib.Core.Bool.{Bool, false}
 use Prim.Native.Nat.{ℕ, suc, _≤_, _<_}
 use native.Mathlib.Omega.{arith}
 use lib.Dec.{T, not-T}
-use Rattle.base.specs.Sets.{Set, count}
+use Rattle.base.specs.Sets.{Set, count, Sound}
 use Rattle.base.proofs.Bools.{false→not-T}
 use Rattle.base.proofs.Counts.{count-mono}
-use Rattle.tree.proofs.Laws.{port-high}
 use Rattle.plan.specs.declared.Plan.{Plan}
-use Rattle.plan.specs.Positions.{edgesOf}
 use Rattle.component.specs.Component.{sizeOf, degreeOf}
+use Rattle.component_laws.proofs.Laws.{of-plan, port-most}
 use Rattle.message.specs.declared.Body.{Body}
 use Rattle.message.specs.declared.Body.the-variants.{Side, Centre}
 use Rattle.message.specs.declared.Message.{Message}
-use Rattle.level.proofs.Moves.{Answered, Aside, AtRest}
-use Rattle.level_laws.proofs.Counted.{heardFrom, sided-reached, centre-reached}
+use Rattle.level_laws.specs.Inner.{Answered, Aside, heardFrom}
+use Rattle.level_laws.proofs.Moves.{AtRest}
+use Rattle.level_laws.proofs.Counted.{sided-reached, centre-reached}
 use Rattle.level_laws.proofs.Output.{rest-none}
 use Rattle.party.specs.declared.Party.{Party}
 use Rattle.party.specs.Party.{levelAt, componentOf, sending, contextOf}
-use Rattle.party_laws.proofs.Laws.{shape, entered-level, sending-level, position-output}
-use Rattle.execution.specs.Machine.{Sound}
+use Rattle.party_laws.proofs.Laws.{entered-level, sending-level, position-output}
 use Rattle.vote_machine.specs.Machine.{Heard, Sent}
 use Rattle.vote_machine.proofs.Laws.{valued, at-rest}
-use Rattle.descent.specs.Shape.{OnSide}
-use Rattle.descent.specs.Levels.{Shared, Reached, Many, Quiet}
+use Rattle.descent.specs.Inner.{OnSide, Shared, Reached, Many, Quiet}
 use Rattle.log_agreement.proofs.Joint.{Joint}
 use Rattle.log_agreement.proofs.Views.{planShape, EnteredAt, ResultAt, NoneAt, OutputAt, levelsOf, large, sends, context-n, context-t, context-degree, next-entered, next-output}
 use Rattle.log_agreement.proofs.Shared.{level-result}
@@ -89,7 +87,7 @@ module _ {n t agreement : ℕ} {plan : Plan} {bad : Set} {st : ℕ → Party} (J
       let w = J .inv i .regular .formed in
       let c = entered-level (st i) w L (e .entered) in
       told i L (e .entered) (λ z.
-      position-output (st i) w (levelAt (st i) L .position) (c .component .below (levelAt (st i) L .position) (c .place))
+      position-output (st i) w (levelAt (st i) L .position) (c .plan .below (levelAt (st i) L .position) (c .place))
       (sym (J .inv i .regular .small L (e .entered) off) ∙ z))
     where
       off : T (sending (st i) L) → ⊥
@@ -119,7 +117,7 @@ module _ {n t agreement : ℕ} {plan : Plan} {bad : Set} {st : ℕ → Party} (J
       omega (
         arith,
         s .port,
-        port-high (edgesOf plan) (shape plan (J .passes .valid) .acyclic) (plan .count) S (s .large .proper) y (s .member),
+        port-most plan S (of-plan plan S (J .passes .valid) (s .large .proper)) y (s .member),
         context-degree (st i) (J .seated i) L ∙ ap (degreeOf plan) (sym (e .over)),
       ) in
       let w = valued (st i) (J .inv i .regular .formed) L (e .entered) in

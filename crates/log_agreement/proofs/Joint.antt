@@ -4,25 +4,23 @@ use mathlib.Core.Logic.{_⊎_, inl, inr}
 use mathlib.Core.List.{List, [], _∷_}
 use Prim.Native.Nat.{ℕ, _≤_, _<_}
 use lib.Dec.{T}
-use Rattle.base.specs.Sets.{Set, count}
+use Rattle.base.specs.Sets.{Set, count, Sound}
 use Rattle.base.proofs.Counts.{sound-member}
 use Rattle.plan.specs.declared.Plan.{Plan}
 use Rattle.message.specs.declared.Body.the-variants.{SecondEcho}
 use Rattle.message.specs.declared.Message.{Message}
-use Rattle.level.proofs.Moves.{Present, Echoed}
-use Rattle.level_laws.proofs.Messages.{SentIn}
-use Rattle.level_laws.proofs.Counted.{heardFrom}
-use Rattle.level_laws.proofs.Board.{law-own}
+use Rattle.level_laws.specs.Inner.{Present, Echoed, SentIn, heardFrom}
+use Rattle.graded_levels.proofs.Board.{law-own}
 use Rattle.party.specs.declared.Party.{Party}
 use Rattle.party.specs.Party.{levelAt, sending, contextOf}
 use Rattle.party_laws.proofs.Laws.{sending-entered}
-use Rattle.execution.specs.Machine.{Event, Machine, Sound}
-use Rattle.execution.specs.History.{HStep, log, after, ValidH}
+use Rattle.execution.specs.Machine.{Event, Machine}
+use Rattle.execution.specs.History.{HStep, log, after}
+use Rattle.execution.specs.Inner.{ValidH}
 use Rattle.execution.proofs.Lawful.{Lawful}
 use Rattle.execution.proofs.Histories.{inv-after, authentic-log, causal-log}
 use Rattle.vote_machine.specs.Machine.{voteMachine, Heard, Sent}
-use Rattle.vote_machine.specs.Invariant.{Inv}
-use Rattle.vote_machine.specs.Order.{Le}
+use Rattle.vote_machine.specs.Inner.{Inv, Le}
 use Rattle.vote_machine.proofs.Laws.{le-sending, le-called, valued, Passes, vote-lawful}
 
 -- a board of the vote
@@ -89,7 +87,8 @@ module _ (n t agreement : ℕ) (plan : Plan) (v : Passes n t plan) where
   abbrev W : Lawful M
   W = vote-lawful n t agreement plan v
 
-  invariant : (i : ℕ) (l : List (Event Message ℕ)) → Inv (after (voteMachine n t agreement plan) i l)
+  -- what holds of the party that a log gives
+  pub invariant : (i : ℕ) (l : List (Event Message ℕ)) → Inv (after (voteMachine n t agreement plan) i l)
   unfolding vote-lawful
   invariant i l = inv-after M W i l
 

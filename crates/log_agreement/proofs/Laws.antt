@@ -1,28 +1,30 @@
 -- Agreement, validity and the end of a vote, after every history with at most t faulty boards among n, 3t below n.
-use mathlib.Core.Path.{_≡_, refl, sym, _∙_}
+use mathlib.Core.Path.{_≡_, refl, sym, _∙_, subst}
 use mathlib.Core.Logic.{_⊎_}
 use mathlib.Core.List.{List}
 use Prim.Native.Nat.{ℕ, _≤_}
 use native.Mathlib.Omega.{arith}
 use lib.Dec.{T}
-use Rattle.base.specs.Sets.{Set, count}
+use Rattle.base.specs.Sets.{Set, count, Sound}
 use Rattle.base.proofs.Bools.{T-dec}
-use Rattle.tree.specs.Walk.{OnPath}
+use Rattle.tree.specs.Walk.{Walk, OnPath}
 use Rattle.tree.specs.Edges.{Edges, Adjacent, Acyclic}
-use Rattle.tree.specs.Component.{upto}
 use Rattle.tree.proofs.Laws.{Component}
+use Rattle.tree.proofs.Walks.{mono}
 use Rattle.plan.specs.declared.Plan.{Plan}
 use Rattle.plan.specs.Positions.{edgesOf}
 use Rattle.message.specs.declared.Message.{Message}
 use Rattle.level.specs.Level.{noOutput}
 use Rattle.party.specs.declared.Party.{Party}
 use Rattle.party.specs.Party.{levelAt, componentOf}
-use Rattle.party_laws.proofs.Laws.{shape, plan-whole}
-use Rattle.execution.specs.Machine.{Sound}
-use Rattle.execution.specs.History.{HStep, log, after, ValidH}
+use Rattle.component.specs.Component.{wholeOf}
+use Rattle.component_laws.proofs.Laws.{plan-component, whole-plan}
+use Rattle.party_laws.proofs.Laws.{shape}
+use Rattle.execution.specs.History.{HStep, log, after}
+use Rattle.execution.specs.Inner.{ValidH}
 use Rattle.vote_machine.specs.Machine.{voteMachine, Heard, Sent}
 use Rattle.vote_machine.proofs.Laws.{Passes}
-use Rattle.descent.specs.Levels.{Input}
+use Rattle.descent.specs.Inner.{Input}
 use Rattle.descent.proofs.Trees.{tree-near, tree-between, tree-ends}
 use Rattle.log_agreement.proofs.Joint.{Joint, joint}
 use Rattle.log_agreement.proofs.Views.{planShape, OutputAt, levelsOf}
@@ -54,8 +56,8 @@ module _ (n t agreement : ℕ) (plan : Plan) (v : Passes n t plan) (bad : Set) (
   acyclic : Acyclic (edgesOf plan)
   acyclic = shape plan (v .valid) .acyclic
 
-  whole : Component (edgesOf plan) (plan .count) (upto (plan .count))
-  whole = plan-whole plan (v .valid)
+  whole : Component (edgesOf plan) (plan .count) (wholeOf plan)
+  whole = plan-component plan (wholeOf plan) (whole-plan plan (v .valid))
 
   -- an output at level 0 is there only if it is entered
   answer : (i : ℕ) → (levelAt (st i) 0 .output ≡ noOutput → ⊥) → OutputAt (st i) 0 (levelAt (st i) 0 .output)
@@ -71,7 +73,7 @@ module _ (n t agreement : ℕ) (plan : Plan) (v : Passes n t plan) (bad : Set) (
       → (levelAt (st i) 0 .output ≡ levelAt (st j) 0 .output)
       ⊎ Adjacent (edgesOf plan) (levelAt (st i) 0 .output) (levelAt (st j) 0 .output)
   near i j gi gj di dj =
-      tree-near E acyclic (plan .count) (levelsOf plan st) n bad (upto (plan .count)) whole (facts J)
+      tree-near E acyclic (plan .count) (levelsOf plan st) n bad (wholeOf plan) whole (facts J)
       i j (levelAt (st i) 0 .output) (levelAt (st j) 0 .output) gi gj (answer i di) (answer j dj)
 
   -- Each lies on the path between two inputs of sound boards, which may be the same one.
@@ -79,11 +81,21 @@ module _ (n t agreement : ℕ) (plan : Plan) (v : Passes n t plan) (bad : Set) (
       → (a : ℕ) × (b : ℕ) × InputAt n bad st a × InputAt n bad st b
       × OnPath (Adjacent (edgesOf plan)) a b (levelAt (st i) 0 .output)
   between i g d =
-      let r = tree-between E acyclic (plan .count) (levelsOf plan st) n bad (upto (plan .count)) whole (facts J) i (levelAt (st i) 0 .output) g (answer i d) in
+      let r = tree-between E acyclic (plan .count) (levelsOf plan st) n bad (wholeOf plan) whole (facts J) i (levelAt (st i) 0 .output) g (answer i d) in
       (r .0, r .1, input (r .0) (r .2), input (r .1) (r .3), r .4)
     where
       input : (x : ℕ) → Input (planShape plan) (levelsOf plan st) n bad x → InputAt n bad st x
       input x (j, S, s, e) = record { board = j; sound = s; entered = e .entered; position = sym (e .place) }
+
+  -- An input is a position of the plan, so a walk joins any two.
+  input-on : (x : ℕ) → InputAt n bad (stateOf n t agreement plan h) x → T (wholeOf plan x)
+  input-on x r =
+      let f = facts J .first (r .board) (componentOf (st (r .board)) 0) x (r .sound) (record { entered = r .entered; over = refl; place = sym (r .position) }) in
+      subst (λ (S : Set). T (S x)) (f .0) (f .1)
+
+  pub joined : (x y : ℕ) → InputAt n bad (stateOf n t agreement plan h) x → InputAt n bad (stateOf n t agreement plan h) y
+      → Walk (Adjacent (edgesOf plan)) (λ _. Unit {0}) x y
+  joined x y a b = mono (Adjacent (edgesOf plan)) (λ z _. tt) (whole .connected x y (input-on x a) (input-on y b))
 
   -- Once every sound board has started and has taken all that sound boards made, each has an output.
   pub ends : ((i : ℕ) → Sound n bad i → T (levelAt (st i) 0 .entered))
@@ -91,6 +103,6 @@ module _ (n t agreement : ℕ) (plan : Plan) (v : Passes n t plan) (bad : Set) (
       → (i : ℕ) → Sound n bad i → levelAt (st i) 0 .output ≡ noOutput → ⊥
   ends started delivered i g e =
       let r =
-      tree-ends E acyclic (plan .count) (levelsOf plan st) n bad (upto (plan .count)) whole (facts J) t (v .faults) few (quiet J delivered)
+      tree-ends E acyclic (plan .count) (levelsOf plan st) n bad (wholeOf plan) whole (facts J) t (v .faults) few (quiet J delivered)
       (λ j s. (componentOf (st j) 0, levelAt (st j) 0 .position, record { entered = started j s; over = refl; place = refl })) i g in
       r .1 .there (sym (r .1 .output) ∙ e)

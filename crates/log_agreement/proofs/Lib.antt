@@ -4,3 +4,6 @@ pub mod Shared
 pub mod Safe
 pub mod Ends
 pub mod Laws
+pub mod Logs
+pub mod Theorem
+pub mod Words

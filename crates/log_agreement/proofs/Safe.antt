@@ -6,32 +6,29 @@ use Prim.Native.Nat.{ℕ, suc, _≤_, _<_}
 use native.Mathlib.Decide.{decLt}
 use native.Mathlib.Omega.{arith}
 use lib.Dec.{T, T-not}
-use Rattle.base.specs.Sets.{Set, count}
+use Rattle.base.specs.Sets.{Set, count, Sound}
 use Rattle.base.specs.Limits.{levelCount}
 use Rattle.base.proofs.Bools.{T-dec, T→true, not-T→false}
 use Rattle.base.proofs.Counts.{sound-member}
-use Rattle.tree.specs.Component.{upto}
 use Rattle.plan.specs.declared.Plan.{Plan}
-use Rattle.component.specs.Component.{sizeOf, centreOf, portOf, sideOf}
+use Rattle.component.specs.Component.{wholeOf, sizeOf, centreOf, portOf, sideOf}
 use Rattle.message.specs.declared.Body.{Body}
 use Rattle.message.specs.declared.Body.the-variants.{Side, Centre}
 use Rattle.message.specs.Message.{noneValue}
-use Rattle.level.proofs.Moves.{Aside}
-use Rattle.level_laws.proofs.Counted.{heardFrom, centre-reached}
-use Rattle.level_laws.proofs.Output.{CentreBy}
-use Rattle.level_laws.proofs.Output as output
+use Rattle.level_laws.specs.Inner.{Aside, heardFrom, CentreBy}
+use Rattle.level_laws.proofs.Counted.{centre-reached}
+use Rattle.level_laws.specs.Inner as records
 use Rattle.level.specs.declared.Level.{Level}
 use Rattle.level.specs.declared.Context.{Context}
 use Rattle.level.specs.Level.{noOutput}
 use Rattle.party.specs.declared.Party.{Party}
 use Rattle.party.specs.Party.{levelAt, componentOf, sending, contextOf}
 use Rattle.party_laws.proofs.Laws.{entered-level, sending-entered, sending-level, whole-component, next-component}
-use Rattle.execution.specs.Machine.{Sound}
 use Rattle.vote_machine.specs.Machine.{Sent}
-use Rattle.vote_machine.specs.Invariant.{Way, stays, moves, leads, follows}
+use Rattle.vote_machine.specs.Inner.{Way, stays, moves, leads, follows}
 use Rattle.vote_machine.proofs.Laws.{valued}
-use Rattle.descent.specs.Levels.{Entry, Outcome, on-entry, by-zero, by-none, from-below, Shared, Graded, Facts}
-use Rattle.descent.specs.Levels as levels
+use Rattle.descent.specs.Inner.{Entry, Outcome, on-entry, by-zero, by-none, from-below, Shared, Graded, Facts}
+use Rattle.descent.specs.Inner as levels
 use Rattle.log_agreement.proofs.Joint.{Joint}
 use Rattle.log_agreement.proofs.Views.{planShape, EnteredAt, ResultAt, NoneAt, OutputAt, levelsOf, large, sends, context-n, context-t, context-centre, next-output}
 use Rattle.log_agreement.proofs.Shared.{level-graded}
@@ -61,8 +58,8 @@ module _ {n t agreement : ℕ} {plan : Plan} {bad : Set} {st : ℕ → Party} (J
   -- ---- level 0
 
   -- it is over the whole plan
-  at-whole : (i : ℕ) → componentOf (st i) 0 ≡ upto (plan .count)
-  at-whole i = whole-component (st i) ∙ ap (λ (q : Plan). upto (q .count)) (J .seated i .on)
+  at-whole : (i : ℕ) → componentOf (st i) 0 ≡ wholeOf plan
+  at-whole i = whole-component (st i) ∙ ap (λ (q : Plan). wholeOf q) (J .seated i .on)
 
   -- an entered level has its position in its component
   pub place-in : (i L : ℕ) (S : Set) (x : ℕ) → EnteredAt (st i) L S x → T (S x)
@@ -160,10 +157,10 @@ module _ {n t agreement : ℕ} {plan : Plan} {bad : Set} {st : ℕ → Party} (J
           mid = sym (o .output) ∙ e ∙ context-centre (st i) (J .seated i) L
 
           go : CentreBy c l → Came
-          go (output.by-zero r) =
+          go (records.by-zero r) =
               by-zero (componentOf (st i) L) (l .position) (l .sure) place three (record { sends = on; result = r; value = omega arith; grade = refl }) mid
-          go (output.by-none r) = by-none (componentOf (st i) L) (l .position) i place three g (record { sends = on; result = r }) mid
-          go (output.by-messages h) =
+          go (records.by-none r) = by-none (componentOf (st i) L) (l .position) i place three g (record { sends = on; result = r }) mid
+          go (records.by-messages h) =
               let w = valued (st i) (J .inv i .regular .formed) L (o .entered) in
               let r = centre-reached c l w (J .inv i .regular .law L on .heard) .0 h in
               let j = sound-sender i L Centre (subst₂ (λ (a b : ℕ). a < count b (heardFrom l Centre)) (context-t (st i) (J .seated i) L) (context-n (st i) (J .seated i) L) r) in
@@ -218,7 +215,7 @@ module _ {n t agreement : ℕ} {plan : Plan} {bad : Set} {st : ℕ → Party} (J
         split = λ i g r. absurd (d (sends-low i L (r .sends)));
       }
 
-  pub facts : Facts (planShape plan) (levelsOf plan st) n bad (upto (plan .count))
+  pub facts : Facts (planShape plan) (levelsOf plan st) n bad (wholeOf plan)
   facts = record {
     first = λ i S x g e. (e .over ∙ at-whole i, place-in i 0 S x e);
     entry = λ i L S x g e. entry i L g (e .entered) S x e;

@@ -5,7 +5,7 @@ use mathlib.Core.Bool.{Bool, true, false}
 use Prim.Native.Nat.{ℕ, _≤_, _<_}
 use native.Mathlib.Omega.{arith}
 use lib.Dec.{T}
-use Rattle.base.specs.Sets.{Set}
+use Rattle.base.specs.Sets.{Set, Sound}
 use Rattle.base.specs.Limits.{levelCount}
 use Rattle.base.proofs.Bools.{T-dec}
 use Rattle.plan.specs.declared.Plan.{Plan}
@@ -14,18 +14,19 @@ use Rattle.message.specs.declared.Body.{Body}
 use Rattle.message.specs.declared.Body.the-variants.{SecondEcho}
 use Rattle.message.specs.declared.Message.{Message}
 use Rattle.message.specs.Message.{noneValue}
-use Rattle.level_laws.proofs.Messages.{SentIn, untouched-sent, result-low}
-use Rattle.level_laws.proofs.Board.{boardAt, Own, Shows, shown-own, shown-done, silent-own, justified, settled}
+use Rattle.level_laws.specs.Inner.{SentIn}
+use Rattle.level_laws.proofs.Messages.{untouched-sent, result-low}
+use Rattle.graded_levels.specs.Inner.{boardAt, Own, Shows}
+use Rattle.graded_levels.proofs.Board.{shown-own, shown-done, silent-own, justified, settled}
 use Rattle.party.specs.declared.Party.{Party}
 use Rattle.party.specs.Party.{levelAt, componentOf, sending, contextOf}
 use Rattle.party_laws.proofs.Laws.{sending-entered}
-use Rattle.graded_consensus.specs.View.{Setting, View, Fair, Justified, Settled}
+use Rattle.graded_consensus.specs.Inner.{Setting, View, Fair, Justified, Settled}
 use Rattle.graded_consensus.proofs.First.{SoundPort, Differ as Apart}
 use Rattle.graded_consensus.proofs.Laws as grades
-use Rattle.execution.specs.Machine.{Sound}
 use Rattle.vote_machine.specs.Machine.{Heard, Sent}
 use Rattle.vote_machine.proofs.Laws.{valued, at-rest}
-use Rattle.descent.specs.Levels.{Ported, Differ, Graded}
+use Rattle.descent.specs.Inner.{Ported, Differ, Graded}
 use Rattle.log_agreement.proofs.Joint.{Joint}
 use Rattle.log_agreement.proofs.Views.{planShape, EnteredAt, ResultAt, NoneAt, levelsOf, settingOf, viewOf, degree-limit, context-n, context-t, context-degree, context-port}
 

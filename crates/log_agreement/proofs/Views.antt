@@ -6,21 +6,20 @@ use native.Mathlib.Numerals.{add-one}
 use lib.Dec.{T}
 use Rattle.base.specs.Sets.{Set}
 use Rattle.base.specs.Limits.{maxDegree}
-use Rattle.tree.proofs.Laws.{degree-bound}
 use Rattle.plan.specs.declared.Plan.{Plan}
 use Rattle.plan.specs.Positions.{edgesOf}
 use Rattle.plan.specs.Valid.{planValid}
 use Rattle.component.specs.Component.{sizeOf, centreOf, degreeOf, portOf}
+use Rattle.component_laws.proofs.Laws.{degree-most}
 use Rattle.message.specs.Message.{noneValue}
 use Rattle.level.specs.Level.{noOutput}
-use Rattle.level_laws.proofs.Messages.{SentIn}
-use Rattle.level_laws.proofs.Counted.{heardFrom}
+use Rattle.level.specs.Counts.{bitPlaces}
+use Rattle.level_laws.specs.Inner.{SentIn, heardFrom}
 use Rattle.party.specs.declared.Party.{Party}
 use Rattle.party.specs.Party.{levelAt, componentOf, sending, contextOf}
-use Rattle.party_laws.proofs.Laws.{shape, sending-three, entered-sending}
-use Rattle.graded_consensus.specs.View.{Setting, View}
-use Rattle.descent.specs.Shape.{Shape}
-use Rattle.descent.specs.Levels.{Levels}
+use Rattle.party_laws.proofs.Laws.{sending-three, entered-sending}
+use Rattle.graded_consensus.specs.Inner.{Setting, View}
+use Rattle.descent.specs.Inner.{Shape, Levels}
 use Rattle.descent.proofs.Trees.{treeShape}
 use Rattle.log_agreement.proofs.Joint.{Seated}
 
@@ -62,10 +61,10 @@ levelsOf plan st = record {
   Output = λ i. OutputAt (st i);
 }
 
--- ---- crate graded's view, of level L over the component S
+-- ---- crate graded_consensus' view, of level L over the component S
 
 abbrev pub settingOf : (n t : ℕ) (plan : Plan) (bad S : Set) → Setting
-settingOf n t plan bad S = record { n = n; t = t; bad = bad; d = degreeOf plan S; K = 4 }
+settingOf n t plan bad S = record { n = n; t = t; bad = bad; d = degreeOf plan S; K = bitPlaces }
 
 abbrev pub viewOf : (ℕ → Party) → ℕ → View
 viewOf st L = record {
@@ -81,7 +80,7 @@ viewOf st L = record {
 -- ---- a board's context and component, on the plan of the vote
 
 pub degree-limit : (plan : Plan) → T (planValid plan) → (S : Set) → degreeOf plan S ≤ maxDegree
-degree-limit plan h S = let s = shape plan h in degree-bound (plan .count) (edgesOf plan) (s .acyclic) S maxDegree (s .degrees)
+degree-limit = degree-most
 
 module _ {n t agreement : ℕ} {plan : Plan} (p : Party) (s : Seated n t agreement plan p) (L : ℕ) where
   pub context-n : contextOf p L .n ≡ n

@@ -9,8 +9,7 @@ use lib.Dec.{T, leb, leb→le, le→leb}
 use lib.ListN.{length}
 use Rattle.base.specs.Pick.{pick}
 use Rattle.base.specs.Sets.{Set}
-use Rattle.tree.specs.Component.{upto}
-use Rattle.component.specs.Component.{sizeOf}
+use Rattle.component.specs.Component.{wholeOf, sizeOf}
 use Rattle.message.specs.declared.Message.{Message}
 use Rattle.message.specs.Message.{inTable}
 use Rattle.level.specs.declared.Level.{Level}
@@ -20,7 +19,7 @@ use Rattle.party.specs.Party.{levelAt, componentOf, sending, contextOf, enterin
 use Rattle.party_laws.proofs.Laws.{level-same, level-other, level-field, board-entering, entry-level, entry-other, entry-whole, entered-sending, sending-three}
 use Rattle.party_laws.proofs.Laws.{formed-hearing, formed-entered, keeps-hearing, keeps-entered, fresh-hearing, fresh-entered, grown-hearing, grown-entered}
 use Rattle.party_laws.proofs.Calls.{table-level}
-use Rattle.vote_machine.specs.Invariant.{Regular}
+use Rattle.vote_machine.specs.Inner.{Regular}
 use Rattle.vote_machine.proofs.Order.{kept-le}
 use Rattle.vote_machine.proofs.Changes as changes
 use Rattle.vote_machine.proofs.Changes.{NextOld, Change, Changed}
@@ -100,7 +99,7 @@ module _ (p : Party) (i : ℕ) (S : Set) (k x : ℕ) (here : i < length (p .leve
 
 module _ (p : Party) (r : Regular p) (x : ℕ) (new : T (started p) → ⊥) (k : x < p .plan .count) where
   abbrev S : Set
-  S = upto (p .plan .count)
+  S = wholeOf (p .plan)
 
   entered-each : (j : ℕ) → Change p (entered p x) (λ _. ⊥) j
   unfolding entered

@@ -11,16 +11,16 @@ use Rattle.level.specs.declared.Level.{Level}
 use Rattle.level.specs.declared.Context.{Context}
 use Rattle.level.specs.Level.{noOutput, withHeard, withEntry}
 use Rattle.level.specs.Rules.{lowestRule}
-use Rattle.level_laws.proofs.Law.{Heard, Law, Untouched, untouched-law, untouched-entry, heard-entry, law-same, lowest-law}
+use Rattle.level_laws.specs.Inner.{Heard, Law, Untouched, Descends, OutputBy}
+use Rattle.level_laws.proofs.Law.{untouched-law, untouched-entry, heard-entry, law-same, lowest-law}
 use Rattle.level_laws.proofs.Grows.{grows-heard}
 use Rattle.level_laws.proofs.Evidence.{heard-keeps, law-heard, untouched-heard}
-use Rattle.level_laws.proofs.Messages.{Descends, After, descends-grows, descends-lowest}
-use Rattle.level_laws.proofs.Output.{OutputBy, unanswered-output, output-later, output-heard, lowest-output}
+use Rattle.level_laws.proofs.Messages.{After, descends-grows, descends-lowest}
+use Rattle.level_laws.proofs.Output.{unanswered-output, output-later, output-heard, lowest-output}
 use Rattle.party.specs.declared.Party.{Party}
 use Rattle.party.specs.Party.{levelAt, sending, contextOf}
 use Rattle.party_laws.proofs.Laws.{Formed, Fresh, sending-entered, entered-level, entered-before, context-centre, position-output}
-use Rattle.vote_machine.specs.Invariant.{EntryBy, Regular}
-use Rattle.vote_machine.specs.Order.{Le}
+use Rattle.vote_machine.specs.Inner.{EntryBy, Regular, Le}
 use Rattle.vote_machine.proofs.Order.{le-sending, le-same, le-later}
 use Rattle.vote_machine.proofs.Entries.{entry-grows}
 

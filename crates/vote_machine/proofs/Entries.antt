@@ -15,14 +15,11 @@ use Rattle.message.specs.Message.{noneValue, bodyInTable}
 use Rattle.senders.specs.Senders.{isIn}
 use Rattle.level.specs.declared.Level.{Level}
 use Rattle.level.specs.Level.{senders}
-use Rattle.level.proofs.Moves.{Present}
-use Rattle.level_laws.proofs.Counted.{heardFrom}
-use Rattle.level_laws.proofs.Grows.{Grows}
+use Rattle.level_laws.specs.Inner.{Present, heardFrom, Grows}
 use Rattle.party.specs.declared.Party.{Party}
 use Rattle.party.specs.Party.{levelAt, componentOf}
 use Rattle.party_laws.proofs.Laws.{Formed, entered-level, sending-entered}
-use Rattle.vote_machine.specs.Invariant.{Way, stays, moves, leads, follows, EntryBy}
-use Rattle.vote_machine.specs.Order.{Le}
+use Rattle.vote_machine.specs.Inner.{Way, stays, moves, leads, follows, EntryBy, Le}
 
 -- what was heard stays heard
 pub grows-from : (l m : Level) → Grows l m → (b : Body) (s : ℕ) → T (heardFrom l b s) → T (heardFrom m b s)

@@ -18,7 +18,7 @@ use Rattle.senders.specs.Senders.{isIn}
 use Rattle.senders.proofs.Laws.{in-empty}
 use Rattle.level.specs.declared.Level.{Level}
 use Rattle.level.specs.Level.{noLevel, blankLevel, senders, slot, withHeard}
-use Rattle.level_laws.proofs.Counted.{heardFrom}
+use Rattle.level_laws.specs.Inner.{heardFrom}
 use Rattle.level_laws.proofs.Taken.{taken-back, taken-heard}
 use Rattle.party.specs.declared.Party.{Party}
 use Rattle.party.specs.Party.{newParty, levelAt, withLevel, started, hearing}
@@ -27,8 +27,7 @@ use Rattle.party_laws.proofs.Laws.{level-same, level-other, level-past, startin
 use Rattle.party_laws.proofs.Calls.{new-level, table-level}
 use Rattle.execution.specs.Machine.{start, take}
 use Rattle.vote_machine.specs.Machine.{called, Heard}
-use Rattle.vote_machine.specs.Invariant.{Regular}
-use Rattle.vote_machine.specs.Order.{Le}
+use Rattle.vote_machine.specs.Inner.{Regular, Le}
 use Rattle.vote_machine.proofs.Entries.{grows-from}
 use Rattle.vote_machine.proofs.Kept.{called-cases, start-fits, take-fits}
 

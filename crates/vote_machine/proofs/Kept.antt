@@ -1,16 +1,16 @@
 -- What holds of every party: of a new one, and kept by messages, starts, rules and calls; and each of these only rises.
 use mathlib.Core.Path.{_≡_, refl, sym, subst}
-use mathlib.Core.Bool.{Bool, true, false, not, _&&_}
+use mathlib.Core.Bool.{Bool, true, false}
 use Prim.Native.Nat.{ℕ, suc, _<_}
-use lib.Dec.{T, ltb, eqb, ltb→lt, eqb→eq, T-not}
+use lib.Dec.{T}
 use Rattle.base.specs.Pick.{pick}
-use Rattle.base.proofs.Bools.{T-left, T-right}
 use Rattle.plan.specs.declared.Plan.{Plan}
 use Rattle.plan.specs.Valid.{planValid}
 use Rattle.message.specs.declared.Message.{Message}
 use Rattle.message.specs.Message.{inTable}
 use Rattle.level.specs.declared.Level.{Level}
-use Rattle.level_laws.proofs.Law.{Heard, Untouched, blank-heard, blank-untouched}
+use Rattle.level_laws.specs.Inner.{Heard, Untouched}
+use Rattle.level_laws.proofs.Law.{blank-heard, blank-untouched}
 use Rattle.party.specs.declared.Party.{Party}
 use Rattle.party.specs.Party.{newParty, levelAt, sending, entered, started, hearing}
 use Rattle.party.specs.Run.{Ran, openAt, stepAt, resting, run, starting, taking}
@@ -18,10 +18,10 @@ use Rattle.party.specs.Valid.{settingsPass}
 use Rattle.party_laws.proofs.Laws.{sending-entered, entered-level, formed-new, fresh-new, run-keeps, starting-keeps, taking-keeps}
 use Rattle.party_laws.proofs.Laws.{starting-kept, taking-kept, starting-grown, taking-grown}
 use Rattle.party_laws.proofs.Calls.{new-level}
+use Rattle.party_life.proofs.Fits.{fits-start, fits-taken}
 use Rattle.execution.specs.Machine.{Event, start, take}
 use Rattle.vote_machine.specs.Machine.{accepts, accepted, called}
-use Rattle.vote_machine.specs.Invariant.{Regular}
-use Rattle.vote_machine.specs.Order.{Le}
+use Rattle.vote_machine.specs.Inner.{Regular, Le}
 use Rattle.vote_machine.proofs.Order.{kept-le, le-refl}
 use Rattle.vote_machine.proofs.Changes.{regular-changed}
 use Rattle.vote_machine.proofs.Calls.{hearing-changed, entered-changed}
@@ -96,18 +96,10 @@ called-cases P p e f g = go (accepts p e) refl
 
 -- what an accepted start, and an accepted message, is
 pub start-fits : (p : Party) (x : ℕ) → T (accepts p (start x)) → (T (started p) → ⊥) × (x < p .plan .count)
-start-fits p x h =
-    let a : Bool = not (started p) in
-    let b : Bool = ltb x (p .plan .count) in
-    (T-not (started p) (T-left a b h), ltb→lt x (p .plan .count) (T-right a b h))
+start-fits p x h = let f = fits-start p (p .agreement) x h in (f .1, f .2)
 
 pub take-fits : (p : Party) (s : ℕ) (m : Message) → T (accepts p (take s m)) → (s < p .n) × T (inTable m) × (m .number ≡ p .agreement)
-take-fits p s m h =
-    let a : Bool = ltb s (p .n) in
-    let b : Bool = inTable m in
-    let c : Bool = eqb (m .number) (p .agreement) in
-    let k : T (b && c) = T-right a (b && c) h in
-    (ltb→lt s (p .n) (T-left a (b && c) h), T-left b c k, eqb→eq (m .number) (p .agreement) (T-right b c k))
+take-fits p s m h = let f = fits-taken p s m h in (f .1, f .2, f .0)
 
 regular-accepted : (p : Party) → Regular p → (e : Event Message ℕ) → T (accepts p e) → Regular (accepted p e .party)
 regular-accepted p r (start x) h = let f = start-fits p x h in regular-starting p r x (f .0) (f .1)

@@ -13,8 +13,7 @@ use Rattle.party.specs.Valid.{settingsPass}
 use Rattle.party_laws.proofs.Laws.{→settings}
 use Rattle.execution.proofs.Lawful.{Lawful}
 use Rattle.vote_machine.specs.Machine.{seat, voteMachine}
-use Rattle.vote_machine.specs.Invariant.{Inv}
-use Rattle.vote_machine.specs.Order.{Le}
+use Rattle.vote_machine.specs.Inner.{Inv, Le}
 use Rattle.vote_machine.proofs.Order.{le-refl, le-trans, le-sent}
 use Rattle.vote_machine.proofs.Kept.{le-called}
 use Rattle.vote_machine.proofs.Quiet.{inv-new, inv-called}
@@ -41,10 +40,16 @@ pub record Passes (n t : ℕ) (plan : Plan) : Type 0 where
   pub faults : 3 * t < n
   pub valid : T (planValid plan)
 
+-- every seat's set-up passes
+pub seat-settings : (n t agreement : ℕ) (plan : Plan) → Passes n t plan → (i : ℕ) → T (settingsPass (newParty n t (seat n i) agreement plan))
+seat-settings n t agreement plan v i =
+    →settings (newParty n t (seat n i) agreement plan)
+    (record { some = omega (arith, v .faults); most = v .boards; faults = v .faults; own = seat-low n i (omega (arith, v .faults)) })
+
 unfoldable pub vote-lawful : (n t agreement : ℕ) (plan : Plan) → Passes n t plan → Lawful (voteMachine n t agreement plan)
 vote-lawful n t agreement plan v = record {
   Inv = Inv;
-  inv-initial = λ i. inv-new n t (seat n i) agreement plan (settings i) (v .valid);
+  inv-initial = λ i. inv-new n t (seat n i) agreement plan (seat-settings n t agreement plan v i) (v .valid);
   inv-run = λ p e r. inv-called p r e;
   Le = Le;
   le-refl = le-refl;
@@ -55,8 +60,3 @@ vote-lawful n t agreement plan v = record {
   heard-start = heard-start;
   heard-take = heard-take;
 }
-  where
-    settings : (i : ℕ) → T (settingsPass (newParty n t (seat n i) agreement plan))
-    settings i =
-        →settings (newParty n t (seat n i) agreement plan)
-        (record { some = omega (arith, v .faults); most = v .boards; faults = v .faults; own = seat-low n i (omega (arith, v .faults)) })

@@ -19,7 +19,7 @@ pub use Rattle.vote_machine.proofs.Steps.{valued}
 pub use Rattle.vote_machine.proofs.Quiet.{at-rest}
 -- ---- the machine
 
-pub use Rattle.vote_machine.proofs.Lawful.{seat-low, seat-own, Passes}
+pub use Rattle.vote_machine.proofs.Lawful.{seat-low, seat-own, Passes, seat-settings}
 unfoldable pub use Rattle.vote_machine.proofs.Lawful.{vote-lawful}
 -- accepted calls
 pub use Rattle.vote_machine.proofs.Kept.{called-cases, start-fits, take-fits}
@@ -35,7 +35,7 @@ pub use Rattle.vote_machine.proofs.Heard.{heard-new, heard-start, heard
 pub use Rattle.vote_machine.proofs.Lives.{regular-replayed, inv-replayed, le-replayed, tells-replayed, regular-lived, inv-lived, le-record, le-lived}
 -- what was made, taken and started with, by the records of a life
 pub use Rattle.vote_machine.proofs.Lives.{made-lived, lived-made}
-pub use Rattle.vote_machine.proofs.Records.{taken-lived, lived-taken, start-lived, lived-start}
+pub use Rattle.vote_machine.proofs.Records.{taken-lived, lived-taken, starting-at, started-taking, start-lived, lived-start}
 -- and of one from set-up on
 pub use Rattle.vote_machine.proofs.Records.{made-sent, taken-heard, start-entered}
 -- the machine's state is the party of the records

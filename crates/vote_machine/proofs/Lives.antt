@@ -1,23 +1,19 @@
 -- Whole lives: each record's call is the machine's, and the messages that the calls made are those that the party has made.
 use mathlib.Core.Path.{_≡_, refl, _∙_, subst}
 use mathlib.Core.Logic.{_⊎_, inl, inr}
-use mathlib.Core.Bool.{Bool, true, false, not, _&&_}
+use mathlib.Core.Bool.{Bool, true, false}
 use mathlib.Core.List.{List, [], _∷_, _++_, List·Memᴰ, List·Memᴰ·not-nil, List·Memᴰ·append-cases, Memᴰ·append-left, Memᴰ·append-right}
-use Prim.Native.Nat.{ℕ}
-use lib.Dec.{T, ltb, eqb, not-T, lt→ltb, eqb-refl}
+use lib.Dec.{T}
 use Rattle.base.specs.Pick.{pick}
-use Rattle.base.proofs.Bools.{T-and}
 use Rattle.message.specs.declared.Message.{Message}
-use Rattle.message.specs.Message.{inTable}
 use Rattle.journal.specs.declared.Record.{Record}
 use Rattle.journal.specs.declared.Record.the-variants.{Start, Taken}
 use Rattle.party.specs.declared.Party.{Party}
-use Rattle.party.specs.Party.{started}
 use Rattle.party.specs.Run.{Ran, resting}
 use Rattle.party_life.specs.Life.{replayed, lived, Fits, Life, madeAlong}
+use Rattle.party_life.proofs.Fits.{fits-start, fitting-start}
 use Rattle.vote_machine.specs.Machine.{accepts, accepted, called, Sent, eventOf}
-use Rattle.vote_machine.specs.Invariant.{Regular, Inv}
-use Rattle.vote_machine.specs.Order.{Le}
+use Rattle.vote_machine.specs.Inner.{Regular, Inv, Le}
 use Rattle.vote_machine.proofs.Order.{le-refl, le-trans, le-sent}
 use Rattle.vote_machine.proofs.Kept.{regular-called, le-called}
 use Rattle.vote_machine.proofs.Quiet.{inv-called}
@@ -26,10 +22,8 @@ use Rattle.vote_machine.proofs.Made.{Tells, tells-called}
 -- ---- a record's call
 
 pub fits-accepts : (p : Party) (r : Record) → Fits p r → T (accepts p (eventOf r))
-fits-accepts p (Start a x) f = T-and (not (started p)) (ltb x (p .plan .count)) (not-T (started p) (f .1)) (lt→ltb x (p .plan .count) (f .2))
-fits-accepts p (Taken s m) f =
-    T-and (ltb s (p .n)) (inTable m && eqb (m .number) (p .agreement)) (lt→ltb s (p .n) (f .1))
-    (T-and (inTable m) (eqb (m .number) (p .agreement)) (f .2) (subst (λ (z : ℕ). T (eqb (m .number) z)) (f .0) (eqb-refl (m .number))))
+fits-accepts p (Start a x) f = let g = fits-start p a x f in fitting-start p (p .agreement) x (refl, g .1, g .2)
+fits-accepts p (Taken s m) f = f
 
 accepted-replayed : (p : Party) (r : Record) → accepted p (eventOf r) ≡ replayed p r
 unfolding replayed

@@ -19,15 +19,15 @@ use Rattle.level.specs.Level.{withEntry}
 use Rattle.level.specs.Rules.{lowestRule}
 use Rattle.level_laws.proofs.Law.{Same, untouched-entry}
 use Rattle.level_laws.proofs.Grows.{grows-refl}
-use Rattle.level_laws.proofs.Messages.{SentIn, Makes, sent-step, sent-grows, sent-heard, sent-table, untouched-sent}
+use Rattle.level_laws.specs.Inner.{SentIn}
+use Rattle.level_laws.proofs.Messages.{Makes, sent-step, sent-grows, sent-heard, sent-table, untouched-sent}
 use Rattle.party.specs.declared.Party.{Party}
 use Rattle.party.specs.Party.{levelAt, sending, contextOf, entered, started, heldBy, hearing}
 use Rattle.party.specs.Run.{Ran, ruleAt, openAt, openLevel, madeBy, stepAt, oneMore, resting, runUpTo, run, starting, taking}
 use Rattle.party_laws.proofs.Laws.{sending-entered, sending-level, entered-level, open-sending, open-level, runs-kept, runs-grown}
 use Rattle.execution.specs.Machine.{Event, start, take}
 use Rattle.vote_machine.specs.Machine.{accepts, accepted, called, Sent}
-use Rattle.vote_machine.specs.Invariant.{Regular}
-use Rattle.vote_machine.specs.Order.{Le}
+use Rattle.vote_machine.specs.Inner.{Regular, Le}
 use Rattle.vote_machine.proofs.Order.{kept-le, le-sending, le-same, le-sent}
 use Rattle.vote_machine.proofs.Changes as changes
 use Rattle.vote_machine.proofs.Changes.{NextOld, Change, Changed, heard-fields}

@@ -13,7 +13,7 @@ use Rattle.party.specs.Party.{levelAt, sending, contextOf}
 use Rattle.party_laws.proofs.Laws.{board-refl, board-trans, Formed, Keeps, Grown, grown-refl, grown-trans, kept-component, sending-entered}
 use Rattle.party_laws.proofs.Updates.{sending-same}
 use Rattle.vote_machine.specs.Machine.{Sent}
-use Rattle.vote_machine.specs.Order.{Le}
+use Rattle.vote_machine.specs.Inner.{Le}
 
 pub le-refl : (p : Party) → Le p p
 le-refl p = record { board = board-refl p; grown = grown-refl p; component = λ i h. refl }

@@ -8,7 +8,7 @@ use Rattle.plan.specs.declared.Plan.{Plan}
 use Rattle.plan.specs.Valid.{planValid}
 use Rattle.message.specs.declared.Message.{Message}
 use Rattle.message.specs.Message.{inTable}
-use Rattle.level.proofs.Moves.{AtRest}
+use Rattle.level_laws.proofs.Moves.{AtRest}
 use Rattle.party.specs.declared.Party.{Party}
 use Rattle.party.specs.Party.{newParty, levelAt, sending, contextOf, started, heldBy, hearing, entered}
 use Rattle.party.specs.Run.{openAt, resting, run, starting, taking}
@@ -17,7 +17,7 @@ use Rattle.party_laws.proofs.Laws.{open-sending}
 use Rattle.party_bounds.proofs.Laws.{quiescent-levels, levels-quiescent, quiescent-rest, run-quiescent}
 use Rattle.execution.specs.Machine.{Event, start, take}
 use Rattle.vote_machine.specs.Machine.{accepts, accepted, called}
-use Rattle.vote_machine.specs.Invariant.{Regular, Inv}
+use Rattle.vote_machine.specs.Inner.{Regular, Inv}
 use Rattle.vote_machine.proofs.Kept.{new-sending, regular-new, regular-hearing, regular-entered, regular-run, called-cases, start-fits, take-fits}
 
 -- a level that sends is at rest

@@ -5,9 +5,9 @@ use mathlib.Core.List.{List, [], _∷_, List·Memᴰ, List·Memᴰ·head, List·
 use Prim.Native.Nat.{ℕ, _<_}
 use native.Mathlib.Omega.{arith}
 use lib.Dec.{T}
-use Rattle.tree.specs.Component.{upto}
 use Rattle.plan.specs.declared.Plan.{Plan}
 use Rattle.plan.specs.Valid.{planValid}
+use Rattle.component.specs.Component.{wholeOf}
 use Rattle.message.specs.declared.Message.{Message}
 use Rattle.message.specs.Message.{inTable}
 use Rattle.journal.specs.declared.Record.{Record}
@@ -19,10 +19,10 @@ use Rattle.party.specs.Run.{Ran, openAt, stepAt, starting, taking}
 use Rattle.party.specs.Valid.{settingsPass}
 use Rattle.party_laws.proofs.Laws.{entry-level, run-kept, taking-kept, taking-keeps, open-sending, sending-entered, entered-down}
 use Rattle.party_life.specs.Life.{replayed, lived, Fits, Life, madeAlong}
+use Rattle.party_life.proofs.Fits.{fits-start, fits-taken}
 use Rattle.execution.specs.History.{after}
 use Rattle.vote_machine.specs.Machine.{called, Heard, Sent, voteMachine, eventOf, eventsOf}
-use Rattle.vote_machine.specs.Invariant.{Regular}
-use Rattle.vote_machine.specs.Order.{Le}
+use Rattle.vote_machine.specs.Inner.{Regular, Le}
 use Rattle.vote_machine.proofs.Calls.{heard-entered}
 use Rattle.vote_machine.proofs.Kept.{new-sending, new-entered, regular-new, regular-hearing, regular-step}
 use Rattle.vote_machine.proofs.Heard.{heard-new, heard-starting, heard-taking, le-heard, taking-heard}
@@ -42,7 +42,7 @@ module _ (p : Party) (v : Regular p) where
       q = lived p rs .party
 
       first : Fits q (Taken s m) → Heard (replayed q (Taken s m) .party) s m
-      first f = taking-heard q (regular-lived p v rs (l .1)) s m (f .2) (f .0)
+      first f = let g = fits-taken q s m f in taking-heard q (regular-lived p v rs (l .1)) s m (g .2) (g .0)
 
       go : (Taken s m ≡ r) ⊎ List·Memᴰ (Taken s m) rs → (List·Memᴰ (Taken s m) rs → Heard q s m) → Heard (replayed q r .party) s m
       go (inl e) ih = subst (λ (y : Record). Fits q y → Heard (replayed q y .party) s m) e first (l .0)
@@ -51,8 +51,8 @@ module _ (p : Party) (v : Regular p) where
   -- and nothing else
   replayed-heard : (q : Party) (r : Record) → Fits q r → (s : ℕ) (m : Message) → Heard (replayed q r .party) s m → Heard q s m ⊎ (Taken s m ≡ r)
   unfolding replayed
-  replayed-heard q (Start a x) f s m h = inl (heard-starting q x (f .1) s m h)
-  replayed-heard q (Taken j k) f s m h = go (heard-taking q j k (f .2) (f .0) s m h)
+  replayed-heard q (Start a x) f s m h = inl (heard-starting q x (fits-start q a x f .1) s m h)
+  replayed-heard q (Taken j k) f s m h = let g = fits-taken q j k f in go (heard-taking q j k (g .2) (g .0) s m h)
     where
       go : Heard q s m ⊎ ((j ≡ s) × (k ≡ m)) → Heard q s m ⊎ (Taken s m ≡ Taken j k)
       go (inl y) = inl y
@@ -75,15 +75,15 @@ module _ (p : Party) (v : Regular p) where
 -- ---- what it started with
 
 -- a start enters level 0 at its position
-starting-at : (p : Party) → Regular p → (x : ℕ) → T (started (starting p x .party)) × (levelAt (starting p x .party) 0 .position ≡ x)
+pub starting-at : (p : Party) → Regular p → (x : ℕ) → T (started (starting p x .party)) × (levelAt (starting p x .party) 0 .position ≡ x)
 unfolding starting entered
 starting-at p r x =
-    let e = entry-level p 0 (upto (p .plan .count)) 0 x (omega (arith, r .formed .full)) in
+    let e = entry-level p 0 (wholeOf (p .plan)) 0 x (omega (arith, r .formed .full)) in
     let k = run-kept (entered p x) .0 .entry 0 (subst (λ (l : Level). T (l .entered)) (sym e) tt) in
     (k .0, k .2 ∙ ap (λ (l : Level). l .position) e)
 
 -- a message does not start
-started-taking : (p : Party) → Regular p → (s : ℕ) (m : Message) → s < p .n → T (inTable m) → T (started (taking p s m .party)) → T (started p)
+pub started-taking : (p : Party) → Regular p → (s : ℕ) (m : Message) → s < p .n → T (inTable m) → T (started (taking p s m .party)) → T (started p)
 started-taking p r s m k t =
     taking-keeps (λ q. Regular q × (T (started q) → T (started p))) step p s m (r, λ h. h)
     (regular-hearing p r s m k t, λ h. subst T (heard-entered p r s m k t 0) h) .1
@@ -110,8 +110,9 @@ module _ (p : Party) (v : Regular p) where
 
       first : Fits q (Start a x) → Goal (replayed q (Start a x) .party)
       first f =
+          let g = fits-start q a x f in
           let s = starting-at q (regular-lived p v rs (l .1)) x in
-          (f .0 ∙ b .board .agreement, subst (λ (z : Plan). x < z .count) (b .board .plan) (f .2), s .0, s .1)
+          (g .0 ∙ b .board .agreement, subst (λ (z : Plan). x < z .count) (b .board .plan) (g .2), s .0, s .1)
 
       go : (Start a x ≡ r) ⊎ List·Memᴰ (Start a x) rs → (List·Memᴰ (Start a x) rs → Goal q) → Goal (replayed q r .party)
       go (inl e) ih = subst (λ (y : Record). Fits q y → Goal (replayed q y .party)) e first (l .0)
@@ -126,7 +127,8 @@ module _ (p : Party) (v : Regular p) where
   unfolding replayed
   replayed-started q w (Start a x) f h = inr (a, ap (Start a) (starting-at q w x .1))
   replayed-started q w (Taken s m) f h =
-      let o = started-taking q w s m (f .1) (f .2) h in
+      let g = fits-taken q s m f in
+      let o = started-taking q w s m (g .1) (g .2) h in
       inl (o, taking-kept q s m .entry 0 o .2)
 
   pub lived-start : (rs : List Record) → Life p rs → T (started (lived p rs .party))

@@ -26,8 +26,7 @@ use Rattle.party.specs.Party.{levelAt, withLevel, componentOf, sending, context
 use Rattle.party.specs.Run.{ruleAt, openAt, descend, gate, afterRule, stepAt}
 use Rattle.party_laws.proofs.Laws.{level-same, level-other, level-field, level-back, entry-level, entry-other, descend-component}
 use Rattle.party_laws.proofs.Laws.{Formed, Fresh, sending-entered, sending-level, entered-level, open-sending, formed-step, step-kept, step-grown}
-use Rattle.vote_machine.specs.Invariant.{Way, stays, moves, leads, follows, EntryBy, Regular}
-use Rattle.vote_machine.specs.Order.{Le}
+use Rattle.vote_machine.specs.Inner.{Way, stays, moves, leads, follows, EntryBy, Regular, Le}
 use Rattle.vote_machine.proofs.Order.{kept-le, le-same}
 use Rattle.vote_machine.proofs.Changes as changes
 use Rattle.vote_machine.proofs.Changes.{Change, Changed}

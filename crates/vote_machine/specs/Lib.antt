@@ -1,3 +1,2 @@
 pub mod Machine
-pub mod Invariant
-pub mod Order
+pub mod Inner

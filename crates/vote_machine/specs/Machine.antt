@@ -1,26 +1,29 @@
 -- A vote as a machine: a board's state is its party, and a recorded call is a start at a position or a message taken.
 use mathlib.Core.Path.{_≡_}
-use mathlib.Core.Bool.{Bool, not, _&&_}
+use mathlib.Core.Bool.{Bool}
 use mathlib.Core.List.{List, [], _∷_}
 use Prim.Native.Nat.{ℕ}
-use lib.Dec.{T, ltb, eqb}
+use lib.Dec.{T, ltb}
 use Rattle.base.specs.Pick.{pick}
 use Rattle.plan.specs.declared.Plan.{Plan}
 use Rattle.message.specs.declared.Message.{Message}
-use Rattle.message.specs.Message.{inTable}
 use Rattle.journal.specs.declared.Record.{Record}
 use Rattle.journal.specs.declared.Record.the-variants.{Start, Taken}
 use Rattle.party.specs.declared.Party.{Party}
-use Rattle.party.specs.Party.{newParty, levelAt, sending, contextOf, started}
+use Rattle.party.specs.Party.{newParty, levelAt, sending, contextOf}
 use Rattle.party.specs.Run.{Ran, resting, starting, taking}
+use Rattle.party_life.specs.Life.{passes}
 use Rattle.execution.specs.Machine.{Event, start, take, Machine}
-use Rattle.level_laws.proofs.Messages.{SentIn}
-use Rattle.level_laws.proofs.Counted.{heardFrom}
+use Rattle.level_laws.specs.Inner.{heardFrom, SentIn}
+
+-- the record of a call
+abbrev pub recordOf : Party → Event Message ℕ → Record
+recordOf p (start x) = Start (p .agreement) x
+recordOf p (take s m) = Taken s m
 
 -- the call is one that a board accepts: its only start, on the plan; a message of the table, of this vote and from one of its boards
 abbrev pub accepts : Party → Event Message ℕ → Bool
-accepts p (start x) = not (started p) && ltb x (p .plan .count)
-accepts p (take s m) = ltb s (p .n) && (inTable m && eqb (m .number) (p .agreement))
+accepts p e = passes p (recordOf p e)
 
 -- what an accepted call does
 abbrev pub accepted : Party → Event Message ℕ → Ran

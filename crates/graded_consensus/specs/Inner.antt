@@ -3,18 +3,14 @@
 use mathlib.Core.Path.{_≡_}
 use mathlib.Core.Logic.{_⊎_}
 use mathlib.Core.Bool.{Bool, true, false, not, _&&_, _||_}
-use Prim.Native.Nat.{ℕ, zero, suc, _+_, _-_, _*_, _/_, _%_, _^_, _≤_, _<_}
+use Prim.Native.Nat.{ℕ, suc, _-_, _*_, _/_, _%_, _^_, _≤_, _<_}
 use lib.Dec.{T, eqb}
-use Rattle.base.specs.Sets.{Set, count}
+use Rattle.base.specs.Sets.{Set, count, anyBelow}
+use Rattle.base.specs.Sets as sets
 use Rattle.message.specs.declared.Body.{Body}
 use Rattle.message.specs.declared.Body.the-variants.{FirstEcho, FirstProposal, SecondEcho, SecondProposal}
 use Rattle.message.specs.Message.{noneValue}
 use Rattle.level.specs.Level.{notYet}
-
--- some number below k passes
-unfoldable pub anyBelow : ℕ → (ℕ → Bool) → Bool
-anyBelow zero f = false
-anyBelow (suc k) f = f k || anyBelow k f
 
 pub record Setting : Type 0 where
   pub n : ℕ
@@ -25,7 +21,7 @@ pub record Setting : Type 0 where
 
 -- a sound board's number
 abbrev pub Sound : Setting → ℕ → Type 0
-Sound G i = (i < G .n) × T (not (G .bad i))
+Sound G i = sets.Sound (G .n) (G .bad) i
 
 -- 3t below n, at most t faulty, values fit their bits and are not none
 pub record Fair (G : Setting) : Type 0 where

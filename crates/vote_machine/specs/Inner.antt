@@ -1,4 +1,5 @@
--- What holds of every party that came about by starts, messages taken and rules, whatever was taken.
+-- What holds of every party that came about by starts, messages taken and rules, whatever was taken; and the order in which it only rises.
+-- These definitions serve proofs only.
 use mathlib.Core.Path.{_≡_}
 use mathlib.Core.Bool.{false, not}
 use Prim.Native.Nat.{ℕ, suc, _<_}
@@ -13,11 +14,8 @@ use Rattle.level.specs.declared.Level.{Level}
 use Rattle.party.specs.declared.Party.{Party}
 use Rattle.party.specs.Party.{levelAt, componentOf, sending, contextOf}
 use Rattle.party.specs.Run.{openAt}
-use Rattle.level_laws.proofs.Law.{Heard, Law, Untouched}
-use Rattle.level_laws.proofs.Messages.{Descends}
-use Rattle.level_laws.proofs.Counted.{heardFrom}
-use Rattle.level_laws.proofs.Output.{OutputBy}
-use Rattle.party_laws.proofs.Laws.{Formed, Fresh}
+use Rattle.level_laws.specs.Inner.{heardFrom, Heard, Law, Descends, OutputBy, Untouched}
+use Rattle.party_laws.specs.Inner.{Formed, SameBoard, Fresh, Grown}
 
 -- How a board came to side k of a component S of the plan, at position x, from the level over S with the record l, among n boards.
 pub data Way (plan : Plan) (S : Set) (n t : ℕ) (l : Level) (k x : ℕ) : Type 0 where
@@ -55,3 +53,9 @@ pub record Regular (p : Party) : Type 0 where
 pub record Inv (p : Party) : Type 0 where
   pub regular : Regular p
   pub quiet : (i : ℕ) → openAt p i ≡ false
+
+-- q is p later: the settings and the plan are the same, what is there at a level stays, and an entered level stays over its component
+pub record Le (p q : Party) : Type 0 where
+  pub board : SameBoard p q
+  pub grown : Grown p q
+  pub component : (i : ℕ) → T (levelAt p i .entered) → componentOf q i ≡ componentOf p i
