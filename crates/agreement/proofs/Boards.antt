@@ -27,22 +27,26 @@ use Rattle.party.specs.Valid.{partyValid}
 use Rattle.party_laws.proofs.Laws.{SameBoard, Output, Formed, level-holds, output-stays}
 use Rattle.party_laws.proofs.Calls.{new-level}
 use Rattle.party_life.specs.Life.{lived, madeAlong}
-use Rattle.board.specs.declared.Answer.{Answer}
-use Rattle.board.specs.Answers.{answerOf}
-use Rattle.board.specs.Calls.{answeredOf, noParty}
-use Rattle.board.specs.Restore.{Replay, restoredOf}
+use Rattle.board_calls.specs.declared.Answer.{Answer}
+use Rattle.board_calls.specs.Answers.{answerOf}
+use Rattle.board_calls.specs.Calls.{answeredOf, noParty}
+use Rattle.board_calls.specs.Restore.{Replay, restoredOf}
 use Rattle.execution.specs.Machine.{Event, Machine}
 use Rattle.execution.specs.History as logs
-use Rattle.execution.specs.History.{HStep, log, held, Seen}
+use Rattle.execution.specs.History.{HStep, log, held}
+use Rattle.execution.specs.Inner.{Seen}
 use Rattle.execution.proofs.Logs.{still}
 use Rattle.vote_machine.specs.Machine.{Heard, Sent, voteMachine}
-use Rattle.vote_machine.specs.Invariant.{Inv}
+use Rattle.vote_machine.specs.Inner.{Inv}
 use Rattle.vote_machine.proofs.Laws.{inv-new, inv-lived, inv-called, le-called, le-lived, made-sent, taken-heard, start-entered, start-lived}
-use Rattle.agreement.specs.History.{Vote, read-answer, Step, calls, whose, History, Stage, waiting, running, down, boardAfter, Sound, Refuses, Accepts, May, Allowed}
-use Rattle.agreement.specs.Demand.{Shared, recordsOf, StartedAt, TookFrom, Makes, partyBy, answerNow, Answers, Stands, Complete}
+use Rattle.agreement.specs.History.{Instance, read-answer, Step, calls, whose, History, Stage, waiting, running, down, boardAfter}
+use Rattle.agreement.specs.Allowed.{Refuses, Accepts, May, Allowed}
+use Rattle.agreement.specs.Demand.{partyBy, answerNow, Answers, Stands, Shared}
+use Rattle.agreement.specs.Inner.{recordsOf, StartRecorded, TakeRecorded, RecordsMade}
 use Rattle.agreement.proofs.Restored.{holds-begins, restored-cut}
 use Rattle.agreement.proofs.Told.{machineOf, Tale, nothing, acts, gives, marks, cuts, answerTale, taleOf, added, told}
-use Rattle.agreement.proofs.Tied.{newBoard, Running, AtStage, Tied, plan-valid, settings-pass, board-regular, tied-read}
+use Rattle.agreement.proofs.Tied.{newBoard, Running, AtStage, Tied, plan-valid, settings-pass, board-regular}
+use Rattle.agreement.proofs.Keeps.{tied-read}
 use Rattle.agreement.proofs.Histories.{refused-answer, state-lived, tied, told-valid}
 
 -- ---- answers
@@ -80,10 +84,10 @@ new-output n t own a plan = ap (λ (l : Level). l .output) (new-level n t own a 
 
 -- ---- the state that a board's log gives
 
-abbrev pub stateOf : Vote → Plan → History → ℕ → Party
+abbrev pub stateOf : Instance → Plan → History → ℕ → Party
 stateOf v plan h i = logs.after (machineOf v plan) i (log (machineOf v plan) i (told v plan h))
 
-module _ (v : Vote) (plan : Plan) (bad : Set) (f : Shared v plan) where
+module _ (v : Instance) (plan : Plan) (bad : Set) (f : Shared v plan) where
   abbrev M : Machine
   M = voteMachine (v .n) (v .t) (v .agreement) plan
 
@@ -147,24 +151,24 @@ module _ (v : Vote) (plan : Plan) (bad : Set) (f : Shared v plan) where
     records-of = holds-records (w .holds)
 
     -- it started at x: it has entered level 0 there
-    pub started-state : (x : ℕ) → StartedAt h i x ↔ (T (started (stateOf v plan h i)) × (levelAt (stateOf v plan h i) 0 .position ≡ x))
+    pub started-state : (x : ℕ) → StartRecorded h i x ↔ (T (started (stateOf v plan h i)) × (levelAt (stateOf v plan h i) 0 .position ≡ x))
     started-state x =
         subst₂ (λ (q : Party) (rs : List Record). ((b : ℕ) × List·Memᴰ (Start b x) rs) ↔ (T (started q) × (levelAt q 0 .position ≡ x))) (sym state-records) (sym records-of)
         (start-entered (v .n) (v .t) i (v .agreement) plan (settings-pass v plan f i k) (plan-valid v plan f i k) (w .records) (w .life) x)
 
     -- which is a position of the plan
-    pub started-position : (x : ℕ) → StartedAt h i x → x < plan .count
+    pub started-position : (x : ℕ) → StartRecorded h i x → x < plan .count
     started-position x (b, m) =
         start-lived p (board-regular v plan f i k) (w .records) (w .life) b x (subst (λ (rs : List Record). List·Memᴰ (Start b x) rs) records-of m) .1
 
     -- it took m from board j: it has heard it
-    pub took-state : (j : ℕ) (m : Message) → TookFrom h i j m ↔ Heard (stateOf v plan h i) j m
+    pub took-state : (j : ℕ) (m : Message) → TakeRecorded h i j m ↔ Heard (stateOf v plan h i) j m
     took-state j m =
         subst₂ (λ (q : Party) (rs : List Record). List·Memᴰ (Taken j m) rs ↔ Heard q j m) (sym state-records) (sym records-of)
         (taken-heard (v .n) (v .t) i (v .agreement) plan (settings-pass v plan f i k) (plan-valid v plan f i k) (w .records) (w .life) j m)
 
     -- its calls made m
-    pub makes-state : (m : Message) → Makes v plan h i m ↔ Sent (stateOf v plan h i) m
+    pub makes-state : (m : Message) → RecordsMade v plan h i m ↔ Sent (stateOf v plan h i) m
     makes-state m =
         subst₂ (λ (q : Party) (rs : List Record). List·Memᴰ m (madeAlong (newBoard v plan i) rs) ↔ Sent q m) (sym state-records) (sym records-of)
         (made-sent (v .n) (v .t) i (v .agreement) plan (settings-pass v plan f i k) (plan-valid v plan f i k) (w .records) (w .life) m)
@@ -233,15 +237,3 @@ module _ (v : Vote) (plan : Plan) (bad : Set) (f : Shared v plan) where
     -- a board with an output has an answer
     pub output-answers : (i : ℕ) → i < v .n → (outputOf (stateOf v plan h i) ≡ noOutput → ⊥) → (z : ℤ) × (answerNow v h i ≡ Answer.At z)
     output-answers i k d = (readingOf plan (outputOf (stateOf v plan h i)), answer-now h a i k ∙ answer-at plan (outputOf (stateOf v plan h i)) d)
-
-    -- ---- what was taken, and a complete delivery
-
-    -- every sound board has started
-    pub complete-started : Complete v plan bad h → (i : ℕ) → Sound v bad i → T (started (stateOf v plan h i))
-    complete-started c i g = let x = c .started i g in started-state h a i (g .0) (x .0) .0 (x .1) .0
-
-    -- every sound board has heard what every sound board made
-    pub complete-heard : Complete v plan bad h → (i j : ℕ) (m : Message) → Sound v bad i → Sound v bad j → Sent (stateOf v plan h j) m → Heard (stateOf v plan h i) j m
-    complete-heard c i j m g k s =
-        took-state h a i (g .0) j m .0
-        (c .taken i j (messageBytes m) m g k (c .handed j m k (makes-state h a j (k .0) m .1 s)) (sent-read h a j (k .0) m s))

@@ -29,8 +29,9 @@ use Rattle.party.specs.Party.{started, heldBy}
 use Rattle.party.specs.Run.{Ran, starting, taking}
 use Rattle.party.specs.Valid.{partyValid}
 use Rattle.party_life.specs.Life.{replayed, Fits}
-use Rattle.board.specs.Answers.{onPlan, rangePosition, positionOf}
-use Rattle.board.specs.Calls.{Entry, again, fresh, atDoor, fitting, startQuestions, takeMessage, takeQuestions}
+use Rattle.party_life.proofs.Fits.{fits-start, fitting-start, fits-taken, fitting-taken}
+use Rattle.board_calls.specs.Answers.{onPlan, rangePosition, positionOf}
+use Rattle.board_calls.specs.Calls.{Entry, again, fresh, atDoor, fitting, startQuestions, takeMessage, takeQuestions}
 
 -- ---- inputs
 
@@ -123,7 +124,7 @@ start-recorded p input room used out r ran e = go (input-placed (p .plan) input)
     go (inl z) = absurd (on z)
     go (inr h) =
         let f = fitted room used (Start (p .agreement) x) r (starting p x) ran (twelve .1) in
-        (f .1, on, subst (λ (q : Record). Recorded p room used q ran) (f .1) (record { fits = (refl, T-not (started p) (thirteen .0), h); inside = f .0; does = f .2 }))
+        (f .1, on, subst (λ (q : Record). Recorded p room used q ran) (f .1) (record { fits = fitting-start p (p .agreement) x (refl, T-not (started p) (thirteen .0), h); inside = f .0; does = f .2 }))
 
 -- at position x, so the call finds the record of a start at x and what that does
 pub start-at : (p : Party) (input : ℤ) (room used out x : ℕ) (r : Record) (ran : Ran) → startQuestions p input room used out ≡ found (fresh r ran)
@@ -157,7 +158,7 @@ take-recorded p s bytes room used out r ran e = go (exactMessage bytes) refl (fo
           refl,
           w .1,
           subst (λ (q : Record). Recorded p room used q ran) (w .1) (record {
-            fits = (eqb→eq (m .number) (p .agreement) (sixteen .0), ltb→lt s (p .n) (fourteen .0), true→T (exact-table bytes m i));
+            fits = fitting-taken p s m (eqb→eq (m .number) (p .agreement) (sixteen .0), ltb→lt s (p .n) (fourteen .0), true→T (exact-table bytes m i));
             inside = w .0;
             does = w .2;
           }),
@@ -166,5 +167,5 @@ take-recorded p s bytes room used out r ran e = go (exactMessage bytes) refl (fo
 
 -- the record of an accepted call is within its limits
 pub fits-limits : (p : Party) → p .agreement < 2 ^ 32 → p .n ≤ maxBoards → p .plan .count ≤ maxWidth + 1 → (r : Record) → Fits p r → InLimits r
-fits-limits p a n c (Start b x) f = (subst (λ (z : ℕ). z < 2 ^ 32) (sym (f .0)) a, omega (arith, f .2))
-fits-limits p a n c (Taken s m) f = (omega (arith, f .1), T→true (inTable m) (f .2), subst (λ (z : ℕ). z < 2 ^ 32) (sym (f .0)) a)
+fits-limits p a n c (Start b x) f = let g = fits-start p b x f in (subst (λ (z : ℕ). z < 2 ^ 32) (sym (g .0)) a, omega (arith, g .2))
+fits-limits p a n c (Taken s m) f = let g = fits-taken p s m f in (omega (arith, g .1), T→true (inTable m) (g .2), subst (λ (z : ℕ). z < 2 ^ 32) (sym (g .0)) a)

@@ -22,24 +22,27 @@ use Rattle.party.specs.Party.{outputOf}
 use Rattle.party.specs.Run.{Ran}
 use Rattle.party.specs.Valid.{partyValid}
 use Rattle.party_life.specs.Life.{lived}
-use Rattle.board.specs.declared.Answer.{Answer}
-use Rattle.board.specs.declared.Answered.{Answered}
-use Rattle.board.specs.declared.SetUp.{SetUp}
-use Rattle.board.specs.Answers.{answerOf}
-use Rattle.board.specs.Calls.{Entry, again, fresh, setUpOf, startQuestions, takeQuestions, answeredOf}
-use Rattle.board.specs.Restore.{Replay, restoreQuestions}
+use Rattle.board_calls.specs.declared.Answer.{Answer}
+use Rattle.board_calls.specs.declared.Answered.{Answered}
+use Rattle.board_calls.specs.declared.SetUp.{SetUp}
+use Rattle.board_calls.specs.Answers.{positionOf, answerOf}
+use Rattle.board_calls.specs.Calls.{Entry, again, fresh, setUpOf, answeredOf}
+use Rattle.board_calls.specs.Restore.{Replay}
 use Rattle.execution.specs.Machine.{Event, Machine}
 use Rattle.execution.specs.History as logs
-use Rattle.execution.specs.History.{HStep, log, held, FairH, ValidH}
+use Rattle.execution.specs.History.{HStep, log, held, FairH}
+use Rattle.execution.specs.Inner.{ValidH}
 use Rattle.vote_machine.specs.Machine.{Sent, voteMachine, eventOf}
 use Rattle.vote_machine.proofs.Laws.{after-lived}
-use Rattle.agreement.specs.History.{Vote, Call, set-up, start, take-message, read-answer, restore, Step, calls, hands, cut, whose, History, Stage, waiting, running, down, Board, afterSetUp, afterEntry, afterAnswer, afterRestore, afterCall, afterCut, afterOwn, boardAfter, Refuses, Accepts, May, Allowed}
+use Rattle.agreement.specs.History.{Instance, Lent, Call, set-up, start, take-message, read-answer, restore, startFinds, takeFinds, restoreFinds, Step, calls, hands, cut, whose, History, Stage, waiting, running, down, Act, a-start, a-take, Board, afterSetUp, afterEntry, afterAnswer, afterRestore, afterCall, afterCut, afterOwn, boardAfter}
+use Rattle.agreement.specs.Allowed.{Refuses, Accepts, May, Allowed}
 use Rattle.agreement.specs.Demand.{Shared}
 use Rattle.agreement.proofs.Restored.{Begins, lendable-begins, livedReplay, restored-found}
 use Rattle.agreement.proofs.Entries.{Recorded, start-recorded, take-recorded}
 use Rattle.agreement.proofs.Lent.{entered, start-entered, take-entered}
 use Rattle.agreement.proofs.Told.{machineOf, Tale, nothing, entryTale, answerTale, restoreTale, callTale, handTale, cutTale, wholeRecords, taleOf, logAfter, heldAfter, told, log-added, held-added, handed-told, MayTell, valid-added}
-use Rattle.agreement.proofs.Tied.{newBoard, AtStage, Tied, tied-unborn, set-up-found, tied-set-up, tied-read, tied-fresh, tied-guarding, tied-restored, cut-may, tied-cut}
+use Rattle.agreement.proofs.Tied.{newBoard, AtStage, Tied, tied-unborn, set-up-found}
+use Rattle.agreement.proofs.Keeps.{tied-set-up, tied-read, tied-fresh, tied-counting, tied-guarding, tied-restored, cut-may, tied-cut}
 
 -- a reading that is refused gives no answer
 pub refused-answer : (p : Party) (k at : ℕ) → answeredOf p .verdict ≡ Verdict.Refused k at → answeredOf p .answer ≡ Answer.None
@@ -56,7 +59,7 @@ refused-answer p k at e = go (partyValid p) e
     go true e = let z : _≡_ {A = ℕ} 0 1 = cc in absurd (omega arith)
     go false e = refl
 
-module _ (v : Vote) (plan : Plan) (bad : Set) (f : Shared v plan) where
+module _ (v : Instance) (plan : Plan) (bad : Set) (f : Shared v plan) where
   abbrev M : Machine
   M = voteMachine (v .n) (v .t) (v .agreement) plan
 
@@ -83,26 +86,26 @@ module _ (v : Vote) (plan : Plan) (bad : Set) (f : Shared v plan) where
         subst (λ (y : SetUp). Goes i (afterSetUp b (y .verdict) (y .party)) nothing H) (sym g)
         (record { tied = tied-set-up v plan f i seat b (log M i H) (held M i H) w e; may = tt })
 
-    by-entry : (q : Found Entry) (room used : ℕ) → b .stage ≡ running
+    by-entry : (a : Act) (q : Found Entry) (room used : ℕ) → b .stage ≡ running
         → ((r : Record) (ran : Ran) → q ≡ found (fresh r ran) → Recorded (b .party) room used r ran × FairH M (v .n) bad (eventOf r) H)
-        → Goes i (entered b q) (entryTale q) H
-    by-entry (found again) room used e g = stays
-    by-entry (found (fresh r ran)) room used e g =
+        → Goes i (entered b a q) (entryTale q) H
+    by-entry a (found again) room used e g = record { tied = tied-counting v plan f i seat b (log M i H) (held M i H) w (entered b a (found again) .counted); may = tt }
+    by-entry a (found (fresh r ran)) room used e g =
         let x = g r ran refl in
-        record { tied = tied-fresh v plan f i seat b (log M i H) (held M i H) w e room used r ran (x .0); may = x .1 }
-    by-entry (refused number place) room used e g = stays
+        record { tied = tied-fresh v plan f i seat b (log M i H) (held M i H) w e a room used r ran (x .0); may = x .1 }
+    by-entry a (refused number place) room used e g = stays
 
     by-answer : (a : Answer) → b .stage ≡ running → Goes i (afterAnswer b a) (answerTale a) H
     by-answer Answer.None e = stays
     by-answer (Answer.At z) e =
         record { tied = tied-guarding v plan f i seat b (log M i H) (held M i H) w e (afterAnswer b (Answer.At z) .guarded) (omega arith); may = tt }
 
-    by-restore : (j : List ℕ) → Begins j (w .records) → (q : Found Replay) → ((r : Replay) → q ≡ found r → r ≡ livedReplay (newBoard v plan i) (w .records))
-        → Goes i (afterRestore b j q) (restoreTale q) H
-    by-restore j l (found r) g =
-        subst (λ (y : Replay). Goes i (afterRestore b j (found y)) (restoreTale (found y)) H) (sym (g r refl))
-        (record { tied = tied-restored v plan f i seat b (log M i H) (held M i H) w j l; may = tt })
-    by-restore j l (refused number place) g = stays
+    by-restore : (lent : Lent) → Begins (lent .journal) (w .records) → (q : Found Replay) → ((r : Replay) → q ≡ found r → r ≡ livedReplay (newBoard v plan i) (w .records))
+        → Goes i (afterRestore b lent q) (restoreTale q) H
+    by-restore lent l (found r) g =
+        subst (λ (y : Replay). Goes i (afterRestore b lent (found y)) (restoreTale (found y)) H) (sym (g r refl))
+        (record { tied = tied-restored v plan f i seat b (log M i H) (held M i H) w lent l; may = tt })
+    by-restore lent l (refused number place) g = stays
 
     by-cut : (s : Stage) (k : ℕ) → b .guarded ≤ k → Goes i (afterCut b s k) (cutTale s (wholeRecords (take k (b .journal)))) H
     by-cut waiting k g = stays
@@ -135,34 +138,36 @@ module _ (v : Vote) (plan : Plan) (bad : Set) (f : Shared v plan) where
     by-refusal : (c : Call) → Refuses c → Goes i (afterCall (boardAfter h i) c) (callTale c) (told v plan h)
     by-refusal (set-up n t a g bytes) e =
         subst (λ (y : Verdict). Goes i (afterSetUp b y (setUpOf n t a g bytes .party)) nothing H) (sym (e .1 .1)) (stays i seat b H w)
-    by-refusal (start p input journal used out) e = subst (λ (y : Found Entry). Goes i (afterEntry b p journal used y) (entryTale y) H) (sym (e .1 .1)) (stays i seat b H w)
-    by-refusal (take-message p sender bytes journal used out) e = subst (λ (y : Found Entry). Goes i (afterEntry b p journal used y) (entryTale y) H) (sym (e .1 .1)) (stays i seat b H w)
+    by-refusal (start p input lent used) e =
+        subst (λ (y : Found Entry). Goes i (afterEntry b (a-start (positionOf (p .plan) input) input) p lent used y) (entryTale y) H) (sym (e .1 .1)) (stays i seat b H w)
+    by-refusal (take-message p sender bytes lent used) e =
+        subst (λ (y : Found Entry). Goes i (afterEntry b (a-take sender (exactMessage bytes)) p lent used y) (entryTale y) H) (sym (e .1 .1)) (stays i seat b H w)
     by-refusal (read-answer p) e =
         subst (λ (y : Answer). Goes i (afterAnswer b y) (answerTale y) H) (sym (refused-answer p (e .0) (e .1 .0) (e .1 .1))) (stays i seat b H w)
-    by-refusal (restore n t a g bytes journal out) e = subst (λ (y : Found Replay). Goes i (afterRestore b journal y) (restoreTale y) H) (sym (e .1 .1)) (stays i seat b H w)
+    by-refusal (restore n t a g bytes lent) e = subst (λ (y : Found Replay). Goes i (afterRestore b lent y) (restoreTale y) H) (sym (e .1 .1)) (stays i seat b H w)
 
     by-call : (c : Call) → Accepts v bad i h (boardAfter h i) c → Goes i (afterCall (boardAfter h i) c) (callTale c) (told v plan h)
     by-call (set-up n t a g bytes) (e, o) =
         by-set-up i seat b H w (setUpOf n t a g bytes) e
         ((λ z. setUpOf (o .boards z) (o .faults z) (o .seat z) (o .number z) (o .bytes z)) ∙ set-up-found v plan f i seat)
-    by-call (start p input journal used out) c =
-        subst (λ (y : Board). Goes i y (callTale (start p input journal used out)) H) (sym (start-entered b p journal used c input out))
-        (by-entry i seat b H w (startQuestions p input (length journal) used out) (length journal) used (c .up) (λ r ran e.
-        let x = start-recorded p input (length journal) used out r ran e in
-        (subst (λ (q : Party). Recorded q (length journal) used r ran) (c .same) (x .2), subst (λ (y : Record). FairH M (v .n) bad (eventOf y) H) (x .0) tt)))
-    by-call (take-message p sender bytes journal used out) (c, from) =
-        subst (λ (y : Board). Goes i y (callTale (take-message p sender bytes journal used out)) H) (sym (take-entered b p journal used c sender bytes out))
-        (by-entry i seat b H w (takeQuestions p sender bytes (length journal) used out) (length journal) used (c .up) (λ r ran e.
-        let x = take-recorded p sender bytes (length journal) used out r ran e in (
-          subst (λ (q : Party). Recorded q (length journal) used r ran) (c .same) (x .3),
+    by-call (start p input lent used) c =
+        subst (λ (y : Board). Goes i y (callTale (start p input lent used)) H) (sym (start-entered b p lent used c input))
+        (by-entry i seat b H w (a-start (positionOf (p .plan) input) input) (startFinds p input lent used) (length (lent .journal)) used (c .up) (λ r ran e.
+        let x = start-recorded p input (length (lent .journal)) used (lent .out) r ran e in
+        (subst (λ (q : Party). Recorded q (length (lent .journal)) used r ran) (c .same) (x .2), subst (λ (y : Record). FairH M (v .n) bad (eventOf y) H) (x .0) tt)))
+    by-call (take-message p sender bytes lent used) (c, from) =
+        subst (λ (y : Board). Goes i y (callTale (take-message p sender bytes lent used)) H) (sym (take-entered b p lent used c sender bytes))
+        (by-entry i seat b H w (a-take sender (exactMessage bytes)) (takeFinds p sender bytes lent used) (length (lent .journal)) used (c .up) (λ r ran e.
+        let x = take-recorded p sender bytes (length (lent .journal)) used (lent .out) r ran e in (
+          subst (λ (q : Party). Recorded q (length (lent .journal)) used r ran) (c .same) (x .3),
           subst (λ (y : Record). FairH M (v .n) bad (eventOf y) H) (x .2) (λ g. handed-told v plan h sender bytes (x .0) (from g) (x .1)),
         )))
     by-call (read-answer p) e = by-answer i seat b H w (answeredOf p .answer) (e .0)
-    by-call (restore n t a g bytes journal out) (e, o, lent) =
-        let l : Begins journal (w .records) = lendable-begins (b .journal) journal (w .records) (w .holds) lent in
-        by-restore i seat b H w journal l (restoreQuestions n t a g bytes journal out) (λ r x.
-        restored-found (v .n) (v .t) i (v .agreement) (v .plan) plan (f .boards) (f .faults) seat (f .reads) (w .records) (w .life) journal l out r
-        (sym (λ z. restoreQuestions (o .boards z) (o .faults z) (o .seat z) (o .number z) (o .bytes z) journal out) ∙ x))
+    by-call (restore n t a g bytes lent) (e, o, given) =
+        let l : Begins (lent .journal) (w .records) = lendable-begins (b .journal) (lent .journal) (w .records) (w .holds) given in
+        by-restore i seat b H w lent l (restoreFinds n t a g bytes lent) (λ r x.
+        restored-found (v .n) (v .t) i (v .agreement) (v .plan) plan (f .boards) (f .faults) seat (f .reads) (w .records) (w .life) (lent .journal) l (lent .out) r
+        (sym (λ z. restoreFinds (o .boards z) (o .faults z) (o .seat z) (o .number z) (o .bytes z) lent) ∙ x))
 
   -- ---- steps
 

@@ -3,16 +3,14 @@ use mathlib.Core.Path.{_≡_, refl, sym, ap, _∙_, subst}
 use mathlib.Core.Logic.{_⊎_, inl, inr, _↔_}
 use mathlib.Core.Bool.{Bool, true, false, not}
 use mathlib.Core.List.{List, [], _∷_, List·Memᴰ, List·Memᴰ·head, List·Memᴰ·tail, List·Memᴰ·cases-cons, List·Memᴰ·not-nil}
-use Prim.Native.Nat.{ℕ, zero, suc, _+_, _-_, _<_}
+use Prim.Native.Nat.{ℕ, zero, suc, _-_, _<_}
 use native.Mathlib.Omega.{arith}
-use lib.Dec.{T, leb, ltb, eqb, eqb→eq}
-use lib.IntN.{ℤ, pos, negsuc}
+use lib.Dec.{T, eqb, eqb→eq}
+use lib.IntN.{ℤ}
 use lib.ListN.{length, drop}
-use borrow.Author.Tests.{le-leb, lt-leb, leb-true}
 use Rattle.base.specs.Pick.{pick}
 use Rattle.base.specs.Sets.{Set}
 use Rattle.base.proofs.Bools.{true→T}
-use Rattle.signed.specs.Signed.{fromOffset}
 use Rattle.base.specs.Found.{Found, found, refused}
 use Rattle.plan.specs.declared.Plan.{Plan}
 use Rattle.plan.specs.Positions.{readingOf}
@@ -24,73 +22,23 @@ use Rattle.journal.specs.declared.Record.{Record}
 use Rattle.journal.specs.declared.Record.the-variants.{Start}
 use Rattle.party.specs.declared.Party.{Party}
 use Rattle.party.specs.Run.{starting}
-use Rattle.board.specs.declared.Answer.{Answer}
-use Rattle.board.specs.Answers.{onPlan, vertexOf, rangePosition, positionOf}
-use Rattle.board.specs.Calls.{Entry, again, fresh, startQuestions, takeQuestions, answeredOf}
-use Rattle.board.specs.Restore.{Replay, restoreQuestions}
+use Rattle.board_calls.specs.declared.Answer.{Answer}
+use Rattle.board_calls.specs.Answers.{positionOf}
+use Rattle.board_calls.specs.Calls.{Entry, again, fresh, answeredOf}
+use Rattle.board_calls.specs.Restore.{Replay}
 use Rattle.execution.specs.Machine as machine
 use Rattle.execution.specs.Machine.{Event}
 use Rattle.execution.specs.History.{log}
 use Rattle.vote_machine.specs.Machine.{eventOf, eventsOf}
-use Rattle.agreement.specs.History.{Vote, set-up, start, take-message, read-answer, restore, Step, calls, hands, cut, whose, History, Stage, waiting, running, down, boardAfter, Refuses, Accepts, May, Allowed}
-use Rattle.agreement.specs.Demand.{Shared, StartedAt, Stands, AcceptedStart, StartedWith}
+use Rattle.agreement.specs.History.{Instance, Lent, set-up, start, take-message, read-answer, restore, startFinds, takeFinds, restoreFinds, Step, calls, hands, cut, whose, History, Stage, waiting, running, down, boardAfter}
+use Rattle.agreement.specs.Allowed.{Refuses, Accepts, May, Allowed}
+use Rattle.agreement.specs.Demand.{Stands, Shared}
+use Rattle.agreement.specs.Inner.{StartRecorded, AcceptedStart, StartedRecorded}
 use Rattle.agreement.proofs.Entries.{start-recorded, start-at, take-recorded}
+use Rattle.agreement.proofs.Readings.{position-reading}
 use Rattle.agreement.proofs.Told.{machineOf, Tale, nothing, acts, gives, marks, cuts, entryTale, answerTale, restoreTale, handTale, cutTale, taleOf, logAfter, told, log-added}
 use Rattle.agreement.proofs.Histories.{tied}
 use Rattle.agreement.proofs.Boards.{running-state, state-plan, records-of, started-position}
-
--- ---- the position of an input stands for it
-
-module _ (p : Plan) where
-  -- x is a position of z, or none
-  abbrev Means : ℤ → (ℕ → ℤ) → ℕ → Type 0
-  Means z f x = (x ≡ noOutput → ⊥) → f x ≡ z
-
-  on-means : (z : ℤ) (f : ℕ → ℤ) (x : ℕ) → f x ≡ z → Means z f (onPlan p x)
-  on-means z f x e = go (ltb x (p .count))
-    where
-      go : (b : Bool) → Means z f (pick b x noOutput)
-      go true d = e
-      go false d = absurd (d refl)
-
-  vertex-means : (z : ℤ) → Means z pos (vertexOf p z)
-  vertex-means (pos x) = on-means (pos x) pos x refl
-  vertex-means (negsuc x) = λ d. absurd (d refl)
-
-  range-means : (z : ℤ) → Means z (λ x. fromOffset (p .low + x)) (rangePosition p z)
-  range-means (pos x) = go (leb (p .low) (x + 2147483648)) refl
-    where
-      go : (b : Bool) → leb (p .low) (x + 2147483648) ≡ b → Means (pos x) (λ y. fromOffset (p .low + y)) (pick b (onPlan p (x + 2147483648 - p .low)) noOutput)
-      go true e =
-          let l = leb-true (p .low) (x + 2147483648) e in
-          let u : p .low + (x + 2147483648 - p .low) ≡ x + 2147483648 = omega arith in
-          on-means (pos x) (λ y. fromOffset (p .low + y)) (x + 2147483648 - p .low)
-          (ap fromOffset u
-          ∙ ap (λ (b : Bool). pick b (pos (x + 2147483648 - 2147483648)) (negsuc (2147483647 - (x + 2147483648)))) (le-leb 2147483648 (x + 2147483648) (omega arith))
-          ∙ ap pos (let g : x + 2147483648 - 2147483648 ≡ x = omega arith in g))
-      go false e = λ d. absurd (d refl)
-  range-means (negsuc x) = go (leb (p .low + (x + 1)) 2147483648) refl
-    where
-      go : (b : Bool) → leb (p .low + (x + 1)) 2147483648 ≡ b → Means (negsuc x) (λ y. fromOffset (p .low + y)) (pick b (onPlan p (2147483648 - (x + 1) - p .low)) noOutput)
-      go true e =
-          let l = leb-true (p .low + (x + 1)) 2147483648 e in
-          let u : p .low + (2147483648 - (x + 1) - p .low) ≡ 2147483647 - x = omega arith in
-          on-means (negsuc x) (λ y. fromOffset (p .low + y)) (2147483648 - (x + 1) - p .low)
-          (ap fromOffset u
-          ∙ ap (λ (b : Bool). pick b (pos (2147483647 - x - 2147483648)) (negsuc (2147483647 - (2147483647 - x)))) (lt-leb 2147483648 (2147483647 - x) (omega arith))
-          ∙ ap negsuc (let g : 2147483647 - (2147483647 - x) ≡ x = omega arith in g))
-      go false e = λ d. absurd (d refl)
-
-  -- the reading of an input's position is the input
-  pub position-reading : (z : ℤ) → (positionOf p z ≡ noOutput → ⊥) → readingOf p (positionOf p z) ≡ z
-  unfolding positionOf readingOf
-  position-reading z = go (eqb (p .kind) 1)
-    where
-      go : (b : Bool) → Means z (λ x. pick b (pos x) (fromOffset (p .low + x))) (pick b (vertexOf p z) (rangePosition p z))
-      go true = vertex-means z
-      go false = range-means z
-
--- ---- along a history
 
 abbrev isStart : Event Message ℕ → Bool
 isStart (machine.start x) = true
@@ -143,7 +91,7 @@ acted (cuts k) = machine.start 0
 idle : {t : Tale} {e : Event Message ℕ} → T (not (acting t)) → t ≡ acts e → ⊥
 idle h e = subst (λ (y : Tale). T (not (acting y))) e h
 
-module _ (v : Vote) (plan : Plan) (bad : Set) (f : Shared v plan) where
+module _ (v : Instance) (plan : Plan) (bad : Set) (f : Shared v plan) where
   -- an accepted start of board i in the list, at the position x of its input
   abbrev Given : History → ℕ → ℕ → Type 0
   Given h i x = (z : ℤ) × (positionOf plan z ≡ x) × (x ≡ noOutput → ⊥) × AcceptedStart h i x z
@@ -153,31 +101,31 @@ module _ (v : Vote) (plan : Plan) (bad : Set) (f : Shared v plan) where
     z,
     e,
     d,
-    record { party = c .party; journal = c .journal; used = c .used; out = c .out; call = List·Memᴰ·tail (c .call); accepted = c .accepted },
+    record { party = c .party; lent = c .lent; used = c .used; call = List·Memᴰ·tail (c .call); accepted = c .accepted },
   )
 
   module _ (h : History) (a : Allowed v bad h) (i : ℕ) (k : i < v .n) where
     -- the start is accepted, so its party is the board's
-    by-start : (p : Party) (z : ℤ) (journal : List ℕ) (used out x : ℕ)
-        → Refuses (start p z journal used out) ⊎ Accepts v bad i h (boardAfter h i) (start p z journal used out)
-        → (q : Found Entry) → startQuestions p z (length journal) used out ≡ q → entryTale q ≡ acts (machine.start x)
-        → (positionOf plan z ≡ x) × (x ≡ noOutput → ⊥) × (startQuestions p z (length journal) used out ≡ found (fresh (Start (p .agreement) x) (starting p x)))
-    by-start p z journal used out x m (found again) e t = absurd (idle tt t)
-    by-start p z journal used out x m (refused number place) e t = absurd (idle tt t)
-    by-start p z journal used out x (inl r) (found (fresh c ran)) e t =
+    by-start : (p : Party) (z : ℤ) (lent : Lent) (used x : ℕ)
+        → Refuses (start p z lent used) ⊎ Accepts v bad i h (boardAfter h i) (start p z lent used)
+        → (q : Found Entry) → startFinds p z lent used ≡ q → entryTale q ≡ acts (machine.start x)
+        → (positionOf plan z ≡ x) × (x ≡ noOutput → ⊥) × (startFinds p z lent used ≡ found (fresh (Start (p .agreement) x) (starting p x)))
+    by-start p z lent used x m (found again) e t = absurd (idle tt t)
+    by-start p z lent used x m (refused number place) e t = absurd (idle tt t)
+    by-start p z lent used x (inl r) (found (fresh c ran)) e t =
         let y : found (fresh c ran) ≡ refused (r .0) (r .1 .0) = sym e ∙ r .1 .1 in let o : _≡_ {A = ℕ} 0 1 = cc in absurd (omega arith)
-    by-start p z journal used out x (inr c) (found (fresh r ran)) e t =
-        let g = start-recorded p z (length journal) used out r ran e in
+    by-start p z lent used x (inr c) (found (fresh r ran)) e t =
+        let g = start-recorded p z (length (lent .journal)) used (lent .out) r ran e in
         let same : p .plan ≡ plan = ap (λ (y : Party). y .plan) (c .same ∙ running-state v plan bad f h a i k (c .up)) ∙ state-plan v plan bad f h a i k in
         let at : positionOf (p .plan) z ≡ x = ap startAt (ap eventOf (g .0) ∙ ap acted t) in
-        (ap (λ (y : Plan). positionOf y z) (sym same) ∙ at, λ n. g .1 (at ∙ n), start-at p z (length journal) used out x r ran e at)
+        (ap (λ (y : Plan). positionOf y z) (sym same) ∙ at, λ n. g .1 (at ∙ n), start-at p z (length (lent .journal)) used (lent .out) x r ran e at)
 
-    by-take : (p : Party) (s : ℕ) (bytes journal : List ℕ) (used out x : ℕ)
-        → (q : Found Entry) → takeQuestions p s bytes (length journal) used out ≡ q → entryTale q ≡ acts (machine.start x) → ⊥
-    by-take p s bytes journal used out x (found again) e t = idle tt t
-    by-take p s bytes journal used out x (refused number place) e t = idle tt t
-    by-take p s bytes journal used out x (found (fresh r ran)) e t =
-        let g = take-recorded p s bytes (length journal) used out r ran e in
+    by-take : (p : Party) (s : ℕ) (bytes : List ℕ) (lent : Lent) (used x : ℕ)
+        → (q : Found Entry) → takeFinds p s bytes lent used ≡ q → entryTale q ≡ acts (machine.start x) → ⊥
+    by-take p s bytes lent used x (found again) e t = idle tt t
+    by-take p s bytes lent used x (refused number place) e t = idle tt t
+    by-take p s bytes lent used x (found (fresh r ran)) e t =
+        let g = take-recorded p s bytes (length (lent .journal)) used (lent .out) r ran e in
         let y : machine.take s (g .0) ≡ machine.start x = ap eventOf (g .2) ∙ ap acted t in
         subst (λ (d : Event Message ℕ). T (not (isStart d))) y tt
 
@@ -203,21 +151,20 @@ module _ (v : Vote) (plan : Plan) (bad : Set) (f : Shared v plan) where
     by-step (cut j left) e m x t = absurd (idle (cut-idle (boardAfter h j .stage) _) t)
     by-step (calls j (set-up n u own g bytes)) e m x t = absurd (idle tt t)
     by-step (calls j (read-answer p)) e m x t = absurd (idle (answer-idle (answeredOf p .answer)) t)
-    by-step (calls j (restore n u own g bytes journal out)) e m x t = absurd (idle (restore-idle (restoreQuestions n u own g bytes journal out)) t)
-    by-step (calls j (take-message p s bytes journal used out)) e m x t = absurd (by-take p s bytes journal used out x (takeQuestions p s bytes (length journal) used out) refl t)
-    by-step (calls j (start p z journal used out)) e m x t =
-        let g = by-start p z journal used out x
-        (subst (λ (y : ℕ). Refuses (start p z journal used out) ⊎ Accepts v bad y h (boardAfter h y) (start p z journal used out)) e (m .1))
-        (startQuestions p z (length journal) used out) refl t in (
+    by-step (calls j (restore n u own g bytes lent)) e m x t = absurd (idle (restore-idle (restoreFinds n u own g bytes lent)) t)
+    by-step (calls j (take-message p s bytes lent used)) e m x t = absurd (by-take p s bytes lent used x (takeFinds p s bytes lent used) refl t)
+    by-step (calls j (start p z lent used)) e m x t =
+        let g = by-start p z lent used x
+        (subst (λ (y : ℕ). Refuses (start p z lent used) ⊎ Accepts v bad y h (boardAfter h y) (start p z lent used)) e (m .1))
+        (startFinds p z lent used) refl t in (
           z,
           g .0,
           g .1,
           record {
             party = p;
-            journal = journal;
+            lent = lent;
             used = used;
-            out = out;
-            call = List·Memᴰ·head (ap (λ (y : ℕ). calls y (start p z journal used out)) (sym e));
+            call = List·Memᴰ·head (ap (λ (y : ℕ). calls y (start p z lent used)) (sym e));
             accepted = g .2;
           },
         )
@@ -243,7 +190,7 @@ module _ (v : Vote) (plan : Plan) (bad : Set) (f : Shared v plan) where
           new (inr q) = given-later s h i x (ih q)
 
   -- a board's start is the caller's
-  pub started-with : (h : History) → Allowed v bad h → (i : ℕ) → i < v .n → (x : ℕ) → StartedAt h i x → (z : ℤ) × StartedWith plan h i x z
+  pub started-with : (h : History) → Allowed v bad h → (i : ℕ) → i < v .n → (x : ℕ) → StartRecorded h i x → (z : ℤ) × StartedRecorded plan h i x z
   started-with h a i k x (b, m) =
       let w = tied v plan bad f h a i k in
       let n : List·Memᴰ (machine.start x) (log (machineOf v plan) i (told v plan h)) =
@@ -263,9 +210,9 @@ module _ (v : Vote) (plan : Plan) (bad : Set) (f : Shared v plan) where
 
   -- Naming any start of the list with the input z, perhaps a refused one, says the same: an accepted call wrote the record that is kept.
   pub started-by-some : (h : History) → Allowed v bad h → (i : ℕ) → i < v .n → (x : ℕ) (z : ℤ)
-      → StartedWith plan h i x z
-      ↔ (((p : Party) × (journal : List ℕ) × (used : ℕ) × (out : ℕ) × List·Memᴰ (calls i (start p z journal used out)) h) × Stands plan x z × StartedAt h i x)
+      → StartedRecorded plan h i x z
+      ↔ (((p : Party) × (lent : Lent) × (used : ℕ) × List·Memᴰ (calls i (start p z lent used)) h) × Stands plan x z × StartRecorded h i x)
   started-by-some h a i k x z = (
-    λ w. let c = w .call in ((c .party, c .journal, c .used, c .out, c .call), w .stands, w .kept),
-    λ w. let g = started-with h a i k x (w .2) in subst (StartedWith plan h i x) (sym (g .1 .stands .1) ∙ w .1 .1) (g .1),
+    λ w. let c = w .call in ((c .party, c .lent, c .used, c .call), w .stands, w .kept),
+    λ w. let g = started-with h a i k x (w .2) in subst (StartedRecorded plan h i x) (sym (g .1 .stands .1) ∙ w .1 .1) (g .1),
   )

@@ -3,11 +3,17 @@ pub mod Entries
 pub mod Lent
 pub mod Told
 pub mod Tied
+pub mod Keeps
 pub mod Histories
 pub mod Boards
+pub mod Readings
 pub mod Inputs
+pub mod Steps
+pub mod Counted
+pub mod Follows
 pub mod Words
 pub mod Accepted
+pub mod Logs
 pub mod Theorem
 pub mod Ranges
 pub mod Life

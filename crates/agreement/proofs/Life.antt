@@ -10,17 +10,18 @@ use Rattle.base.specs.Limits.{maxWidth, outgoingSize}
 use Rattle.base.specs.declared.Verdict.{Verdict}
 use Rattle.base.specs.Found.{Found, found}
 use Rattle.plan.specs.declared.Plan.{Plan}
-use Rattle.plan.proofs.Shape.{shape}
+use Rattle.plan_laws.proofs.Shape.{shape}
 use Rattle.journal.specs.declared.Record.{Record}
 use Rattle.journal.specs.Records.{AllInLimits, journalBytes}
 use Rattle.party.specs.declared.Party.{Party}
 use Rattle.party.specs.Run.{Ran, bytesOf}
 use Rattle.party_life.specs.Life.{replayed, lived, Life}
-use Rattle.board.specs.declared.Called.{Called}
-use Rattle.board.specs.Restore.{Replay, restoreQuestions, restoredOf, restoreOutgoing}
-use Rattle.vote_machine.specs.Order.{Le}
+use Rattle.board_calls.specs.declared.Called.{Called}
+use Rattle.board_calls.specs.Restore.{Replay, restoreQuestions, restoredOf, restoreOutgoing}
+use Rattle.vote_machine.specs.Inner.{Le}
 use Rattle.vote_machine.proofs.Laws.{le-lived}
-use Rattle.agreement.specs.History.{Vote, History, running, Board, afterRestore, boardAfter, Lendable, Continues, Allowed}
+use Rattle.agreement.specs.History.{Instance, Lent, restoreFinds, History, running, Board, afterRestore, boardAfter}
+use Rattle.agreement.specs.Allowed.{Continues, Lendable, Allowed}
 use Rattle.agreement.specs.Demand.{Shared}
 use Rattle.agreement.proofs.Restored.{Begins, holds-begins, begins-used, lendable-begins, restored, restored-cut, restored-found}
 use Rattle.agreement.proofs.Entries.{fits-limits}
@@ -44,7 +45,7 @@ pub lived-more : (p : Party) (r : Record) (rs : List Record) →
 unfolding lived
 lived-more p r rs = refl
 
-module _ (v : Vote) (plan : Plan) (f : Shared v plan) (i : ℕ) (seat : i < v .n) where
+module _ (v : Instance) (plan : Plan) (f : Shared v plan) (i : ℕ) (seat : i < v .n) where
   life-limits : (rs : List Record) → Life (newBoard v plan i) rs → AllInLimits rs
   life-limits [] k = tt
   life-limits (r ∷ rs) (fits, k) =
@@ -80,11 +81,11 @@ module _ (v : Vote) (plan : Plan) (f : Shared v plan) (i : ℕ) (seat : i < v .n
         (ap (λ (q : Found Replay). restoredOf q .verdict) e, ap (λ (q : Found Replay). restoredOf q .party) e ∙ sym (u .party), ap (λ (q : Found Replay). restoredOf q .used) e ∙ ap length (sym (u .journal)))
 
     -- "each later call gets the record, journal and used length as the call before left them", after an accepted restore
-    pub restore-continues : (journal : List ℕ) → Lendable (boardAfter h i .journal) journal → (out : ℕ) (r : Replay)
-        → restoreQuestions (v .n) (v .t) i (v .agreement) (v .plan) journal out ≡ found r
-        → Continues (afterRestore (boardAfter h i) journal (found r)) (restoredOf (found r) .party) journal (restoredOf (found r) .used)
-    restore-continues journal lent out r e =
-        let l : Begins journal (w .records) = lendable-begins (b .journal) journal (w .records) (w .holds) lent in
-        let x = restored-found (v .n) (v .t) i (v .agreement) (v .plan) plan (f .boards) (f .faults) seat (f .reads) (w .records) (w .life) journal l out r e in
-        subst (λ (y : Replay). Continues (afterRestore b journal (found y)) (restoredOf (found y) .party) journal (restoredOf (found y) .used)) (sym x)
+    pub restore-continues : (lent : Lent) → Lendable (boardAfter h i .journal) (lent .journal) → (r : Replay)
+        → restoreFinds (v .n) (v .t) i (v .agreement) (v .plan) lent ≡ found r
+        → Continues (afterRestore (boardAfter h i) lent (found r)) (restoredOf (found r) .party) lent (restoredOf (found r) .used)
+    restore-continues lent given r e =
+        let l : Begins (lent .journal) (w .records) = lendable-begins (b .journal) (lent .journal) (w .records) (w .holds) given in
+        let x = restored-found (v .n) (v .t) i (v .agreement) (v .plan) plan (f .boards) (f .faults) seat (f .reads) (w .records) (w .life) (lent .journal) l (lent .out) r e in
+        subst (λ (y : Replay). Continues (afterRestore b lent (found y)) (restoredOf (found y) .party) lent (restoredOf (found y) .used)) (sym x)
         (record { up = refl; same = refl; at = ap length (sym (begins-used l)); kept = refl })

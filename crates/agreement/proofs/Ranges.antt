@@ -18,10 +18,10 @@ use Rattle.tree.proofs.PathEdges.{Next, Along, path-adjacent, path-along}
 use Rattle.tree.proofs.PathWalk.{between}
 use Rattle.plan.specs.declared.Plan.{Plan}
 use Rattle.plan.specs.Positions.{edgesOf}
-use Rattle.plan.proofs.Readings.{reading-sum}
-use Rattle.plan.proofs.Shape.{edges-range}
-use Rattle.agreement.specs.History.{Vote, History}
-use Rattle.agreement.specs.Demand.{Near, Stands, Premises, Holds}
+use Rattle.plan_laws.proofs.Readings.{reading-sum}
+use Rattle.plan_laws.proofs.Shape.{edges-range}
+use Rattle.agreement.specs.History.{Instance, History}
+use Rattle.agreement.specs.Demand.{Near, Stands, Holds, Premises}
 use Rattle.agreement.specs.Ranges.{apart, Between, Input, HoldsOnRange}
 use Rattle.agreement.proofs.Theorem.{demand3}
 
@@ -130,7 +130,7 @@ module _ (p : Plan) (k : p .kind ≡ 2) where
 
 -- ---- demand 3 on a range
 
-module _ (v : Vote) (plan : Plan) (bad : Set) (h : History) (k : plan .kind ≡ 2) where
+module _ (v : Instance) (plan : Plan) (bad : Set) (h : History) (k : plan .kind ≡ 2) where
   -- what demand 3 promises, by readings
   pub on-range : Holds v plan bad h → HoldsOnRange v plan bad h
   on-range o = record {
@@ -151,5 +151,5 @@ module _ (v : Vote) (plan : Plan) (bad : Set) (h : History) (k : plan .kind ≡ 
       ordered p q y m n (inr (a, b)) = (q, p, n, m, a, b)
 
 -- Demand 3 on a range.
-pub demand3-range : (v : Vote) (plan : Plan) (bad : Set) (h : History) → Premises v plan bad h → plan .kind ≡ 2 → HoldsOnRange v plan bad h
+pub demand3-range : (v : Instance) (plan : Plan) (bad : Set) (h : History) → Premises v plan bad h → plan .kind ≡ 2 → HoldsOnRange v plan bad h
 demand3-range v plan bad h given k = on-range v plan bad h k (demand3 v plan bad h given)

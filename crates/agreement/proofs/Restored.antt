@@ -1,45 +1,39 @@
 -- Restoring what a life wrote gives that life's party.
 use mathlib.Core.Path.{_≡_, refl, sym, ap, ap₂, _∙_, subst}
 use mathlib.Core.Logic.{inl, inr}
-use mathlib.Core.Bool.{Bool, true, false, not}
+use mathlib.Core.Bool.{Bool, true, false}
 use mathlib.Core.List.{List, [], _∷_, _++_}
 use Prim.Native.Nat.{ℕ, zero, suc, _+_, _-_, _*_, _≤_, _<_}
 use native.Mathlib.Omega.{arith}
-use lib.Dec.{T, leb, ltb, eqb, not-T, lt→ltb, le→leb, eqb-refl}
+use lib.Dec.{leb, eqb, le→leb}
 use lib.ListN.{length, take, drop, length-append, take-append-drop}
 use lib.Seq.{take-at}
 use borrow.Author.Tests.{lt-leb}
 use Rattle.base.specs.Pick.{pick}
 use Rattle.base.specs.Limits.{maxBoards, outgoingSize}
+use Rattle.base.proofs.Bools.{T-left}
 use Rattle.base.specs.Found.{Found, found}
 use Rattle.plan.specs.declared.Plan.{Plan}
 use Rattle.plan.specs.Reading.{planOf, settledPlan}
 use Rattle.plan.proofs.Listed.{ask-yes, asked}
 use Rattle.plan.proofs.Answers.{settle-plan}
 use Rattle.journal.specs.declared.Record.{Record}
-use Rattle.journal.specs.declared.Record.the-variants.{Start, Taken}
 use Rattle.journal.specs.declared.RecordRead.{RecordRead}
 use Rattle.journal.specs.Journal.{recordBytes, recordAt}
 use Rattle.journal.specs.Records.{AllInLimits, journalBytes}
 use Rattle.journal.proofs.Records.{Holds, holds-whole, holds-records, holds-end, journal-none, journal-before, journal-record, journal-length, record-pos, records-fewer}
 use Rattle.party.specs.declared.Party.{Party}
-use Rattle.party.specs.Party.{newParty, started}
+use Rattle.party.specs.Party.{newParty}
 use Rattle.party.specs.Run.{Ran, resting}
-use Rattle.party_life.specs.Life.{replayed, following, lived, Fits, Life}
-use Rattle.board.specs.Restore.{recordFits, Replay, replayFrom, onPlanRead, restoreQuestions}
-use Rattle.agreement.specs.History.{recordsIn, Lendable}
+use Rattle.party_life.specs.Life.{replayed, following, lived, fault, tabled, Fits, Life}
+use Rattle.board_calls.specs.Restore.{recordFits, Replay, replayFrom, onPlanRead, restoreQuestions}
+use Rattle.agreement.specs.Allowed.{recordsIn, Lendable}
 
 -- ---- one record
 
 -- a record that an accepted call may have written passes questions 12 to 14 and 16
 pub fits-pass : {A : Type 0} (p : Party) (at : ℕ) (r : Record) (go : Found A) → Fits p r → recordFits p at r go ≡ go
-fits-pass p at (Start a x) go f =
-    ask-yes (eqb a (p .agreement)) 16 at _ (subst (λ (z : ℕ). T (eqb a z)) (f .0) (eqb-refl a))
-    ∙ ask-yes (not (started p)) 13 at _ (not-T (started p) (f .1))
-    ∙ ask-yes (ltb x (p .plan .count)) 12 at go (lt→ltb x (p .plan .count) (f .2))
-fits-pass p at (Taken s m) go f =
-    ask-yes (eqb (m .number) (p .agreement)) 16 at _ (subst (λ (z : ℕ). T (eqb (m .number) z)) (f .0) (eqb-refl (m .number)))
-    ∙ ask-yes (ltb s (p .n)) 14 at go (lt→ltb s (p .n) (f .1))
+fits-pass p at r go f = ask-yes (eqb (fault p r) 0) (fault p r) at go (T-left (eqb (fault p r) 0) (tabled r) f)
 
 module _ (f : ℕ) (j : List ℕ) (at : ℕ) (r : Ran) where
   -- a whole record

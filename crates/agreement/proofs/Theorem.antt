@@ -1,33 +1,25 @@
--- Demand 3 holds of every allowed history.
-use Prim.Native.Nat.{ℕ, _≤_, _<_}
-use lib.Dec.{lt→ltb}
+-- Demand 3 holds of every allowed history: it holds of the history told over logs.
+use mathlib.Core.Path.{refl, sym, _∙_}
+use mathlib.Core.Logic.{inl}
+use Prim.Native.Nat.{ℕ}
 use lib.IntN.{ℤ}
-use Rattle.tree.specs.Walk.{Walk}
-use Rattle.tree.specs.Edges.{Adjacent}
-use Rattle.tree.specs.Component.{upto}
-use Rattle.tree.proofs.Walks.{mono}
-use Rattle.plan.specs.Positions.{edgesOf}
-use Rattle.party_laws.proofs.Laws.{plan-whole}
-use Rattle.base.specs.Sets.{Set, count}
+use Rattle.base.specs.Sets.{Set}
 use Rattle.plan.specs.declared.Plan.{Plan}
 use Rattle.party.specs.declared.Party.{Party}
 use Rattle.party.specs.Party.{outputOf}
-use Rattle.vote_machine.proofs.Laws.{Passes}
-use Rattle.log_agreement.proofs.Laws.{InputAt, near, between, ends}
-use Rattle.agreement.specs.History.{Vote, History, Sound, Allowed}
+use Rattle.log_agreement.specs.Logs as logs
+use Rattle.log_agreement.proofs.Theorem.{log-demand3}
+use Rattle.agreement.specs.History.{Instance, History}
+use Rattle.agreement.specs.Allowed.{Sound, Allowed}
 use Rattle.agreement.specs.Demand.{Shared, Premises, Holds, Demand3, StartedWith}
 use Rattle.agreement.proofs.Told.{told}
-use Rattle.agreement.proofs.Tied.{shared-passes}
-use Rattle.agreement.proofs.Histories.{told-valid}
-use Rattle.agreement.proofs.Boards.{stateOf, answers-stand, output-answers, complete-started, complete-heard, started-state}
-use Rattle.agreement.proofs.Inputs.{started-with}
+use Rattle.agreement.proofs.Boards.{stateOf, answers-stand, output-answers, started-state}
+use Rattle.agreement.proofs.Words.{started-records, started-stands}
+use Rattle.agreement.proofs.Logs.{log-premises, log-complete}
 
-module _ (v : Vote) (plan : Plan) (bad : Set) (h : History) (given : Premises v plan bad h) where
+module _ (v : Instance) (plan : Plan) (bad : Set) (h : History) (given : Premises v plan bad h) where
   abbrev f : Shared v plan
   f = given .shared
-
-  abbrev few : count (v .n) bad ≤ v .t
-  few = given .few
 
   abbrev a : Allowed v bad h
   a = given .allowed
@@ -35,44 +27,31 @@ module _ (v : Vote) (plan : Plan) (bad : Set) (h : History) (given : Premises v 
   abbrev st : ℕ → Party
   st i = stateOf v plan h i
 
-  abbrev passes : Passes (v .n) (v .t) plan
-  passes = shared-passes v plan f
+  -- demand 3 on logs
+  on-logs : logs.Holds (v .n) (v .t) (v .agreement) plan bad (told v plan h)
+  on-logs = log-demand3 (v .n) (v .t) (v .agreement) plan bad (told v plan h) (log-premises v plan bad h given)
 
-  -- an input of a sound board's state is a started one
-  input : (x : ℕ) → InputAt (v .n) bad (stateOf v plan h) x → (i : ℕ) × (z : ℤ) × Sound v bad i × StartedWith plan h i x z
-  input x r =
-      let s = started-state v plan bad f h a (r .board) (r .sound .0) x .1 (r .entered, r .position) in
-      let w = started-with v plan bad f h a (r .board) (r .sound .0) x s in
-      (r .board, w .0, r .sound, w .1)
-
-  -- a walk joins any two positions of the plan
-  path : (x y : ℕ) → x < plan .count → y < plan .count → Walk (Adjacent (edgesOf plan)) (λ _. Unit {0}) x y
-  unfolding upto
-  path x y k l =
-      mono (Adjacent (edgesOf plan)) (λ z _. tt)
-      (plan-whole plan (passes .valid) .connected x y (lt→ltb x (plan .count) k) (lt→ltb y (plan .count) l))
+  -- a board that started at x by its log started there with some input of its caller
+  input : (i x : ℕ) → Sound v bad i → logs.StartedAt (v .n) (v .t) (v .agreement) plan (told v plan h) i x → (z : ℤ) × StartedWith plan h i x z
+  input i x g s =
+      let y = started-records v plan bad f h a i x .1 (started-state v plan bad f h a i (g .0) x .1 s) in
+      (y .0, started-stands v plan bad f h a i (g .0) x (y .0) (y .1))
 
   holds : Holds v plan bad h
   holds = record {
     near = λ i j y z gi gj p q.
         let r = answers-stand v plan bad f h a i (gi .0) y p in
-        let s = answers-stand v plan bad f h a j (gj .0) z q in (
-          outputOf (st i),
-          outputOf (st j),
-          r .1,
-          s .1,
-          near (v .n) (v .t) (v .agreement) plan passes bad few (told v plan h) (told-valid v plan bad f h a) i j gi gj (r .0) (s .0),
-        );
+        let s = answers-stand v plan bad f h a j (gj .0) z q in
+        (outputOf (st i), outputOf (st j), r .1, s .1, on-logs .near i j (outputOf (st i)) (outputOf (st j)) gi gj (inl (r .0, refl)) (inl (s .0, refl)));
     validity = λ i y g p.
         let r = answers-stand v plan bad f h a i (g .0) y p in
-        let b = between (v .n) (v .t) (v .agreement) plan passes bad few (told v plan h) (told-valid v plan bad f h a) i g (r .0) in
-        let x = input (b .0) (b .2) in
-        let w = input (b .1) (b .3) in
-        (outputOf (st i), r .1, (x .0, w .0, b .0, b .1, x .1, w .1, x .2, w .2, x .3, w .3, path (b .0) (b .1) (x .3 .stands .0) (w .3 .stands .0), b .4));
+        let b = on-logs .validity i (outputOf (st i)) g (inl (r .0, refl)) in
+        let x = input (b .0) (b .2) (b .4) (b .6) in
+        let w = input (b .1) (b .3) (b .5) (b .7) in
+        (outputOf (st i), r .1, (b .0, b .1, b .2, b .3, x .0, w .0, b .4, b .5, x .1, w .1, b .8, b .9));
     ending = λ c i g.
-        output-answers v plan bad f h a i (g .0)
-        (ends (v .n) (v .t) (v .agreement) plan passes bad few (told v plan h) (told-valid v plan bad f h a)
-        (complete-started v plan bad f h a c) (complete-heard v plan bad f h a c) i g);
+        let r = on-logs .ending (log-complete v plan bad h given c) i g in
+        output-answers v plan bad f h a i (g .0) (λ e. r .1 .0 (sym (r .1 .1) ∙ e));
   }
 
 -- Demand 3.

@@ -14,17 +14,19 @@ use Rattle.message.specs.declared.Message.{Message}
 use Rattle.message.specs.declared.Exactly.{Exactly}
 use Rattle.message.specs.Message.{exactMessage}
 use Rattle.journal.specs.Records.{recordsFrom}
-use Rattle.board.specs.declared.Answer.{Answer}
-use Rattle.board.specs.Calls.{Entry, again, fresh, startQuestions, takeQuestions, answeredOf}
-use Rattle.board.specs.Restore.{Replay, restoreQuestions}
+use Rattle.board_calls.specs.declared.Answer.{Answer}
+use Rattle.board_calls.specs.Calls.{Entry, again, fresh, answeredOf}
+use Rattle.board_calls.specs.Restore.{Replay}
 use Rattle.execution.specs.Machine.{Event, Machine}
 use Rattle.execution.specs.History as logs
-use Rattle.execution.specs.History.{HStep, act, hand, mark, log, held, FairH, ValidH}
+use Rattle.execution.specs.History.{HStep, act, hand, mark, log, held, FairH}
+use Rattle.execution.specs.Inner.{ValidH}
 use Rattle.vote_machine.specs.Machine.{voteMachine, eventOf}
-use Rattle.agreement.specs.History.{Vote, Call, set-up, start, take-message, read-answer, restore, Step, calls, hands, cut, whose, History, Stage, waiting, running, down, Board, boardAfter, Handed}
+use Rattle.agreement.specs.History.{Instance, Call, set-up, start, take-message, read-answer, restore, startFinds, takeFinds, restoreFinds, Step, calls, hands, cut, whose, History, Stage, waiting, running, down, Board, boardAfter}
+use Rattle.agreement.specs.Allowed.{Handed}
 
 -- the vote as a machine
-abbrev pub machineOf : Vote → Plan → Machine
+abbrev pub machineOf : Instance → Plan → Machine
 machineOf v plan = voteMachine (v .n) (v .t) (v .agreement) plan
 
 -- ---- what a step is for its board's log
@@ -52,10 +54,10 @@ restoreTale (refused number place) = nothing
 
 abbrev pub callTale : Call → Tale
 callTale (set-up n t own agreement plan) = nothing
-callTale (start p input journal used out) = entryTale (startQuestions p input (length journal) used out)
-callTale (take-message p sender bytes journal used out) = entryTale (takeQuestions p sender bytes (length journal) used out)
+callTale (start p input lent used) = entryTale (startFinds p input lent used)
+callTale (take-message p sender bytes lent used) = entryTale (takeFinds p sender bytes lent used)
 callTale (read-answer p) = answerTale (answeredOf p .answer)
-callTale (restore n t own agreement plan journal out) = restoreTale (restoreQuestions n t own agreement plan journal out)
+callTale (restore n t own agreement plan lent) = restoreTale (restoreFinds n t own agreement plan lent)
 
 -- the message that the bytes are
 abbrev pub handTale : Exactly → Tale
@@ -93,7 +95,7 @@ heldAfter (gives m) l x = length l
 heldAfter marks l x = length l
 heldAfter (cuts k) l x = x
 
-module _ (v : Vote) (plan : Plan) where
+module _ (v : Instance) (plan : Plan) where
   abbrev M : Machine
   M = voteMachine (v .n) (v .t) (v .agreement) plan
 

@@ -4,60 +4,52 @@ use mathlib.Core.Logic.{_⊎_}
 use mathlib.Core.List.{List, List·Memᴰ}
 use Prim.Native.Nat.{ℕ, _*_, _≤_, _<_}
 use lib.IntN.{ℤ}
-use lib.ListN.{length}
 use Rattle.base.specs.Sets.{Set, count}
 use Rattle.base.specs.Limits.{maxBoards, maxNumber, outgoingSize}
+use Rattle.base.specs.Found.{found}
 use Rattle.tree.specs.Walk.{Walk, OnPath}
 use Rattle.tree.specs.Edges.{Adjacent}
-use Rattle.base.specs.Found.{found}
 use Rattle.plan.specs.declared.Plan.{Plan}
 use Rattle.plan.specs.Positions.{edgesOf, readingOf}
 use Rattle.plan.specs.Reading.{planOf}
 use Rattle.message.specs.declared.Message.{Message}
 use Rattle.message.specs.declared.Exactly.{Exactly}
 use Rattle.message.specs.Message.{messageBytes, exactMessage}
-use Rattle.journal.specs.declared.Record.{Record}
-use Rattle.journal.specs.declared.Record.the-variants.{Start, Taken}
 use Rattle.party.specs.declared.Party.{Party}
-use Rattle.party.specs.Party.{newParty}
-use Rattle.party.specs.Run.{starting}
-use Rattle.party_life.specs.Life.{madeAlong}
-use Rattle.board.specs.declared.Answer.{Answer}
-use Rattle.board.specs.Calls.{fresh, startQuestions, answeredOf, noParty}
-use Rattle.board.specs.Restore.{restoreQuestions, restoredOf}
-use Rattle.agreement.specs.History.{Vote, start, read-answer, calls, History, Stage, waiting, running, down, Board, boardAfter, Sound, Handed, recordsIn, Allowed}
+use Rattle.board_calls.specs.declared.Answer.{Answer}
+use Rattle.board_calls.specs.Calls.{answeredOf, noParty}
+use Rattle.board_calls.specs.Restore.{restoredOf}
+use Rattle.agreement.specs.History.{Instance, read-answer, restoreFinds, calls, History, Stage, waiting, running, down, a-start, a-take, Counted, Board, boardAfter}
+use Rattle.agreement.specs.Allowed.{Sound, Handed, Allowed}
 
--- ---- a board's journal
+-- ---- started, taken, made
 
--- the records of board i's calls that are not lost: "a start or message whose record is lost counts as not made or taken"
-abbrev pub recordsOf : History → ℕ → List Record
-recordsOf h i = recordsIn (boardAfter h i .journal)
+-- "Started and taken mean in an accepted call not lost": board i started at position x, with the input z of its caller
+abbrev pub Started : History → ℕ → ℕ → ℤ → Type 0
+Started h i x z = (c : Counted) × List·Memᴰ c (boardAfter h i .counted) × (c .act ≡ a-start x z)
 
--- "Started and taken mean in an accepted call not lost": board i started at position x; it took message m from board s
-abbrev pub StartedAt : History → ℕ → ℕ → Type 0
-StartedAt h i x = (a : ℕ) × List·Memᴰ (Start a x) (recordsOf h i)
+-- it took message m from board s, held already or not
+abbrev pub Took : History → ℕ → ℕ → Message → Type 0
+Took h i s m = (c : Counted) × List·Memᴰ c (boardAfter h i .counted) × (c .act ≡ a-take s (Exactly.One m))
 
-abbrev pub TookFrom : History → ℕ → ℕ → Message → Type 0
-TookFrom h i s m = List·Memᴰ (Taken s m) (recordsOf h i)
-
--- a call of board i that is not lost made the message m: "what a board's calls made leaves lost calls out"
-abbrev pub Makes : Vote → Plan → History → ℕ → Message → Type 0
-Makes v plan h i m = List·Memᴰ m (madeAlong (newParty (v .n) (v .t) i (v .agreement) plan) (recordsOf h i))
+-- a call of it made the message m: "what a board's calls made leaves lost calls out"
+abbrev pub Made : History → ℕ → Message → Type 0
+Made h i m = (c : Counted) × List·Memᴰ c (boardAfter h i .counted) × List·Memᴰ m (c .made)
 
 -- ---- answers
 
 -- the party that reading would be asked of
-abbrev pub partyBy : Vote → ℕ → Board → Stage → Party
+abbrev pub partyBy : Instance → ℕ → Board → Stage → Party
 partyBy v i b waiting = noParty
 partyBy v i b running = b .party
-partyBy v i b down = restoredOf (restoreQuestions (v .n) (v .t) i (v .agreement) (v .plan) (b .journal) outgoingSize) .party
+partyBy v i b down = restoredOf (restoreFinds (v .n) (v .t) i (v .agreement) (v .plan) (record { journal = b .journal; out = outgoingSize })) .party
 
 -- "A board's answer is what reading gives or, after a cut, would give once restored."
-abbrev pub answerNow : Vote → History → ℕ → Answer
+abbrev pub answerNow : Instance → History → ℕ → Answer
 answerNow v h i = answeredOf (partyBy v i (boardAfter h i) (boardAfter h i .stage)) .answer
 
 -- "held then or read earlier"
-abbrev pub Answers : Vote → History → ℕ → ℤ → Type 0
+abbrev pub Answers : Instance → History → ℕ → ℤ → Type 0
 Answers v h i z =
     (answerNow v h i ≡ Answer.At z) ⊎ ((p : Party) × List·Memᴰ (calls i (read-answer p)) h × (answeredOf p .answer ≡ Answer.At z))
 
@@ -71,50 +63,39 @@ Near p x y = (x ≡ y) ⊎ Adjacent (edgesOf p) x y
 abbrev pub Stands : Plan → ℕ → ℤ → Type 0
 Stands p x z = (x < p .count) × (readingOf p x ≡ z)
 
--- an accepted start of board i in the list: its caller gave the input z, and the call's record is of a start at position x
-pub record AcceptedStart (h : History) (i x : ℕ) (z : ℤ) : Type 0 where
-  pub party : Party
-  pub journal : List ℕ
-  pub used : ℕ
-  pub out : ℕ
-  pub call : List·Memᴰ (calls i (start party z journal used out)) h
-  pub accepted : startQuestions party z (length journal) used out ≡ found (fresh (Start (party .agreement) x) (starting party x))
-
--- board i started with the input z of its caller: in an accepted call, at the position x of z, and the record of a start at x is not lost.
--- Right after each accepted start it has started with that call's own input (Words, `start-counts`).
+-- board i started with the input z of its caller, whose position is x
 pub record StartedWith (plan : Plan) (h : History) (i x : ℕ) (z : ℤ) : Type 0 where
-  pub call : AcceptedStart h i x z
+  pub started : Started h i x z
   pub stands : Stands plan x z
-  pub kept : StartedAt h i x
 
 -- "each lies on the path between two started inputs of sound boards, which may be the same one"
-abbrev pub BetweenInputs : Vote → Plan → Set → History → ℕ → Type 0
+abbrev pub BetweenInputs : Instance → Plan → Set → History → ℕ → Type 0
 BetweenInputs v plan bad h y =
     (i : ℕ) × (j : ℕ) × (a : ℕ) × (b : ℕ) × (p : ℤ) × (q : ℤ) × Sound v bad i × Sound v bad j × StartedWith plan h i a p × StartedWith plan h j b q
     × Walk (Adjacent (edgesOf plan)) (λ _. Unit {0}) a b × OnPath (Adjacent (edgesOf plan)) a b y
 
 -- "If every sound board has started, has handed over all that its calls made, and has taken every message that sound boards handed over"
 -- What was handed over are bytes, and they read as one message (Words, `handed-one`).
-pub record Complete (v : Vote) (plan : Plan) (bad : Set) (h : History) : Type 0 where
-  pub started : (i : ℕ) → Sound v bad i → (x : ℕ) × StartedAt h i x
-  pub handed : (i : ℕ) (m : Message) → Sound v bad i → Makes v plan h i m → Handed i (messageBytes m) h
+pub record Complete (v : Instance) (bad : Set) (h : History) : Type 0 where
+  pub started : (i : ℕ) → Sound v bad i → (x : ℕ) × (z : ℤ) × Started h i x z
+  pub handed : (i : ℕ) (m : Message) → Sound v bad i → Made h i m → Handed i (messageBytes m) h
   pub taken : (i j : ℕ) (bytes : List ℕ) (m : Message) → Sound v bad i → Sound v bad j → Handed j bytes h → exactMessage bytes ≡ Exactly.One m
-      → TookFrom h i j m
+      → Took h i j m
 
 -- what holds after a list of steps
-pub record Holds (v : Vote) (plan : Plan) (bad : Set) (h : History) : Type 0 where
+pub record Holds (v : Instance) (plan : Plan) (bad : Set) (h : History) : Type 0 where
   -- "Any two answers of sound boards, held then or read earlier, are at most one edge apart"
   pub near : (i j : ℕ) (y z : ℤ) → Sound v bad i → Sound v bad j → Answers v h i y → Answers v h j z
       → (x : ℕ) × (w : ℕ) × Stands plan x y × Stands plan w z × Near plan x w
   -- "and each lies on the path between two started inputs of sound boards"
   pub validity : (i : ℕ) (y : ℤ) → Sound v bad i → Answers v h i y → (x : ℕ) × Stands plan x y × BetweenInputs v plan bad h x
   -- "each has an answer"
-  pub ending : Complete v plan bad h → (i : ℕ) → Sound v bad i → (z : ℤ) × (answerNow v h i ≡ Answer.At z)
+  pub ending : Complete v bad h → (i : ℕ) → Sound v bad i → (z : ℤ) × (answerNow v h i ≡ Answer.At z)
 
 -- ---- what the demand asks first
 
 -- "Boards share n, t, agreement number and plan, 3t below n, and each has its own number": that board i's own number is i stands in `Ours`
-pub record Shared (v : Vote) (plan : Plan) : Type 0 where
+pub record Shared (v : Instance) (plan : Plan) : Type 0 where
   -- "n 1 to 16", at least one board by the next line
   pub boards : v .n ≤ maxBoards
   -- "3t below n"
@@ -125,7 +106,7 @@ pub record Shared (v : Vote) (plan : Plan) : Type 0 where
   pub reads : planOf (v .plan) ≡ found plan
 
 -- what is asked of the vote, of the faulty boards and of the list of steps
-pub record Premises (v : Vote) (plan : Plan) (bad : Set) (h : History) : Type 0 where
+pub record Premises (v : Instance) (plan : Plan) (bad : Set) (h : History) : Type 0 where
   pub shared : Shared v plan
   -- "Whichever boards, at most t of the n, are faulty"
   pub few : count (v .n) bad ≤ v .t
@@ -135,4 +116,4 @@ pub record Premises (v : Vote) (plan : Plan) (bad : Set) (h : History) : Type 0 
 
 -- "this holds after it"
 abbrev pub Demand3 : Type 0
-Demand3 = (v : Vote) (plan : Plan) (bad : Set) (h : History) → Premises v plan bad h → Holds v plan bad h
+Demand3 = (v : Instance) (plan : Plan) (bad : Set) (h : History) → Premises v plan bad h → Holds v plan bad h

@@ -1,3 +1,5 @@
 pub mod History
+pub mod Allowed
 pub mod Demand
 pub mod Ranges
+pub mod Inner

@@ -5,7 +5,8 @@ use lib.IntN.{ℤ, _-ℤ_, natAbs}
 use lib.Signed.{_≤ℤ_}
 use Rattle.base.specs.Sets.{Set}
 use Rattle.plan.specs.declared.Plan.{Plan}
-use Rattle.agreement.specs.History.{Vote, History, Sound}
+use Rattle.agreement.specs.History.{Instance, History}
+use Rattle.agreement.specs.Allowed.{Sound}
 use Rattle.agreement.specs.Demand.{Answers, StartedWith}
 
 -- how far two readings are apart
@@ -17,11 +18,11 @@ abbrev pub Between : ℤ → ℤ → ℤ → Type 0
 Between p q y = ((p ≤ℤ y) × (y ≤ℤ q)) ⊎ ((q ≤ℤ y) × (y ≤ℤ p))
 
 -- some sound board started with the reading z
-abbrev pub Input : Vote → Plan → Set → History → ℤ → Type 0
+abbrev pub Input : Instance → Plan → Set → History → ℤ → Type 0
 Input v plan bad h z = (i : ℕ) × (x : ℕ) × Sound v bad i × StartedWith plan h i x z
 
 -- what holds after a list of steps if the plan is a range
-pub record HoldsOnRange (v : Vote) (plan : Plan) (bad : Set) (h : History) : Type 0 where
+pub record HoldsOnRange (v : Instance) (plan : Plan) (bad : Set) (h : History) : Type 0 where
   -- any two answers of sound boards, held then or read earlier, are readings at most 1 apart
   pub near : (i j : ℕ) (y z : ℤ) → Sound v bad i → Sound v bad j → Answers v h i y → Answers v h j z → apart y z ≤ 1
   -- and each lies between two readings that sound boards started with, which may be the same one

@@ -2,7 +2,7 @@
 use mathlib.Core.Path.{_≡_, refl, sym, ap, _∙_, subst}
 use mathlib.Core.Bool.{Bool, true, false}
 use mathlib.Core.List.{List, [], _∷_}
-use Prim.Native.Nat.{ℕ, _+_, _≤_}
+use Prim.Native.Nat.{ℕ, _+_, _≤_, _<_}
 use native.Mathlib.Omega.{arith}
 use lib.Dec.{T, leb, leb→le}
 use lib.IntN.{ℤ}
@@ -19,21 +19,21 @@ use Rattle.message.specs.declared.Message.{Message}
 use Rattle.message.specs.Message.{inTable}
 use Rattle.message.proofs.RoundTrip.{message-length-most}
 use Rattle.journal.specs.declared.Record.{Record}
-use Rattle.journal.specs.declared.Record.the-variants.{Start, Taken}
 use Rattle.party.specs.declared.Party.{Party}
 use Rattle.party.specs.Party.{newParty, heldBy, hearing}
 use Rattle.party.specs.Run.{Ran, resting, run, taking, bytesOf}
 use Rattle.party.specs.Valid.{partyValid}
 use Rattle.party_life.specs.Life.{replayed, following, lived, Fits, Life}
+use Rattle.party_life.proofs.Fits.{fits-start, fits-taken}
 use Rattle.party_bounds.proofs.Laws.{Sized, sized-new, sized-hearing, Within, replayed-within, lived-within, within-rules, within-outgoing, Quiescent, run-quiescent, starting-quiescent, set-up-quiescent}
-use Rattle.board.specs.Answers.{positionOf}
-use Rattle.board.specs.Calls.{Entry, again, fresh, startQuestions, takeQuestions, calledOf}
-use Rattle.board.specs.Restore.{Replay, onPlanRead, restoreQuestions, restoredOf}
-use Rattle.board.specs.Outgoing.{Typed}
-use Rattle.board.specs.Inner.{New}
-use Rattle.board.proofs.Questions.{take-held}
-use Rattle.board.proofs.Kept.{replay-keeps}
-use Rattle.board.proofs.Restores.{settled-new}
+use Rattle.board_calls.specs.Answers.{positionOf}
+use Rattle.board_calls.specs.Calls.{Entry, again, fresh, startQuestions, takeQuestions, calledOf}
+use Rattle.board_calls.specs.Restore.{Replay, onPlanRead, restoreQuestions, restoredOf}
+use Rattle.board_promises.specs.Outgoing.{Typed}
+use Rattle.board_laws.specs.Inner.{New}
+use Rattle.board_laws.proofs.Questions.{take-held}
+use Rattle.board_laws.proofs.Kept.{replay-keeps}
+use Rattle.board_laws.proofs.Restored.{settled-new}
 use Rattle.agreement.proofs.Entries.{Recorded, start-recorded, take-recorded}
 
 -- what ran fits the outgoing buffer and counts few enough rules
@@ -69,7 +69,7 @@ module _ (p : Party) (t : Typed p) (room used out : ℕ) where
   start-quiescent z r ran e =
       let v = asked (partyValid p) 19 0 _ (fresh r ran) e .0 in
       let (i, on, d) = start-recorded p z room used out r ran e in
-      let f : Fits p (Start (p .agreement) (positionOf (p .plan) z)) = subst (Fits p) (sym i) (d .fits) in
+      let f = fits-start p (p .agreement) (positionOf (p .plan) z) (subst (Fits p) (sym i) (d .fits)) in
       subst (λ (y : Ran). Quiescent (y .party)) (ap (replayed p) i ∙ d .does) (starting-quiescent p (typed-sized p t v) (positionOf (p .plan) z) (f .1) (f .2))
 
   pub take-quiescent : (s : ℕ) (bytes : List ℕ) (r : Record) (ran : Ran) → takeQuestions p s bytes room used out ≡ found (fresh r ran) → Quiescent (ran .party)
@@ -79,14 +79,14 @@ module _ (p : Party) (t : Typed p) (room used out : ℕ) where
       let b = asked (leb outgoingSize out) 18 0 _ (fresh r ran) (a .1) in
       let c = asked (leb used room) 20 0 _ (fresh r ran) (b .1) in
       let (m, one, i, d) = take-recorded p s bytes room used out r ran e in
-      let f : Fits p (Taken s m) = subst (Fits p) (sym i) (d .fits) in
+      let f = fits-taken p s m (subst (Fits p) (sym i) (d .fits)) in
       subst (λ (y : Ran). Quiescent (y .party)) (ap (replayed p) i ∙ d .does)
-      (new m f (heldBy p s m) (λ k. take-held p s bytes room used out (a .0) (leb→le outgoingSize out (b .0)) (leb→le used room (c .0)) (f .1) m one (f .0) k) refl (a .0))
+      (new m (f .1) (f .2) (heldBy p s m) (λ k. take-held p s bytes room used out (a .0) (leb→le outgoingSize out (b .0)) (leb→le used room (c .0)) (f .1) m one (f .0) k) refl (a .0))
     where
-      new : (m : Message) → Fits p (Taken s m) → (h : Bool) → (h ≡ true → takeQuestions p s bytes room used out ≡ found again) → heldBy p s m ≡ h → T (partyValid p)
+      new : (m : Message) → s < p .n → T (inTable m) → (h : Bool) → (h ≡ true → takeQuestions p s bytes room used out ≡ found again) → heldBy p s m ≡ h → T (partyValid p)
           → Quiescent (pick h (resting p) (run (hearing p s m)) .party)
-      new m f true g k v = let y : found again ≡ found (fresh r ran) = sym (g refl) ∙ e in let z : _≡_ {A = ℕ} 0 1 = cc in absurd (omega arith)
-      new m f false g k v = run-quiescent (hearing p s m) (sized-hearing p (typed-sized p t v) s m (f .1) (f .2))
+      new m b i true g k v = let y : found again ≡ found (fresh r ran) = sym (g refl) ∙ e in let z : _≡_ {A = ℕ} 0 1 = cc in absurd (omega arith)
+      new m b i false g k v = run-quiescent (hearing p s m) (sized-hearing p (typed-sized p t v) s m b i)
 
   -- what a call gives that finds q
   pub called-sent : (q : Found Entry) → ((r : Record) (ran : Ran) → q ≡ found (fresh r ran) → Bounded ran) → calledOf p used q .sent ≤ outgoingSize

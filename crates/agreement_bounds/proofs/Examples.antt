@@ -2,7 +2,7 @@
 use mathlib.Core.Path.{_≡_, refl}
 use mathlib.Core.List.{[], _∷_, _++_}
 use Rattle.base.specs.Limits.{outgoingSize}
-use Rattle.board.specs.Restore.{restoreQuestions, restoredOf}
+use Rattle.board_calls.specs.Restore.{restoreQuestions, restoredOf}
 use Rattle.agreement.specs.History.{boardAfter}
 use Rattle.agreement_histories.specs.Scripts.{historyOf}
 use Rattle.agreement_histories.specs.Cuts.{vote, lost, back, again, torn, rest, script}

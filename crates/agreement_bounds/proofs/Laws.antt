@@ -18,11 +18,13 @@ use Rattle.party.specs.Run.{Ran, openLevel, runUpTo, run}
 use Rattle.party.specs.Valid.{partyValid}
 use Rattle.party_life.specs.Life.{lived}
 use Rattle.party_bounds.proofs.Laws.{rules-most, run-quiescent, runs-same, set-up-rules}
-use Rattle.board.specs.Calls.{again, fresh, startQuestions, takeQuestions, calledOf}
-use Rattle.board.specs.Restore.{Replay, restoreQuestions, restoredOf}
-use Rattle.board.specs.Outgoing.{Typed}
-use Rattle.agreement.specs.History.{Vote, restore, calls, History, boardAfter, Sound, Refuses, Accepts, Allowed}
-use Rattle.agreement.specs.Demand.{Shared, recordsOf}
+use Rattle.board_calls.specs.Calls.{again, fresh, startQuestions, takeQuestions, calledOf}
+use Rattle.board_calls.specs.Restore.{Replay, restoreQuestions, restoredOf}
+use Rattle.board_promises.specs.Outgoing.{Typed}
+use Rattle.agreement.specs.History.{Instance, Lent, restore, restoreFinds, calls, History, boardAfter}
+use Rattle.agreement.specs.Allowed.{Sound, Refuses, Accepts, Allowed}
+use Rattle.agreement.specs.Demand.{Shared}
+use Rattle.agreement.specs.Inner.{recordsOf}
 use Rattle.agreement.proofs.Restored.{lendable-begins, restored-found}
 use Rattle.agreement.proofs.Tied.{newBoard, plan-valid, settings-pass}
 use Rattle.agreement.proofs.Histories.{TiedAfter, tied}
@@ -59,7 +61,7 @@ again-rules p used = refl
 
 -- ---- whole histories
 
-module _ (v : Vote) (plan : Plan) (bad : Set) (f : Shared v plan) where
+module _ (v : Instance) (plan : Plan) (bad : Set) (f : Shared v plan) where
   -- what the starts and takes that are not lost reported is what the journal's records count
   pub reports-sum : (h : History) → Allowed v bad h → (i : ℕ) → total (reports h i) ≡ lived (newBoard v plan i) (recordsOf h i) .rules
   reports-sum h a i = ap total (reported v plan bad f h a i) ∙ along-total (newBoard v plan i) (recordsOf h i)
@@ -72,21 +74,21 @@ module _ (v : Vote) (plan : Plan) (bad : Set) (f : Shared v plan) where
       omega (arith, set-up-rules (v .n) (v .t) i (v .agreement) plan (settings-pass v plan f i (o .0)) (plan-valid v plan f i (o .0)) (w .records) (w .life))
 
   -- "and restore reports the sum for its records": what an accepted restore reports is the sum of what the starts and takes before it reported
-  pub restore-reports : (h : History) (i n t own agreement : ℕ) (bytes journal : List ℕ) (out : ℕ) → Allowed v bad (calls i (restore n t own agreement bytes journal out) ∷ h)
-      → restoredOf (restoreQuestions n t own agreement bytes journal out) .verdict ≡ Verdict.Accepted
-      → restoredOf (restoreQuestions n t own agreement bytes journal out) .rules ≡ total (reports h i)
-  restore-reports h i n t seat agreement bytes journal out (m, a) ok = go (m .1) (restoreQuestions n t seat agreement bytes journal out) refl ok
+  pub restore-reports : (h : History) (i n t own agreement : ℕ) (bytes : List ℕ) (lent : Lent) → Allowed v bad (calls i (restore n t own agreement bytes lent) ∷ h)
+      → restoredOf (restoreFinds n t own agreement bytes lent) .verdict ≡ Verdict.Accepted
+      → restoredOf (restoreFinds n t own agreement bytes lent) .rules ≡ total (reports h i)
+  restore-reports h i n t seat agreement bytes lent (m, a) ok = go (m .1) (restoreFinds n t seat agreement bytes lent) refl ok
     where
-      go : Refuses (restore n t seat agreement bytes journal out) ⊎ Accepts v bad i h (boardAfter h i) (restore n t seat agreement bytes journal out)
-          → (q : Found Replay) → restoreQuestions n t seat agreement bytes journal out ≡ q → restoredOf q .verdict ≡ Verdict.Accepted → restoredOf q .rules ≡ total (reports h i)
+      go : Refuses (restore n t seat agreement bytes lent) ⊎ Accepts v bad i h (boardAfter h i) (restore n t seat agreement bytes lent)
+          → (q : Found Replay) → restoreFinds n t seat agreement bytes lent ≡ q → restoredOf q .verdict ≡ Verdict.Accepted → restoredOf q .rules ≡ total (reports h i)
       go x (refused number place) e k = let z : _≡_ {A = ℕ} 0 1 = cc in absurd (omega arith)
       go (inl x) (found r) e k = let b : found r ≡ refused (x .0) (x .1 .0) = sym e ∙ x .1 .1 in let z : _≡_ {A = ℕ} 0 1 = cc in absurd (omega arith)
-      go (inr (up, s, lent)) (found r) e k =
+      go (inr (up, s, given)) (found r) e k =
           let w : TiedAfter v plan bad f h i = tied v plan bad f h a i (m .0 .0) in
           ap (λ (y : Replay). y .ran .rules)
-          (restored-found (v .n) (v .t) i (v .agreement) (v .plan) plan (f .boards) (f .faults) (m .0 .0) (f .reads) (w .records) (w .life) journal
-          (lendable-begins (boardAfter h i .journal) journal (w .records) (w .holds) lent) out r
-          (sym (λ z. restoreQuestions (s .boards z) (s .faults z) (s .seat z) (s .number z) (s .bytes z) journal out) ∙ e))
+          (restored-found (v .n) (v .t) i (v .agreement) (v .plan) plan (f .boards) (f .faults) (m .0 .0) (f .reads) (w .records) (w .life) (lent .journal)
+          (lendable-begins (boardAfter h i .journal) (lent .journal) (w .records) (w .holds) given) (lent .out) r
+          (sym (λ z. restoreFinds (s .boards z) (s .faults z) (s .seat z) (s .number z) (s .bytes z) lent) ∙ e))
           ∙ sym (reports-sum h a i ∙ ap (λ rs. lived (newBoard v plan i) rs .rules) (records-of v plan bad f h a i (m .0 .0)))
 
 -- ---- "until none does": the fuel of a run is never used up

@@ -5,29 +5,33 @@ use mathlib.Core.Bool.{Bool, true, false}
 use mathlib.Core.List.{List, [], _∷_}
 use Prim.Native.Nat.{ℕ, zero, suc, _-_, _<_}
 use native.Mathlib.Omega.{arith}
-use lib.Dec.{eqb, eqb→eq, eqb-refl}
+use lib.Dec.{eqb, eqb→eq}
 use lib.ListN.{length, drop, length-drop}
 use Rattle.base.specs.Pick.{pick}
 use Rattle.base.specs.Sets.{Set}
 use Rattle.base.specs.declared.Verdict.{Verdict}
 use Rattle.base.specs.Found.{Found, found, refused}
-use Rattle.base.proofs.Bools.{T→true, true→T}
+use Rattle.base.proofs.Bools.{true→T}
 use Rattle.plan.specs.declared.Plan.{Plan}
 use Rattle.journal.specs.declared.Record.{Record}
+use Rattle.message.specs.Message.{exactMessage}
 use Rattle.journal.specs.Records.{recordsFrom}
 use Rattle.party.specs.declared.Party.{Party}
 use Rattle.party.specs.Run.{Ran}
 use Rattle.party_life.specs.Life.{replayed, lived}
-use Rattle.board.specs.declared.Answer.{Answer}
-use Rattle.board.specs.Calls.{Entry, again, fresh, setUpOf, startQuestions, takeQuestions, answeredOf}
-use Rattle.agreement.specs.History.{Vote, Call, set-up, start, take-message, read-answer, restore, Step, calls, hands, cut, whose, History, Board, afterSetUp, afterAnswer, afterOwn, boardAfter, Refuses, Accepts, Continues, Allowed}
-use Rattle.agreement.specs.Demand.{Shared, recordsOf}
+use Rattle.board_calls.specs.declared.Answer.{Answer}
+use Rattle.board_calls.specs.Answers.{positionOf}
+use Rattle.board_calls.specs.Calls.{Entry, again, fresh, setUpOf, answeredOf}
+use Rattle.agreement.specs.History.{Instance, Lent, Call, set-up, start, take-message, read-answer, restore, startFinds, takeFinds, Step, calls, hands, cut, whose, History, Act, a-start, a-take, Board, afterSetUp, afterAnswer, boardAfter}
+use Rattle.agreement.specs.Allowed.{Refuses, Continues, Accepts, Allowed}
+use Rattle.agreement.specs.Demand.{Shared}
+use Rattle.agreement.specs.Inner.{recordsOf}
 use Rattle.agreement.proofs.Entries.{Recorded, start-recorded, take-recorded}
-use Rattle.agreement.proofs.Lent.{entered, start-entered, take-entered}
+use Rattle.agreement.proofs.Lent.{entered}
 use Rattle.agreement.proofs.Tied.{newBoard, AtStage}
 use Rattle.agreement.proofs.Histories.{TiedAfter, tied}
-use Rattle.agreement.proofs.Boards.{state-records, running-state, records-of}
-use Rattle.agreement.proofs.Words.{refused-nothing, start-newest, take-newest, cut-oldest, restore-records}
+use Rattle.agreement.proofs.Boards.{records-of}
+use Rattle.agreement.proofs.Steps.{heldRecords, own, other, refused-nothing, party-lived, start-board, start-newest, take-board, take-newest, cut-oldest, restore-records}
 use Rattle.agreement_bounds.specs.Reports.{entryReports, callReports, oldest, stepReports, reports, total}
 
 -- ---- the rules of records
@@ -69,25 +73,13 @@ oldest-along p d rs =
 
 -- ---- a step of its own board
 
--- the records that a board's journal holds
-abbrev kept : Board → List Record
-kept b = recordsFrom (length (b .journal)) (b .journal) 0 []
-
-own : (s : Step) (h : History) → boardAfter (s ∷ h) (whose s) ≡ afterOwn (boardAfter h (whose s)) s
-unfolding boardAfter
-own s h = rw (T→true (eqb (whose s) (whose s)) (eqb-refl (whose s))) refl
-
-other : (s : Step) (h : History) (i : ℕ) → eqb (whose s) i ≡ false → boardAfter (s ∷ h) i ≡ boardAfter h i
-unfolding boardAfter
-other s h i e = rw e refl
-
 -- before the first step there is no record
 none-kept : (i : ℕ) → recordsOf [] i ≡ []
 unfolding boardAfter recordsFrom
 none-kept i = refl
 
 -- nor right after an accepted set-up
-set-up-kept : (b : Board) (x : Verdict) (p : Party) → kept b ≡ [] → kept (afterSetUp b x p) ≡ []
+set-up-kept : (b : Board) (x : Verdict) (p : Party) → heldRecords b ≡ [] → heldRecords (afterSetUp b x p) ≡ []
 unfolding recordsFrom
 set-up-kept b Verdict.Accepted p e = refl
 set-up-kept b (Verdict.Refused number place) p e = e
@@ -95,36 +87,33 @@ set-up-kept b (Verdict.Refused number place) p e = e
 -- a refused call reports nothing
 refused-reports : (c : Call) → Refuses c → (l : List ℕ) → callReports c l ≡ l
 refused-reports (set-up n t a g bytes) e l = refl
-refused-reports (start p input journal used out) e l = ap (λ (q : Found Entry). entryReports p used q l) (e .1 .1)
-refused-reports (take-message p sender bytes journal used out) e l = ap (λ (q : Found Entry). entryReports p used q l) (e .1 .1)
+refused-reports (start p input lent used) e l = ap (λ (q : Found Entry). entryReports p used q l) (e .1 .1)
+refused-reports (take-message p sender bytes lent used) e l = ap (λ (q : Found Entry). entryReports p used q l) (e .1 .1)
 refused-reports (read-answer p) e l = refl
-refused-reports (restore n t a g bytes journal out) e l = refl
+refused-reports (restore n t a g bytes lent) e l = refl
 
-module _ (v : Vote) (plan : Plan) (bad : Set) (f : Shared v plan) where
+module _ (v : Instance) (plan : Plan) (bad : Set) (f : Shared v plan) where
   -- board i's reports are what its records count
   abbrev pub Reported : History → ℕ → Type 0
   Reported h i = reports h i ≡ rulesAlong (newBoard v plan i) (recordsOf h i)
 
   module _ (h : History) (i : ℕ) (ih : reports h i ≡ rulesAlong (newBoard v plan i) (recordsOf h i)) where
     -- the same reports, the same records
-    stays : (b : Board) → kept b ≡ recordsOf h i → reports h i ≡ rulesAlong (newBoard v plan i) (kept b)
+    stays : (b : Board) → heldRecords b ≡ recordsOf h i → reports h i ≡ rulesAlong (newBoard v plan i) (heldRecords b)
     stays b e = ih ∙ ap (rulesAlong (newBoard v plan i)) (sym e)
 
     -- an accepted start or take that found q
-    by-entry : (a : Allowed v bad h) (k : i < v .n) (p : Party) (journal : List ℕ) (used : ℕ) (c : Continues (boardAfter h i) p journal used) (q : Found Entry) (b : Board)
-        → b ≡ entered (boardAfter h i) q
-        → ((r : Record) (ran : Ran) → q ≡ found (fresh r ran) → (kept b ≡ r ∷ recordsOf h i) × Recorded p (length journal) used r ran)
-        → entryReports p used q (reports h i) ≡ rulesAlong (newBoard v plan i) (kept b)
-    by-entry a k p journal used c (found again) b e g = stays b (ap kept e)
-    by-entry a k p journal used c (found (fresh r ran)) b e g =
+    by-entry : (a : Allowed v bad h) (k : i < v .n) (p : Party) (lent : Lent) (used : ℕ) (c : Continues (boardAfter h i) p lent used) (d : Act) (q : Found Entry) (b : Board)
+        → b ≡ entered (boardAfter h i) d q
+        → ((r : Record) (ran : Ran) → q ≡ found (fresh r ran) → (heldRecords b ≡ r ∷ recordsOf h i) × Recorded p (length (lent .journal)) used r ran)
+        → entryReports p used q (reports h i) ≡ rulesAlong (newBoard v plan i) (heldRecords b)
+    by-entry a k p lent used c d (found again) b e g = stays b (ap heldRecords e)
+    by-entry a k p lent used c d (found (fresh r ran)) b e g =
         let x = g r ran refl in
-        let now : p ≡ lived (newBoard v plan i) (recordsOf h i) .party =
-        c .same ∙ running-state v plan bad f h a i k (c .up) ∙ state-records v plan bad f h a i k
-        ∙ ap (λ (rs : List Record). lived (newBoard v plan i) rs .party) (sym (records-of v plan bad f h a i k)) in
         let does : ran .rules ≡ replayed (lived (newBoard v plan i) (recordsOf h i) .party) r .rules =
-        ap (λ (y : Ran). y .rules) (sym (x .1 .does) ∙ ap (λ (y : Party). replayed y r) now) in
+        ap (λ (y : Ran). y .rules) (sym (x .1 .does) ∙ ap (λ (y : Party). replayed y r) (party-lived v plan bad f h i p lent used a k c)) in
         ap₂ (λ (y : ℕ) (l : List ℕ). y ∷ l) does ih ∙ ap (rulesAlong (newBoard v plan i)) (sym (x .0))
-    by-entry a k p journal used c (refused number place) b e g = stays b (ap kept e)
+    by-entry a k p lent used c d (refused number place) b e g = stays b (ap heldRecords e)
 
     by-call : (c : Call) → Allowed v bad (calls i c ∷ h) → Accepts v bad i h (boardAfter h i) c
         → callReports c (reports h i) ≡ rulesAlong (newBoard v plan i) (recordsOf (calls i c ∷ h) i)
@@ -132,34 +121,32 @@ module _ (v : Vote) (plan : Plan) (bad : Set) (f : Shared v plan) where
         let s : Step = calls i (set-up n t a g bytes) in
         let w : TiedAfter v plan bad f h i = tied v plan bad f h al i (m .0 .0) in
         let z : recordsOf h i ≡ [] = records-of v plan bad f h al i (m .0 .0) ∙ subst (AtStage v plan i (boardAfter h i) (w .records)) e (w .stage) in
-        stays (boardAfter (s ∷ h) i) (ap kept (own s h) ∙ set-up-kept (boardAfter h i) (setUpOf n t a g bytes .verdict) (setUpOf n t a g bytes .party) z ∙ sym z)
-    by-call (start p input journal used out) (m, al) c =
-        let s : Step = calls i (start p input journal used out) in
-        by-entry al (m .0 .0) p journal used c (startQuestions p input (length journal) used out) (boardAfter (s ∷ h) i)
-        (own s h ∙ start-entered (boardAfter h i) p journal used c input out) (λ r ran e.
-        (start-newest v plan bad f h i p journal used out input (m, al) r ran e, start-recorded p input (length journal) used out r ran e .2))
-    by-call (take-message p sender bytes journal used out) (m, al) (c, from) =
-        let s : Step = calls i (take-message p sender bytes journal used out) in
-        by-entry al (m .0 .0) p journal used c (takeQuestions p sender bytes (length journal) used out) (boardAfter (s ∷ h) i)
-        (own s h ∙ take-entered (boardAfter h i) p journal used c sender bytes out) (λ r ran e.
-        (take-newest v plan bad f h i p journal used out sender bytes (m, al) r ran e, take-recorded p sender bytes (length journal) used out r ran e .3))
+        stays (boardAfter (s ∷ h) i) (ap heldRecords (own s h) ∙ set-up-kept (boardAfter h i) (setUpOf n t a g bytes .verdict) (setUpOf n t a g bytes .party) z ∙ sym z)
+    by-call (start p input lent used) (m, al) c =
+        by-entry al (m .0 .0) p lent used c (a-start (positionOf (p .plan) input) input) (startFinds p input lent used) (boardAfter (calls i (start p input lent used) ∷ h) i)
+        (start-board v plan bad f h i p lent used input c) (λ r ran e.
+        (start-newest v plan bad f h i p lent used input (m, al) r ran e, start-recorded p input (length (lent .journal)) used (lent .out) r ran e .2))
+    by-call (take-message p sender bytes lent used) (m, al) (c, from) =
+        by-entry al (m .0 .0) p lent used c (a-take sender (exactMessage bytes)) (takeFinds p sender bytes lent used) (boardAfter (calls i (take-message p sender bytes lent used) ∷ h) i)
+        (take-board v plan bad f h i p lent used sender bytes c) (λ r ran e.
+        (take-newest v plan bad f h i p lent used sender bytes (m, al) r ran e, take-recorded p sender bytes (length (lent .journal)) used (lent .out) r ran e .3))
     by-call (read-answer p) al e =
-        stays (boardAfter (calls i (read-answer p) ∷ h) i) (ap kept (own (calls i (read-answer p)) h) ∙ same (answeredOf p .answer))
+        stays (boardAfter (calls i (read-answer p) ∷ h) i) (ap heldRecords (own (calls i (read-answer p)) h) ∙ same (answeredOf p .answer))
       where
-        same : (z : Answer) → kept (afterAnswer (boardAfter h i) z) ≡ recordsOf h i
+        same : (z : Answer) → heldRecords (afterAnswer (boardAfter h i) z) ≡ recordsOf h i
         same Answer.None = refl
         same (Answer.At z) = refl
-    by-call (restore n t a g bytes journal out) al e =
-        stays (boardAfter (calls i (restore n t a g bytes journal out) ∷ h) i) (restore-records v plan bad f h i n t a g bytes journal out al)
+    by-call (restore n t a g bytes lent) al e =
+        stays (boardAfter (calls i (restore n t a g bytes lent) ∷ h) i) (restore-records v plan bad f h i n t a g bytes lent al)
 
   by-own : (s : Step) (h : History) → Allowed v bad (s ∷ h) → Reported h (whose s)
       → stepReports s (recordsOf (s ∷ h) (whose s)) (reports h (whose s)) ≡ rulesAlong (newBoard v plan (whose s)) (recordsOf (s ∷ h) (whose s))
   by-own (calls i c) h (m, a) ih = go (m .1)
     where
       go : Refuses c ⊎ Accepts v bad i h (boardAfter h i) c → callReports c (reports h i) ≡ rulesAlong (newBoard v plan i) (recordsOf (calls i c ∷ h) i)
-      go (inl r) = refused-reports c r (reports h i) ∙ stays h i ih (boardAfter (calls i c ∷ h) i) (ap kept (refused-nothing h i c r))
+      go (inl r) = refused-reports c r (reports h i) ∙ stays h i ih (boardAfter (calls i c ∷ h) i) (ap heldRecords (refused-nothing h i c r))
       go (inr e) = by-call h i ih c (m, a) e
-  by-own (hands i bytes) h a ih = stays h i ih (boardAfter (hands i bytes ∷ h) i) (ap kept (own (hands i bytes) h))
+  by-own (hands i bytes) h a ih = stays h i ih (boardAfter (hands i bytes ∷ h) i) (ap heldRecords (own (hands i bytes) h))
   by-own (cut i left) h a ih =
       let d = cut-oldest v plan bad f h i left a in
       let p : Party = newBoard v plan i in
@@ -176,4 +163,4 @@ module _ (v : Vote) (plan : Plan) (bad : Set) (f : Shared v plan) where
       go true e ih =
           subst (λ (j : ℕ). stepReports s (recordsOf (s ∷ h) j) (reports h j) ≡ rulesAlong (newBoard v plan j) (recordsOf (s ∷ h) j)) (eqb→eq (whose s) i (true→T e))
           (by-own s h (m, a) (ih (whose s)))
-      go false e ih = stays h i (ih i) (boardAfter (s ∷ h) i) (ap kept (other s h i e))
+      go false e ih = stays h i (ih i) (boardAfter (s ∷ h) i) (ap heldRecords (other s h i e))

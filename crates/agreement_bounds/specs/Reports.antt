@@ -8,9 +8,9 @@ use Rattle.base.specs.Pick.{pick}
 use Rattle.base.specs.Found.{Found, found, refused}
 use Rattle.journal.specs.declared.Record.{Record}
 use Rattle.party.specs.declared.Party.{Party}
-use Rattle.board.specs.Calls.{Entry, again, fresh, startQuestions, takeQuestions, calledOf}
-use Rattle.agreement.specs.History.{Call, set-up, start, take-message, read-answer, restore, Step, calls, hands, cut, whose, History}
-use Rattle.agreement.specs.Demand.{recordsOf}
+use Rattle.board_calls.specs.Calls.{Entry, again, fresh, calledOf}
+use Rattle.agreement.specs.History.{Call, set-up, start, take-message, read-answer, restore, startFinds, takeFinds, Step, calls, hands, cut, whose, History, boardAfter}
+use Rattle.agreement.specs.Allowed.{recordsIn}
 
 -- the reports after a start or take, the latest first, where they were l before: one for each record. A take of a message already held, which has no
 -- record, reports 0 and is left out; so is a refused call
@@ -22,10 +22,10 @@ entryReports p used (refused number place) l = l
 -- "over all starts and takes"
 abbrev pub callReports : Call → List ℕ → List ℕ
 callReports (set-up n t own agreement plan) l = l
-callReports (start p input journal used out) l = entryReports p used (startQuestions p input (length journal) used out) l
-callReports (take-message p sender bytes journal used out) l = entryReports p used (takeQuestions p sender bytes (length journal) used out) l
+callReports (start p input lent used) l = entryReports p used (startFinds p input lent used) l
+callReports (take-message p sender bytes lent used) l = entryReports p used (takeFinds p sender bytes lent used) l
 callReports (read-answer p) l = l
-callReports (restore n t own agreement plan journal out) l = l
+callReports (restore n t own agreement plan lent) l = l
 
 -- the k oldest, where the latest come first
 abbrev pub oldest : ℕ → List ℕ → List ℕ
@@ -40,7 +40,7 @@ stepReports (cut i k) left l = oldest (length left) l
 -- what board i's starts and takes that are not lost reported, the latest first
 unfoldable pub reports : History → ℕ → List ℕ
 reports [] i = []
-reports (s ∷ h) i = pick (eqb (whose s) i) (stepReports s (recordsOf (s ∷ h) i) (reports h i)) (reports h i)
+reports (s ∷ h) i = pick (eqb (whose s) i) (stepReports s (recordsIn (boardAfter (s ∷ h) i .journal)) (reports h i)) (reports h i)
 
 -- added up
 unfoldable pub total : List ℕ → ℕ

@@ -3,23 +3,25 @@ use mathlib.Core.Path.{_≡_, refl}
 use mathlib.Core.Bool.{true}
 use mathlib.Core.List.{[], _∷_, _++_}
 use Prim.Native.Nat.{ℕ}
-use lib.IntN.{pos}
-use Rattle.board.specs.declared.Answer.{Answer}
-use Rattle.agreement.specs.History.{boardAfter, down}
-use Rattle.agreement.specs.Demand.{StartedAt}
+use lib.IntN.{ℤ, pos}
+use Rattle.board_calls.specs.declared.Answer.{Answer}
+use Rattle.agreement.specs.History.{down, boardAfter}
+use Rattle.agreement.specs.Demand.{Started}
 use Rattle.agreement_histories.specs.Scripts.{restores, historyOf, Concludes}
 use Rattle.agreement_histories.specs.Cuts.{vote, plan, bad, lost, back, again, torn, rest, script}
-use Rattle.agreement_histories.proofs.Worlds.{passes, boardOf, ending}
-use Rattle.agreement_histories.proofs.Delivery.{journalOf, startsIn, judge, passed, concludes, started, only-there}
+use Rattle.agreement_histories.proofs.Worlds.{boardOf}
+use Rattle.agreement_histories.proofs.Passing.{passes, ending}
+use Rattle.agreement_histories.proofs.Delivery.{startsIn, Judges}
+use Rattle.agreement_histories.proofs.Delivered.{passed, concludes, started, only-there}
 use Rattle.agreement_histories.proofs.Computing.{computing}
 
-judged : judge vote plan bad 2 script ≡ record { lawful = true; whole = true; said = Answer.At (pos 2) ∷ Answer.At (pos 2) ∷ [] }
+judged : Judges vote bad script (Answer.At (pos 2) ∷ Answer.At (pos 2) ∷ [])
 unfolding computing lost back again torn rest
 judged = refl
 
 pub conclusion : Concludes vote plan bad (historyOf vote script) (Answer.At (pos 2) ∷ Answer.At (pos 2) ∷ [])
 unfolding computing
-conclusion = concludes vote plan bad script (Answer.At (pos 2) ∷ Answer.At (pos 2) ∷ []) judged refl refl
+conclusion = concludes vote plan bad script _ judged refl refl
 
 passing : passes vote bad script ≡ true
 passing = passed vote plan bad script (Answer.At (pos 2) ∷ Answer.At (pos 2) ∷ []) judged
@@ -36,14 +38,14 @@ unfolding computing lost back
 gone = refl
 
 -- board 0 started at 2, and nowhere else
-starts-of-0 : startsIn (journalOf (boardOf (ending vote script) 0)) ≡ 2 ∷ []
+starts-of-0 : startsIn (boardOf (ending vote script) 0 .counted) ≡ 2 ∷ []
 unfolding computing lost back again torn rest
 starts-of-0 = refl
 
-pub started-2 : StartedAt (historyOf vote script) 0 2
+pub started-2 : (z : ℤ) × Started (historyOf vote script) 0 2 z
 started-2 = started vote bad script passing 0 2 starts-of-0
 
-pub only-2 : (x : ℕ) → StartedAt (historyOf vote script) 0 x → x ≡ 2
+pub only-2 : (x : ℕ) (z : ℤ) → Started (historyOf vote script) 0 x z → x ≡ 2
 only-2 = only-there vote bad script passing 0 2 starts-of-0
 
 -- ---- the torn record

@@ -3,7 +3,7 @@ use mathlib.Core.Path.{refl}
 use Rattle.base.specs.Limits.{maxNumber}
 use Rattle.base.specs.Sets.{Set}
 use Rattle.plan.specs.declared.Plan.{Plan}
-use Rattle.agreement.specs.History.{Vote, History}
+use Rattle.agreement.specs.History.{Instance, History}
 use Rattle.agreement.specs.Demand.{Holds, Premises}
 use Rattle.agreement.specs.Ranges.{HoldsOnRange}
 use Rattle.agreement.proofs.Theorem.{demand3}
@@ -31,7 +31,7 @@ use Rattle.agreement_histories.proofs.Modes as modes-run
 use Rattle.agreement_histories.proofs.Refusals as refusals-run
 
 -- demand 3 of a history whose premises hold
-holding : {v : Vote} {plan : Plan} {bad : Set} {h : History} → Premises v plan bad h → Holds v plan bad h
+holding : {v : Instance} {plan : Plan} {bad : Set} {h : History} → Premises v plan bad h → Holds v plan bad h
 holding {v} {plan} {bad} {h} = demand3 v plan bad h
 
 pub alone-holds : Holds (alone.vote 1) alone.plan alone.bad (historyOf (alone.vote 1) (alone.script 1))

@@ -7,22 +7,24 @@ use lib.IntN.{pos}
 use lib.ListN.{getD}
 use Rattle.message.specs.declared.Body.the-variants.{FirstEcho, FirstProposal}
 use Rattle.message.specs.Message.{noneValue}
-use Rattle.board.specs.declared.Answer.{Answer}
+use Rattle.board_calls.specs.declared.Answer.{Answer}
 use Rattle.agreement.specs.History.{boardAfter}
-use Rattle.agreement.specs.Demand.{answerNow, TookFrom}
+use Rattle.agreement.specs.Demand.{Took, answerNow}
 use Rattle.agreement_histories.specs.Scripts.{says, historyOf, Concludes}
 use Rattle.agreement_histories.specs.Liar.{vote, plan, bad, opening, lie, early, late, fast, script}
-use Rattle.agreement_histories.proofs.Worlds.{passes, boardOf, listed, answerIn, ending, answers}
-use Rattle.agreement_histories.proofs.Delivery.{journalOf, hasTaken, judge, passed, concludes, took}
+use Rattle.agreement_histories.proofs.Worlds.{boardOf}
+use Rattle.agreement_histories.proofs.Passing.{passes, listed, answerIn, ending, answers}
+use Rattle.agreement_histories.proofs.Delivery.{hasTaken, Judges}
+use Rattle.agreement_histories.proofs.Delivered.{passed, concludes, took}
 use Rattle.agreement_histories.proofs.Computing.{computing}
 
-judged : judge vote plan bad 3 script ≡ record { lawful = true; whole = true; said = Answer.At (pos 2) ∷ Answer.At (pos 3) ∷ Answer.At (pos 2) ∷ [] }
+judged : Judges vote bad script (Answer.At (pos 2) ∷ Answer.At (pos 3) ∷ Answer.At (pos 2) ∷ [])
 unfolding computing opening lie early late
 judged = refl
 
 pub conclusion : Concludes vote plan bad (historyOf vote script) (Answer.At (pos 2) ∷ Answer.At (pos 3) ∷ Answer.At (pos 2) ∷ [])
 unfolding computing
-conclusion = concludes vote plan bad script (Answer.At (pos 2) ∷ Answer.At (pos 3) ∷ Answer.At (pos 2) ∷ []) judged refl refl
+conclusion = concludes vote plan bad script _ judged refl refl
 
 passing : passes vote bad script ≡ true
 passing = passed vote plan bad script (Answer.At (pos 2) ∷ Answer.At (pos 3) ∷ Answer.At (pos 2) ∷ []) judged
@@ -52,23 +54,23 @@ fast-answers = answers vote bad fast fast-passing (Answer.At (pos 2) ∷ Answer.
 
 -- ---- its three stories
 
-story-0 : hasTaken 3 (says (FirstEcho 2)) (journalOf (boardOf (ending vote script) 0)) ≡ true
+story-0 : hasTaken 3 (says (FirstEcho 2)) (boardOf (ending vote script) 0 .counted) ≡ true
 unfolding computing opening lie early late
 story-0 = refl
 
-pub told-0 : TookFrom (historyOf vote script) 0 3 (says (FirstEcho 2))
+pub told-0 : Took (historyOf vote script) 0 3 (says (FirstEcho 2))
 told-0 = took vote bad script passing 0 3 (says (FirstEcho 2)) story-0
 
-story-1 : hasTaken 3 (says (FirstEcho noneValue)) (journalOf (boardOf (ending vote script) 1)) ≡ true
+story-1 : hasTaken 3 (says (FirstEcho noneValue)) (boardOf (ending vote script) 1 .counted) ≡ true
 unfolding computing opening lie early late
 story-1 = refl
 
-pub told-1 : TookFrom (historyOf vote script) 1 3 (says (FirstEcho noneValue))
+pub told-1 : Took (historyOf vote script) 1 3 (says (FirstEcho noneValue))
 told-1 = took vote bad script passing 1 3 (says (FirstEcho noneValue)) story-1
 
-story-2 : hasTaken 3 (says (FirstEcho 1)) (journalOf (boardOf (ending vote script) 2)) ≡ true
+story-2 : hasTaken 3 (says (FirstEcho 1)) (boardOf (ending vote script) 2 .counted) ≡ true
 unfolding computing opening lie early late
 story-2 = refl
 
-pub told-2 : TookFrom (historyOf vote script) 2 3 (says (FirstEcho 1))
+pub told-2 : Took (historyOf vote script) 2 3 (says (FirstEcho 1))
 told-2 = took vote bad script passing 2 3 (says (FirstEcho 1)) story-2

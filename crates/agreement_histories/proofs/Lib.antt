@@ -1,5 +1,9 @@
 pub mod Worlds
+pub mod Tests
+pub mod Shows
+pub mod Passing
 pub mod Delivery
+pub mod Delivered
 pub mod Computing
 pub mod Alone
 pub mod Deep

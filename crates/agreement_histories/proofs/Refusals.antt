@@ -3,16 +3,18 @@ use mathlib.Core.Path.{_≡_, refl}
 use mathlib.Core.Bool.{true}
 use mathlib.Core.List.{[], _∷_, _++_}
 use Prim.Native.Nat.{ℕ, _<_}
-use lib.IntN.{pos}
+use lib.IntN.{ℤ, pos}
 use lib.ListN.{getD}
 use Rattle.message.specs.declared.Body.the-variants.{FirstEcho}
-use Rattle.board.specs.declared.Answer.{Answer}
-use Rattle.agreement.specs.History.{boardAfter, down}
-use Rattle.agreement.specs.Demand.{answerNow, StartedAt, Premises}
+use Rattle.board_calls.specs.declared.Answer.{Answer}
+use Rattle.agreement.specs.History.{down, boardAfter}
+use Rattle.agreement.specs.Demand.{Started, answerNow, Premises}
 use Rattle.agreement_histories.specs.Scripts.{says, historyOf, Refusing}
 use Rattle.agreement_histories.specs.Refusals.{vote, plan, bad, opening, back, lost, again, rubbish, rest, early, script}
-use Rattle.agreement_histories.proofs.Worlds.{passes, boardOf, listed, answerIn, ending, answers, premises-of, refusals}
-use Rattle.agreement_histories.proofs.Delivery.{journalOf, startsIn, started, only-there}
+use Rattle.agreement_histories.proofs.Worlds.{boardOf}
+use Rattle.agreement_histories.proofs.Passing.{passes, listed, answerIn, ending, answers, premises-of, refusals}
+use Rattle.agreement_histories.proofs.Delivery.{startsIn}
+use Rattle.agreement_histories.proofs.Delivered.{started, only-there}
 use Rattle.agreement_histories.proofs.Computing.{computing}
 
 passing : passes vote bad script ≡ true
@@ -47,14 +49,14 @@ pub one-byte : boardAfter (historyOf vote early) 1 .journal ≡ 1 ∷ []
 unfolding computing opening back lost
 one-byte = refl
 
-starts-of-1 : startsIn (journalOf (boardOf (ending vote script) 1)) ≡ 2 ∷ []
+starts-of-1 : startsIn (boardOf (ending vote script) 1 .counted) ≡ 2 ∷ []
 unfolding computing opening back lost again rubbish rest
 starts-of-1 = refl
 
-pub started-2 : StartedAt (historyOf vote script) 1 2
+pub started-2 : (z : ℤ) × Started (historyOf vote script) 1 2 z
 started-2 = started vote bad script passing 1 2 starts-of-1
 
-pub only-2 : (x : ℕ) → StartedAt (historyOf vote script) 1 x → x ≡ 2
+pub only-2 : (x : ℕ) (z : ℤ) → Started (historyOf vote script) 1 x z → x ≡ 2
 only-2 = only-there vote bad script passing 1 2 starts-of-1
 
 -- ---- the refused calls

@@ -1,23 +1,23 @@
 -- A board that is restored again and again: it goes on where it was.
 use mathlib.Core.Path.{_≡_, refl}
-use mathlib.Core.Bool.{true}
 use mathlib.Core.List.{[], _∷_, _++_}
 use lib.IntN.{pos}
 use Rattle.message.specs.declared.Body.the-variants.{FirstEcho}
-use Rattle.board.specs.declared.Answer.{Answer}
+use Rattle.board_calls.specs.declared.Answer.{Answer}
 use Rattle.agreement.specs.History.{boardAfter}
 use Rattle.agreement_histories.specs.Scripts.{says, historyOf, Concludes}
 use Rattle.agreement_histories.specs.Restores.{vote, plan, bad, opening, torn, rest, script}
-use Rattle.agreement_histories.proofs.Delivery.{judge, concludes}
+use Rattle.agreement_histories.proofs.Delivery.{Judges}
+use Rattle.agreement_histories.proofs.Delivered.{concludes}
 use Rattle.agreement_histories.proofs.Computing.{computing}
 
-judged : judge vote plan bad 2 script ≡ record { lawful = true; whole = true; said = Answer.At (pos 2) ∷ Answer.At (pos 2) ∷ [] }
+judged : Judges vote bad script (Answer.At (pos 2) ∷ Answer.At (pos 2) ∷ [])
 unfolding computing opening torn rest
 judged = refl
 
 pub conclusion : Concludes vote plan bad (historyOf vote script) (Answer.At (pos 2) ∷ Answer.At (pos 2) ∷ [])
 unfolding computing
-conclusion = concludes vote plan bad script (Answer.At (pos 2) ∷ Answer.At (pos 2) ∷ []) judged refl refl
+conclusion = concludes vote plan bad script _ judged refl refl
 
 -- ---- before it takes the message again: its journal has the start, and the start's message is to be handed over again
 

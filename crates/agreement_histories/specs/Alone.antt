@@ -8,10 +8,10 @@ use Rattle.base.specs.Sets.{Set}
 use Rattle.plan.specs.declared.Plan.{Plan}
 use Rattle.plan.specs.Positions.{rangePlan}
 use Rattle.message.specs.declared.Body.the-variants.{FirstEcho, FirstProposal, SecondEcho, SecondProposal}
-use Rattle.agreement.specs.History.{Vote}
+use Rattle.agreement.specs.History.{Instance}
 use Rattle.agreement_histories.specs.Scripts.{Action, sets-up, starts, takes, sends, saying}
 
-abbrev pub vote : ℕ → Vote
+abbrev pub vote : ℕ → Instance
 vote a = record { n = 1; t = 0; agreement = a; plan = 2 ∷ 0 ∷ 2 ∷ [] }
 
 abbrev pub plan : Plan

@@ -6,11 +6,12 @@ use lib.IntN.{pos}
 use Rattle.base.specs.Sets.{Set}
 use Rattle.plan.specs.declared.Plan.{Plan}
 use Rattle.plan.specs.Positions.{rangePlan}
-use Rattle.message.specs.declared.Body.the-variants.{FirstEcho, FirstProposal, SecondEcho, SecondProposal}
-use Rattle.agreement.specs.History.{Vote}
+use Rattle.message.specs.declared.Body.the-variants.{FirstEcho, FirstProposal}
+use Rattle.agreement.specs.History.{Instance}
 use Rattle.agreement_histories.specs.Scripts.{Action, sets-up, starts, takes, reads, sends, cuts, restores, says}
+use Rattle.agreement_histories.specs.OneSide.{agreeing}
 
-abbrev pub vote : Vote
+abbrev pub vote : Instance
 vote = record { n = 2; t = 0; agreement = 1; plan = 2 ∷ 0 ∷ 2 ∷ [] }
 
 abbrev pub plan : Plan
@@ -61,25 +62,10 @@ rest =
     ∷ sends 1 (says (FirstProposal 2))
     ∷ takes 0 1 (says (FirstEcho 2))
     ∷ takes 1 1 (says (FirstEcho 2))
-    ∷ takes 0 0 (says (FirstProposal 2))
-    ∷ takes 1 0 (says (FirstProposal 2))
-    ∷ takes 0 1 (says (FirstProposal 2))
-    ∷ sends 0 (says (SecondEcho 2))
-    ∷ takes 1 1 (says (FirstProposal 2))
-    ∷ sends 1 (says (SecondEcho 2))
-    ∷ takes 0 0 (says (SecondEcho 2))
-    ∷ sends 0 (says (SecondProposal 2))
-    ∷ takes 1 0 (says (SecondEcho 2))
-    ∷ sends 1 (says (SecondProposal 2))
-    ∷ takes 0 1 (says (SecondEcho 2))
-    ∷ takes 1 1 (says (SecondEcho 2))
-    ∷ takes 0 0 (says (SecondProposal 2))
-    ∷ takes 1 0 (says (SecondProposal 2))
-    ∷ takes 0 1 (says (SecondProposal 2))
-    ∷ takes 1 1 (says (SecondProposal 2))
-    ∷ reads 0
+    ∷ agreeing 2
+    (reads 0
     ∷ cuts 0 51
-    ∷ []
+    ∷ [])
 
 abbrev pub script : List Action
 script = (lost ++ back) ++ (again ++ torn) ++ rest

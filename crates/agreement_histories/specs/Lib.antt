@@ -1,4 +1,5 @@
 pub mod Scripts
+pub mod OneSide
 pub mod Alone
 pub mod Deep
 pub mod Cuts

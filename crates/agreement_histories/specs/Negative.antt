@@ -6,11 +6,11 @@ use lib.IntN.{negsuc}
 use Rattle.base.specs.Sets.{Set}
 use Rattle.plan.specs.declared.Plan.{Plan}
 use Rattle.plan.specs.Positions.{rangePlan}
-use Rattle.message.specs.declared.Body.the-variants.{FirstEcho, FirstProposal, SecondEcho, SecondProposal}
-use Rattle.agreement.specs.History.{Vote}
-use Rattle.agreement_histories.specs.Scripts.{Action, sets-up, starts, takes, sends, says}
+use Rattle.agreement.specs.History.{Instance}
+use Rattle.agreement_histories.specs.Scripts.{Action}
+use Rattle.agreement_histories.specs.OneSide.{onSide}
 
-abbrev pub vote : Vote
+abbrev pub vote : Instance
 vote = record { n = 2; t = 0; agreement = 1; plan = 2 ∷ 5 ∷ 4 ∷ [] }
 
 -- -3 is 05 as a group, and 2147483648 - 3 in offset binary
@@ -22,33 +22,4 @@ bad = λ _. false
 
 -- negsuc n is -(n + 1)
 unfoldable pub script : List Action
-script =
-    sets-up 0
-    ∷ sets-up 1
-    ∷ starts 0 (negsuc 2)
-    ∷ starts 1 (negsuc 1)
-    ∷ sends 0 (says (FirstEcho 1))
-    ∷ sends 1 (says (FirstEcho 1))
-    ∷ takes 0 0 (says (FirstEcho 1))
-    ∷ sends 0 (says (FirstProposal 1))
-    ∷ takes 1 0 (says (FirstEcho 1))
-    ∷ sends 1 (says (FirstProposal 1))
-    ∷ takes 0 1 (says (FirstEcho 1))
-    ∷ takes 1 1 (says (FirstEcho 1))
-    ∷ takes 0 0 (says (FirstProposal 1))
-    ∷ takes 1 0 (says (FirstProposal 1))
-    ∷ takes 0 1 (says (FirstProposal 1))
-    ∷ sends 0 (says (SecondEcho 1))
-    ∷ takes 1 1 (says (FirstProposal 1))
-    ∷ sends 1 (says (SecondEcho 1))
-    ∷ takes 0 0 (says (SecondEcho 1))
-    ∷ sends 0 (says (SecondProposal 1))
-    ∷ takes 1 0 (says (SecondEcho 1))
-    ∷ sends 1 (says (SecondProposal 1))
-    ∷ takes 0 1 (says (SecondEcho 1))
-    ∷ takes 1 1 (says (SecondEcho 1))
-    ∷ takes 0 0 (says (SecondProposal 1))
-    ∷ takes 1 0 (says (SecondProposal 1))
-    ∷ takes 0 1 (says (SecondProposal 1))
-    ∷ takes 1 1 (says (SecondProposal 1))
-    ∷ []
+script = onSide 1 (negsuc 2) (negsuc 1)

@@ -6,11 +6,11 @@ use lib.IntN.{pos}
 use Rattle.base.specs.Sets.{Set}
 use Rattle.plan.specs.declared.Plan.{Plan}
 use Rattle.plan.specs.Positions.{rangePlan}
-use Rattle.message.specs.declared.Body.the-variants.{FirstEcho, FirstProposal, SecondEcho, SecondProposal}
-use Rattle.agreement.specs.History.{Vote}
-use Rattle.agreement_histories.specs.Scripts.{Action, sets-up, starts, takes, sends, says}
+use Rattle.agreement.specs.History.{Instance}
+use Rattle.agreement_histories.specs.Scripts.{Action}
+use Rattle.agreement_histories.specs.OneSide.{onSide}
 
-abbrev pub vote : Vote
+abbrev pub vote : Instance
 vote = record { n = 2; t = 0; agreement = 1; plan = 2 ∷ 0 ∷ 3 ∷ [] }
 
 abbrev pub plan : Plan
@@ -20,33 +20,4 @@ abbrev pub bad : Set
 bad = λ _. false
 
 unfoldable pub script : List Action
-script =
-    sets-up 0
-    ∷ sets-up 1
-    ∷ starts 0 (pos 3)
-    ∷ sends 0 (says (FirstEcho 2))
-    ∷ starts 1 (pos 2)
-    ∷ sends 1 (says (FirstEcho 2))
-    ∷ takes 0 0 (says (FirstEcho 2))
-    ∷ sends 0 (says (FirstProposal 2))
-    ∷ takes 1 0 (says (FirstEcho 2))
-    ∷ sends 1 (says (FirstProposal 2))
-    ∷ takes 0 1 (says (FirstEcho 2))
-    ∷ takes 1 1 (says (FirstEcho 2))
-    ∷ takes 0 0 (says (FirstProposal 2))
-    ∷ takes 1 0 (says (FirstProposal 2))
-    ∷ takes 0 1 (says (FirstProposal 2))
-    ∷ sends 0 (says (SecondEcho 2))
-    ∷ takes 1 1 (says (FirstProposal 2))
-    ∷ sends 1 (says (SecondEcho 2))
-    ∷ takes 0 0 (says (SecondEcho 2))
-    ∷ sends 0 (says (SecondProposal 2))
-    ∷ takes 1 0 (says (SecondEcho 2))
-    ∷ sends 1 (says (SecondProposal 2))
-    ∷ takes 0 1 (says (SecondEcho 2))
-    ∷ takes 1 1 (says (SecondEcho 2))
-    ∷ takes 0 0 (says (SecondProposal 2))
-    ∷ takes 1 0 (says (SecondProposal 2))
-    ∷ takes 0 1 (says (SecondProposal 2))
-    ∷ takes 1 1 (says (SecondProposal 2))
-    ∷ []
+script = onSide 2 (pos 3) (pos 2)

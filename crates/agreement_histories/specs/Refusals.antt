@@ -7,16 +7,15 @@ use lib.Dec.{eqb}
 use lib.IntN.{ℤ, pos}
 use lib.ListN.{length}
 use Rattle.base.specs.Sets.{Set}
-use Rattle.base.specs.Limits.{outgoingSize}
 use Rattle.plan.specs.declared.Plan.{Plan}
 use Rattle.plan.specs.Positions.{rangePlan}
 use Rattle.message.specs.declared.Message.{Message}
 use Rattle.message.specs.declared.Body.the-variants.{FirstEcho, FirstProposal, SecondEcho, SecondProposal}
 use Rattle.message.specs.Message.{messageBytes}
-use Rattle.agreement.specs.History.{Vote, Call, set-up, start, take-message, read-answer, restore, Board}
-use Rattle.agreement_histories.specs.Scripts.{Action, sets-up, starts, takes, reads, sends, cuts, restores, tries, lent, saying, says}
+use Rattle.agreement.specs.History.{Instance, Call, set-up, start, take-message, read-answer, restore, Board}
+use Rattle.agreement_histories.specs.Scripts.{Action, sets-up, starts, takes, reads, sends, cuts, restores, tries, lent, lentBack, saying, says}
 
-abbrev pub vote : Vote
+abbrev pub vote : Instance
 vote = record { n = 4; t = 1; agreement = 1; plan = 2 ∷ 0 ∷ 2 ∷ [] }
 
 abbrev pub plan : Plan
@@ -27,10 +26,10 @@ bad = λ i. eqb i 3
 
 -- a start and a take with what the board has
 abbrev pub startAt : ℤ → Board → Call
-startAt z b = start (b .party) z (lent (b .journal)) (length (b .journal)) outgoingSize
+startAt z b = start (b .party) z (lent (b .journal)) (length (b .journal))
 
 abbrev pub takeFrom : ℕ → Message → Board → Call
-takeFrom s m b = take-message (b .party) s (messageBytes m) (lent (b .journal)) (length (b .journal)) outgoingSize
+takeFrom s m b = take-message (b .party) s (messageBytes m) (lent (b .journal)) (length (b .journal))
 
 -- refused: a set-up with too many faults, a reading before any set-up; after the set-up one with 17 boards, a start off the plan, and a second start
 unfoldable pub opening : List Action
@@ -66,7 +65,7 @@ lost =
 unfoldable pub again : List Action
 again =
     tries 1 19 (startAt (pos 2))
-    ∷ tries 1 4 (λ b. restore 4 1 1 1 (2 ∷ 0 ∷ []) (b .journal) outgoingSize)
+    ∷ tries 1 4 (λ b. restore 4 1 1 1 (2 ∷ 0 ∷ []) (lentBack (b .journal)))
     ∷ restores 1
     ∷ starts 1 (pos 2)
     ∷ sends 1 (says (FirstEcho 2))
@@ -77,7 +76,7 @@ unfoldable pub rubbish : List Action
 rubbish =
     tries 0 16 (takeFrom 1 (saying 2 0 (FirstEcho 2)))
     ∷ tries 0 14 (takeFrom 4 (says (FirstEcho 2)))
-    ∷ tries 0 15 (λ b. take-message (b .party) 1 (1 ∷ 0 ∷ 1 ∷ []) (lent (b .journal)) (length (b .journal)) outgoingSize)
+    ∷ tries 0 15 (λ b. take-message (b .party) 1 (1 ∷ 0 ∷ 1 ∷ []) (lent (b .journal)) (length (b .journal)))
     ∷ []
 
 -- boards 0, 1 and 3 make every quorum

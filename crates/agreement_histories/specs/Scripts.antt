@@ -11,8 +11,9 @@ use Rattle.plan.specs.declared.Plan.{Plan}
 use Rattle.message.specs.declared.Body.{Body}
 use Rattle.message.specs.declared.Message.{Message}
 use Rattle.message.specs.Message.{messageBytes}
-use Rattle.board.specs.declared.Answer.{Answer}
-use Rattle.agreement.specs.History.{Vote, Call, Step, calls, hands, cut, set-up, start, take-message, read-answer, restore, History, Board, boardAfter, RefusedBy}
+use Rattle.board_calls.specs.declared.Answer.{Answer}
+use Rattle.agreement.specs.History.{Instance, Lent, Call, set-up, start, take-message, read-answer, restore, Step, calls, hands, cut, History, Board, boardAfter}
+use Rattle.agreement.specs.Allowed.{RefusedBy}
 use Rattle.agreement.specs.Demand.{answerNow, Complete, Premises}
 
 -- a message of the vote with this number at this level, and one of vote 1 at level 0
@@ -51,24 +52,28 @@ actor (restores i) = i
 actor (restores-torn i tail) = i
 actor (tries i k c) = i
 
--- the lent journal: the used bytes, and room for one more record
-abbrev pub lent : List ℕ → List ℕ
-lent used = used ++ replicate 32 0
+-- lent to a start or take: a journal with the used bytes and room for one more record, and an outgoing buffer
+abbrev pub lent : List ℕ → Lent
+lent used = record { journal = used ++ replicate 32 0; out = outgoingSize }
+
+-- lent to a restore: a journal with these bytes, and an outgoing buffer
+abbrev pub lentBack : List ℕ → Lent
+lentBack bytes = record { journal = bytes; out = outgoingSize }
 
 -- the step of a board that is b before it
-abbrev pub stepOf : Vote → Board → Action → Step
+abbrev pub stepOf : Instance → Board → Action → Step
 stepOf v b (sets-up i) = calls i (set-up (v .n) (v .t) i (v .agreement) (v .plan))
-stepOf v b (starts i z) = calls i (start (b .party) z (lent (b .journal)) (length (b .journal)) outgoingSize)
-stepOf v b (takes i s m) = calls i (take-message (b .party) s (messageBytes m) (lent (b .journal)) (length (b .journal)) outgoingSize)
+stepOf v b (starts i z) = calls i (start (b .party) z (lent (b .journal)) (length (b .journal)))
+stepOf v b (takes i s m) = calls i (take-message (b .party) s (messageBytes m) (lent (b .journal)) (length (b .journal)))
 stepOf v b (reads i) = calls i (read-answer (b .party))
 stepOf v b (sends i m) = hands i (messageBytes m)
 stepOf v b (cuts i k) = cut i k
-stepOf v b (restores i) = calls i (restore (v .n) (v .t) i (v .agreement) (v .plan) (b .journal) outgoingSize)
-stepOf v b (restores-torn i tail) = calls i (restore (v .n) (v .t) i (v .agreement) (v .plan) (b .journal ++ tail) outgoingSize)
+stepOf v b (restores i) = calls i (restore (v .n) (v .t) i (v .agreement) (v .plan) (lentBack (b .journal)))
+stepOf v b (restores-torn i tail) = calls i (restore (v .n) (v .t) i (v .agreement) (v .plan) (lentBack (b .journal ++ tail)))
 stepOf v b (tries i k c) = calls i (c b)
 
 -- the history h and then the actions
-unfoldable pub followed : Vote → History → List Action → History
+unfoldable pub followed : Instance → History → List Action → History
 followed v h [] = h
 followed v h (a ∷ rest) = followed v (stepOf v (boardAfter h (actor a)) a ∷ h) rest
 
@@ -85,16 +90,16 @@ RefusedIn b (restores-torn i tail) = Unit {0}
 RefusedIn b (tries i k c) = RefusedBy k (c b)
 
 -- every call of the actions after h that is to be refused is refused by its question
-unfoldable pub Refusing : Vote → History → List Action → Type 0
+unfoldable pub Refusing : Instance → History → List Action → Type 0
 Refusing v h [] = Unit {0}
 Refusing v h (a ∷ rest) = RefusedIn (boardAfter h (actor a)) a × Refusing v (stepOf v (boardAfter h (actor a)) a ∷ h) rest
 
 -- "from boards not yet set up"
-abbrev pub historyOf : Vote → List Action → History
+abbrev pub historyOf : Instance → List Action → History
 historyOf v script = followed v [] script
 
 -- the premises hold, all is delivered, and the boards 0, 1, .. have these answers
-pub record Concludes (v : Vote) (plan : Plan) (bad : Set) (h : History) (answers : List Answer) : Type 0 where
+pub record Concludes (v : Instance) (plan : Plan) (bad : Set) (h : History) (answers : List Answer) : Type 0 where
   pub premises : Premises v plan bad h
-  pub complete : Complete v plan bad h
+  pub complete : Complete v bad h
   pub answer : (i : ℕ) → i < length answers → answerNow v h i ≡ getD answers i Answer.None

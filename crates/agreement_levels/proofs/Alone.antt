@@ -38,7 +38,8 @@ use Rattle.party.specs.declared.Party.{Party}
 use Rattle.party.specs.Party.{newParty, levelAt, withLevel, componentOf, sending, contextOf, entering, entered, heldBy, hearing}
 use Rattle.party.specs.Run.{Ran, ruleAt, openAt, openLevel, afterRule, stepAt, madeBy, descend, resting, oneMore, runUpTo, run, starting, taking}
 use Rattle.party_life.specs.Life.{replayed, lived, Life, madeAlong}
-use Rattle.level_laws.proofs.Messages.{SentIn}
+use Rattle.party_life.proofs.Fits.{fitting-start, fitting-taken}
+use Rattle.level_laws.specs.Inner.{SentIn}
 use Rattle.vote_machine.proofs.Laws.{made-sent}
 use Rattle.party_laws.proofs.Laws.{level-same, level-other, board-with, board-entering, entry-level, entry-other, sending-entered, entered-sending, entered-below, open-sending}
 use Rattle.party_laws.proofs.Calls.{new-level}
@@ -383,7 +384,7 @@ module _ (plan : Plan) where
     took i j l m b h act t new o g (rs, life, own, w) =
         let table : T (inTable (says i b)) = T-and (leb i lastLevel) (bodyInTable b) (le→leb i lastLevel (omega arith)) t in
         let new-at : heldBy (lived alone rs .party) 0 (says i b) ≡ false = ap (λ (y : Level). held y b 0) (w .here) ∙ new in
-        (Taken 0 (says i b) ∷ rs, ((sym (w .agreement), omega (arith, w .n), table), life), (made-at i l h act rs life w b o, new-at, own), g (lived alone rs .party) w)
+        (Taken 0 (says i b) ∷ rs, (fitting-taken (lived alone rs .party) 0 (says i b) (sym (w .agreement), omega (arith, w .n), table), life), (made-at i l h act rs life w b o, new-at, own), g (lived alone rs .party) w)
 
     blank-at : (j : ℕ) → j < levelCount → levelAt alone j ≡ blankLevel
     blank-at j k = new-level 1 0 0 a plan j k
@@ -411,7 +412,7 @@ module _ (plan : Plan) where
     unfolding lived replayed starting run
     starts h = (
       Start a x ∷ [],
-      ((refl, (λ t. subst (λ (m : Level). T (m .entered)) (blank-at 0 (omega arith)) t), h), tt),
+      (fitting-start alone a x (refl, (λ t. subst (λ (m : Level). T (m .entered)) (blank-at 0 (omega arith)) t), h), tt),
       tt,
       runs-at 0 (omega arith) (begun-active 0) (begun-rests 0) maxRules (omega arith) (entered alone x) entered-at,
     )

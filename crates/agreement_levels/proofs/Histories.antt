@@ -28,39 +28,43 @@ use Rattle.party.specs.Run.{Ran, starting, taking}
 use Rattle.party.specs.Valid.{partyValid}
 use Rattle.party_laws.proofs.Laws.{SameBoard}
 use Rattle.party_life.specs.Life.{lived, Fits, Life, madeAlong}
-use Rattle.board.specs.declared.SetUp.{SetUp}
-use Rattle.board.specs.Calls.{Entry, fresh, startQuestions, takeQuestions}
-use Rattle.board.proofs.Starts.{start-anywhere}
-use Rattle.board.proofs.Questions.{take-fits}
-use Rattle.agreement.specs.History.{Vote, set-up, start, take-message, Step, calls, hands, History, running, Board, unborn, afterSetUp, afterEntry, boardAfter, Sound, Handed, Continues, Allowed}
-use Rattle.agreement.specs.Demand.{Shared, recordsOf}
+use Rattle.party_life.proofs.Fits.{fits-start, fits-taken}
+use Rattle.board_calls.specs.declared.SetUp.{SetUp}
+use Rattle.board_calls.specs.Answers.{positionOf}
+use Rattle.board_calls.specs.Calls.{Entry, fresh}
+use Rattle.board_promises.proofs.Starts.{start-anywhere}
+use Rattle.board_laws.proofs.Questions.{take-fits}
+use Rattle.agreement.specs.History.{Instance, Lent, set-up, start, take-message, startFinds, takeFinds, Step, calls, hands, History, running, a-start, a-take, Board, unborn, afterSetUp, afterEntry, boardAfter}
+use Rattle.agreement.specs.Allowed.{Sound, Handed, Continues, Allowed}
+use Rattle.agreement.specs.Demand.{Shared}
+use Rattle.agreement.specs.Inner.{recordsOf}
 use Rattle.agreement.proofs.Tied.{set-up-found}
 use Rattle.agreement.proofs.Boards.{state-records, running-state, state-formed, state-board, records-of}
-use Rattle.agreement.proofs.Words.{start-newest, start-makes, start-posts, take-newest, take-makes, take-posts}
+use Rattle.agreement.proofs.Steps.{start-newest, start-makes, start-posts, take-newest, take-makes, take-posts}
 use Rattle.agreement.proofs.Accepted.{can-hand}
-use Rattle.agreement_levels.specs.Alone.{aloneVote, nobody, Own}
+use Rattle.agreement_levels.specs.Alone.{aloneInstance, nobody, Own}
 
-module _ (a : ℕ) (bytes : List ℕ) (plan : Plan) (f : Shared (aloneVote a bytes) plan) where
-  abbrev v : Vote
-  v = aloneVote a bytes
+module _ (a : ℕ) (bytes : List ℕ) (plan : Plan) (f : Shared (aloneInstance a bytes) plan) where
+  abbrev v : Instance
+  v = aloneInstance a bytes
 
   abbrev alone : Party
   alone = newParty 1 0 0 a plan
 
-  sound : Sound (aloneVote a bytes) nobody 0
+  sound : Sound (aloneInstance a bytes) nobody 0
   sound = (omega arith, tt)
 
   -- a history in which the running board has these records, and all that they made may be handed over
   pub record Told (rs : List Record) : Type 0 where
     pub h : History
-    pub allowed : Allowed (aloneVote a bytes) nobody h
+    pub allowed : Allowed (aloneInstance a bytes) nobody h
     pub up : boardAfter h 0 .stage ≡ running
     pub records : recordsOf h 0 ≡ rs
     pub posted : (m : Message) → List·Memᴰ m (madeAlong (newParty 1 0 0 a plan) rs) → List·Memᴰ m (boardAfter h 0 .outbox)
 
   -- ---- set-up
 
-  first-board : boardAfter (calls 0 (set-up 1 0 0 a bytes) ∷ []) 0 ≡ record { stage = running; party = alone; journal = []; guarded = 0; outbox = [] }
+  first-board : boardAfter (calls 0 (set-up 1 0 0 a bytes) ∷ []) 0 ≡ record { stage = running; party = alone; journal = []; guarded = 0; outbox = []; counted = [] }
   unfolding boardAfter
   first-board = ap (λ (s : SetUp). afterSetUp unborn (s .verdict) (s .party)) (set-up-found v plan f 0 (omega arith))
 
@@ -90,14 +94,14 @@ module _ (a : ℕ) (bytes : List ℕ) (plan : Plan) (f : Shared (aloneVote a byt
         subst (λ (q : Party). T (partyValid q)) (sym (running-state v plan nobody f (w .h) (w .allowed) 0 (omega arith) (w .up)))
         (state-formed v plan nobody f (w .h) (w .allowed) 0 (omega arith) .valid)
 
-    -- the lent journal: the used bytes, and room for just one record
-    abbrev lent : Record → List ℕ
-    lent r = boardAfter (w .h) 0 .journal ++ recordBytes r
+    -- lent: a journal with the used bytes and room for just one record, and an outgoing buffer
+    abbrev lent : Record → Lent
+    lent r = record { journal = boardAfter (w .h) 0 .journal ++ recordBytes r; out = outgoingSize }
 
     continues : (r : Record) → Continues (boardAfter (w .h) 0) (boardAfter (w .h) 0 .party) (lent r) (length (boardAfter (w .h) 0 .journal))
     continues r = record { up = w .up; same = refl; at = refl; kept = take-at (b .journal) (recordBytes r) (length (b .journal)) refl }
 
-    room : (r : Record) → length (boardAfter (w .h) 0 .journal) + length (recordBytes r) ≤ length (lent r)
+    room : (r : Record) → length (boardAfter (w .h) 0 .journal) + length (recordBytes r) ≤ length (lent r .journal)
     room r = omega (arith, length-append (b .journal) (recordBytes r))
 
     board-is : SameBoard (newParty 1 0 0 a plan) (lived (newParty 1 0 0 a plan) rs .party)
@@ -119,27 +123,28 @@ module _ (a : ℕ) (bytes : List ℕ) (plan : Plan) (f : Shared (aloneVote a byt
 
     told-start : (c x : ℕ) → Fits (lived (newParty 1 0 0 a plan) rs .party) (Start c x) → Told (Start c x ∷ rs)
     unfolding boardAfter
-    told-start c x (number, new, on) =
+    told-start c x fit =
+        let (number, new, on) = fits-start (lived (newParty 1 0 0 a plan) rs .party) c x fit in
         let p : Party = b .party in
         let r : Record = Start (p .agreement) x in
-        let j : List ℕ = lent r in
+        let j : Lent = lent r in
         let used : ℕ = length (b .journal) in
-        let e : startQuestions p (readingOf (p .plan) x) (length j) used outgoingSize ≡ found (fresh r (starting p x)) =
-        start-anywhere p valid (λ t. new (subst (λ (q : Party). T (started q)) party-is t)) x (length j) used outgoingSize
+        let e : startFinds p (readingOf (p .plan) x) j used ≡ found (fresh r (starting p x)) =
+        start-anywhere p valid (λ t. new (subst (λ (q : Party). T (started q)) party-is t)) x (length (j .journal)) used outgoingSize
         (subst (λ (q : Party). x < q .plan .count) (sym party-is) on) (omega arith) (room r) in
-        let s : Step = calls 0 (start p (readingOf (p .plan) x) j used outgoingSize) in
+        let s : Step = calls 0 (start p (readingOf (p .plan) x) j used) in
         let ok : Allowed v nobody (s ∷ w .h) = ((sound, inr (continues r)), w .allowed) in
         let z : ℤ = readingOf (p .plan) x in
         let same : r ≡ Start c x = ap (λ (k : ℕ). Start k x) (ap (λ (q : Party). q .agreement) party-is ∙ sym number) in
         let newest : recordsOf (s ∷ w .h) 0 ≡ Start c x ∷ rs =
-        start-newest v plan nobody f (w .h) 0 p j used outgoingSize z ok r (starting p x) e ∙ ap₂ (λ (y : Record) (ts : List Record). y ∷ ts) same (w .records) in
+        start-newest v plan nobody f (w .h) 0 p j used z ok r (starting p x) e ∙ ap₂ (λ (y : Record) (ts : List Record). y ∷ ts) same (w .records) in
         record {
           h = s ∷ w .h;
           allowed = ok;
-          up = ap (λ (q : Found Entry). afterEntry b p j used q .stage) e ∙ w .up;
+          up = ap (λ (q : Found Entry). afterEntry b (a-start (positionOf (p .plan) z) z) p j used q .stage) e ∙ w .up;
           records = newest;
-          posted = posted-more (Start c x) (starting p x) (s ∷ w .h) newest (start-makes v plan nobody f (w .h) 0 p j used outgoingSize z ok r (starting p x) e)
-              (start-posts v plan nobody f (w .h) 0 p j used outgoingSize z ok r (starting p x) e);
+          posted = posted-more (Start c x) (starting p x) (s ∷ w .h) newest (start-makes v plan nobody f (w .h) 0 p j used z ok r (starting p x) e)
+              (start-posts v plan nobody f (w .h) 0 p j used z ok r (starting p x) e);
         }
 
     -- a message that the board made is handed over
@@ -157,27 +162,28 @@ module _ (a : ℕ) (bytes : List ℕ) (plan : Plan) (f : Shared (aloneVote a byt
     told-taken : (s : ℕ) (m : Message) → Handed 0 (messageBytes m) (w .h) → heldBy (lived (newParty 1 0 0 a plan) rs .party) s m ≡ false
         → Fits (lived (newParty 1 0 0 a plan) rs .party) (Taken s m) → Told (Taken s m ∷ rs)
     unfolding boardAfter
-    told-taken s m given new (number, low, table) =
+    told-taken s m given new fit =
+        let (number, low, table) = fits-taken (lived (newParty 1 0 0 a plan) rs .party) s m fit in
         let p : Party = b .party in
         let r : Record = Taken s m in
-        let j : List ℕ = lent r in
+        let j : Lent = lent r in
         let used : ℕ = length (b .journal) in
         let one : exactMessage (messageBytes m) ≡ Exactly.One m = exact-message-read m (T→true (inTable m) table) (omega (arith, number, board-is .agreement, f .number)) in
-        let e : takeQuestions p s (messageBytes m) (length j) used outgoingSize ≡ found (fresh r (taking p s m)) =
-        take-fits p s (messageBytes m) (length j) used outgoingSize valid (omega arith) (omega (arith, room r)) (subst (λ (q : Party). s < q .n) (sym party-is) low) m one
+        let e : takeFinds p s (messageBytes m) j used ≡ found (fresh r (taking p s m)) =
+        take-fits p s (messageBytes m) (length (j .journal)) used outgoingSize valid (omega arith) (omega (arith, room r)) (subst (λ (q : Party). s < q .n) (sym party-is) low) m one
         (number ∙ ap (λ (q : Party). q .agreement) (sym party-is)) (ap (λ (q : Party). heldBy q s m) party-is ∙ new) (room r) in
-        let c : Step = calls 0 (take-message p s (messageBytes m) j used outgoingSize) in
+        let c : Step = calls 0 (take-message p s (messageBytes m) j used) in
         let zero-is : s ≡ 0 = omega (arith, low, board-is .n) in
         let ok : Allowed v nobody (c ∷ w .h) = ((sound, inr (continues r, λ _. subst (λ (k : ℕ). Handed k (messageBytes m) (w .h)) (sym zero-is) given)), w .allowed) in
         let newest : recordsOf (c ∷ w .h) 0 ≡ r ∷ rs =
-        take-newest v plan nobody f (w .h) 0 p j used outgoingSize s (messageBytes m) ok r (taking p s m) e ∙ ap (λ (ts : List Record). r ∷ ts) (w .records) in
+        take-newest v plan nobody f (w .h) 0 p j used s (messageBytes m) ok r (taking p s m) e ∙ ap (λ (ts : List Record). r ∷ ts) (w .records) in
         record {
           h = c ∷ w .h;
           allowed = ok;
-          up = ap (λ (q : Found Entry). afterEntry b p j used q .stage) e ∙ w .up;
+          up = ap (λ (q : Found Entry). afterEntry b (a-take s (exactMessage (messageBytes m))) p j used q .stage) e ∙ w .up;
           records = newest;
-          posted = posted-more r (taking p s m) (c ∷ w .h) newest (take-makes v plan nobody f (w .h) 0 p j used outgoingSize s (messageBytes m) ok r (taking p s m) e)
-              (take-posts v plan nobody f (w .h) 0 p j used outgoingSize s (messageBytes m) ok r (taking p s m) e);
+          posted = posted-more r (taking p s m) (c ∷ w .h) newest (take-makes v plan nobody f (w .h) 0 p j used s (messageBytes m) ok r (taking p s m) e)
+              (take-posts v plan nobody f (w .h) 0 p j used s (messageBytes m) ok r (taking p s m) e);
         }
 
   handed-first : (rs : List Record) (w : Told rs) (m : Message) (k : List·Memᴰ m (madeAlong (newParty 1 0 0 a plan) rs)) → Handed 0 (messageBytes m) (told-hands rs w m k .h)

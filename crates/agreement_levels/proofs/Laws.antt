@@ -22,9 +22,10 @@ use Rattle.party.specs.Valid.{partyValid}
 use Rattle.party_life.specs.Life.{madeAlong}
 use Rattle.party_laws.proofs.Laws.{Formed, sending-level}
 use Rattle.agreement.specs.History.{History}
-use Rattle.agreement.specs.Demand.{Shared, Premises, Makes}
+use Rattle.agreement.specs.Demand.{Made, Shared, Premises}
 use Rattle.agreement.proofs.Tied.{plan-valid}
-use Rattle.agreement_levels.specs.Alone.{aloneVote, nobody, echoAt, widest}
+use Rattle.agreement.proofs.Words.{made-records}
+use Rattle.agreement_levels.specs.Alone.{aloneInstance, nobody, echoAt, widest}
 use Rattle.agreement_levels.proofs.Alone.{goes-down}
 use Rattle.agreement_levels.proofs.Histories.{told}
 use Rattle.agreement_levels.proofs.Sizes.{size-at, some, wide}
@@ -38,17 +39,19 @@ sending-needs p v full i h =
 
 -- A range of as many needs it: there is a history of a board alone, which meets demand 3's premises, in which its calls make a message at each of the levels
 -- 0 to L. (It starts at the last position, and takes the messages that it makes.)
-pub range-uses : (a : ℕ) (bytes : List ℕ) (plan : Plan) → Shared (aloneVote a bytes) plan → plan .kind ≡ 2 → (L : ℕ) → L ≤ lastLevel → 3 * 2 ^ L ≤ plan .count
-    → (h : History) × Premises (aloneVote a bytes) plan nobody h
-    × ((i : ℕ) → i ≤ L → Makes (aloneVote a bytes) plan h 0 (echoAt a i))
+pub range-uses : (a : ℕ) (bytes : List ℕ) (plan : Plan) → Shared (aloneInstance a bytes) plan → plan .kind ≡ 2 → (L : ℕ) → L ≤ lastLevel → 3 * 2 ^ L ≤ plan .count
+    → (h : History) × Premises (aloneInstance a bytes) plan nobody h
+    × ((i : ℕ) → i ≤ L → Made h 0 (echoAt a i))
 unfolding count
 range-uses a bytes plan f range L most big =
-    let valid : T (planValid plan) = plan-valid (aloneVote a bytes) plan f 0 (omega arith) in
+    let valid : T (planValid plan) = plan-valid (aloneInstance a bytes) plan f 0 (omega arith) in
     let r = goes-down plan valid a (plan .count - 1) L most (λ i k. wide plan valid range i (smaller i k)) (omega (arith, some plan valid range)) in
     let w = told a bytes plan f (r .0) (r .1) (r .2) in (
       w .h,
       record { shared = f; few = omega arith; allowed = w .allowed },
-      λ i k. subst (λ (rs : List Record). List·Memᴰ (echoAt a i) (madeAlong (newParty 1 0 0 a plan) rs)) (sym (w .records)) (r .3 i k .1),
+      λ i k.
+          made-records (aloneInstance a bytes) plan nobody f (w .h) (w .allowed) 0 (echoAt a i) .1
+          (subst (λ (rs : List Record). List·Memᴰ (echoAt a i) (madeAlong (newParty 1 0 0 a plan) rs)) (sym (w .records)) (r .3 i k .1)),
     )
   where
     smaller : (i : ℕ) → i ≤ L → 3 * 2 ^ i ≤ plan .count
@@ -60,7 +63,7 @@ reads-widest = refl
 
 -- "65,536 positions need all 15": on the widest range it makes one at each of the levels 0 to 14.
 pub all-fifteen : (a : ℕ) → a ≤ maxNumber
-    → (h : History) × Premises (aloneVote a widest) (rangePlan 2147483648 maxWidth) nobody h
-    × ((i : ℕ) → i ≤ lastLevel → Makes (aloneVote a widest) (rangePlan 2147483648 maxWidth) h 0 (echoAt a i))
+    → (h : History) × Premises (aloneInstance a widest) (rangePlan 2147483648 maxWidth) nobody h
+    × ((i : ℕ) → i ≤ lastLevel → Made h 0 (echoAt a i))
 all-fifteen a number =
     range-uses a widest (rangePlan 2147483648 maxWidth) (record { boards = omega arith; faults = omega arith; number = number; reads = reads-widest }) refl lastLevel (omega arith) (omega arith)

@@ -9,7 +9,6 @@ use Rattle.base.specs.Sets.{Set, count}
 use Rattle.tree.specs.Edges.{Edges}
 use Rattle.tree.specs.Component.{upto, degree, port}
 use Rattle.tree.specs.Path.{pathEdges}
-use Rattle.tree.proofs.Laws.{count-upto, side-halves}
 use Rattle.tree.proofs.Levels.{inner}
 use Rattle.tree.proofs.PathEdges.{Along, path-along}
 use Rattle.tree.proofs.PathLevels.{above-whole}
@@ -18,27 +17,25 @@ use Rattle.tree.proofs.PathSides.{interval-degree, interval-port-above}
 use Rattle.plan.specs.declared.Plan.{Plan}
 use Rattle.plan.specs.Positions.{edgesOf}
 use Rattle.plan.specs.Valid.{planValid}
-use Rattle.plan.proofs.Shape.{shape, edges-range}
+use Rattle.plan_laws.proofs.Shape.{shape, edges-range}
 use Rattle.component.specs.Component.{sizeOf}
+use Rattle.component_laws.proofs.Laws.{whole-size, side-half}
 use Rattle.party.specs.declared.Party.{Party}
 use Rattle.party.specs.Party.{levelAt, componentOf, sending}
-use Rattle.party_laws.proofs.Laws.{Formed, valid→, sending-before, sending-level, whole-component, next-component}
+use Rattle.party_laws.proofs.Laws.{Formed, sending-before, sending-level, whole-component, next-component}
 use Rattle.agreement_levels.proofs.Alone.{Wide}
 
 -- level i's component has at most one 2 ^ i-th of the positions
 pub size-at : (p : Party) → Formed p → (i : ℕ) → T (sending p i) → sizeOf (p .plan) (componentOf p i) * 2 ^ i ≤ p .plan .count
-size-at p w zero h = omega (arith, ap (sizeOf (p .plan)) (whole-component p), count-upto (p .plan .count))
+size-at p w zero h = omega (arith, ap (sizeOf (p .plan)) (whole-component p), whole-size (p .plan))
 size-at p w (suc i) h =
-    let E : Edges = edgesOf (p .plan) in
-    let n : ℕ = p .plan .count in
     let S : Set = componentOf p i in
     let k : ℕ = levelAt p (suc i) .side in
     let b = sending-before p w i h in
-    let C = sending-level p w i b .level .component in
     let e = sending-level p w (suc i) h .level .entry in
     let s : ℕ = sizeOf (p .plan) (componentOf p (suc i)) in
     let half : s * 2 ≤ sizeOf (p .plan) S = subst (λ (D : Set). sizeOf (p .plan) D * 2 ≤ sizeOf (p .plan) S) (sym (next-component p i))
-    (side-halves E (shape (p .plan) (valid→ p (w .valid) .plan) .acyclic) n S C k (e .1) (e .2)) in
+    (side-half (p .plan) S (sending-level p w i b .level .plan) k (e .1) (e .2)) in
     let c : s * 2 ^ suc i ≡ s * 2 * 2 ^ i = ap (λ (z : ℕ). s * z) (pow-suc 2 i ∙ mul-comm (2 ^ i) 2) ∙ sym (mul-assoc s 2 (2 ^ i)) in
     omega (arith, mul-le-mul-right (2 ^ i) half, size-at p w i b)
 

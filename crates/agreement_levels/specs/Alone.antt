@@ -11,11 +11,11 @@ use Rattle.journal.specs.declared.Record.the-variants.{Start, Taken}
 use Rattle.party.specs.declared.Party.{Party}
 use Rattle.party.specs.Party.{heldBy}
 use Rattle.party_life.specs.Life.{lived, madeAlong}
-use Rattle.agreement.specs.History.{Vote}
+use Rattle.agreement.specs.History.{Instance}
 
 -- a vote of one board
-abbrev pub aloneVote : ℕ → List ℕ → Vote
-aloneVote a plan = record { n = 1; t = 0; agreement = a; plan = plan }
+abbrev pub aloneInstance : ℕ → List ℕ → Instance
+aloneInstance a plan = record { n = 1; t = 0; agreement = a; plan = plan }
 
 -- no board is faulty
 abbrev pub nobody : Set

@@ -13,7 +13,7 @@ use Rattle.agreement_histories.specs.Neighbours as neighbours
 use Rattle.agreement_histories.specs.Grades as grades
 use Rattle.agreement_histories.proofs.Neighbours as neighbours-run
 use Rattle.agreement_histories.proofs.Grades as grades-run
-use Rattle.agreement_histories.proofs.Worlds.{passes, ending, shown, premises-of}
+use Rattle.agreement_histories.proofs.Passing.{passes, ending, shown, premises-of}
 use Rattle.agreement_histories.proofs.Computing.{computing}
 use Rattle.agreement_premises.specs.Examples.{two, twoPlan, alone, nobody}
 use Rattle.agreement_premises.specs.Claims.{NearIsEqual, AnswerIsAnInput, ReadingsOffByOne, begins}
@@ -52,7 +52,7 @@ answer-is-an-input claim =
     let r = claim grades.vote grades.plan grades.bad (historyOf grades.vote grades.script) (c .premises) 0 (pos 1) (omega arith, tt) (inl (c .answer 0 (omega arith))) in
     reads-1 (r .0) (r .1 .0) (r .1 .1)
     (started-in grades.vote (ending grades.vote grades.script) (historyOf grades.vote grades.script) (shown grades.vote grades.bad grades.script grades-pass)
-    (λ x. not (eqb x 1)) (true→T grades-start) (r .2 .0) (r .0) (r .2 .2 .0) (r .2 .3 .kept))
+    (λ x. not (eqb x 1)) (true→T grades-start) (r .2 .0) (r .0) (r .2 .1) (r .2 .2 .0) (r .2 .3 .started))
 
 -- a board alone answers 0, which is the reading of position 0 and of no next one
 not-next : (x : ℕ) → x < 2 → readingOf twoPlan (suc x) ≡ pos 0 → ⊥

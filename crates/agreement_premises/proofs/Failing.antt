@@ -3,7 +3,7 @@ use mathlib.Core.Path.{_≡_, refl, sym, _∙_, subst}
 use mathlib.Core.Logic.{inl, inr}
 use mathlib.Core.Bool.{Bool, true, false, _&&_}
 use mathlib.Core.List.{List, []}
-use Prim.Native.Nat.{ℕ, _*_, _<_, _≤_}
+use Prim.Native.Nat.{ℕ, _*_, _≤_}
 use native.Mathlib.Omega.{arith}
 use lib.Dec.{T, leb, ltb, leb→le, ltb→lt}
 use lib.IntN.{ℤ}
@@ -13,13 +13,18 @@ use Rattle.base.specs.Found.{found}
 use Rattle.base.proofs.Bools.{T-left, T-right, true→T}
 use Rattle.plan.specs.declared.Plan.{Plan}
 use Rattle.plan.specs.Reading.{planOf}
-use Rattle.board.specs.declared.Answer.{Answer}
-use Rattle.board.specs.Calls.{answeredOf}
-use Rattle.agreement.specs.History.{Vote, History, Stage, running, waiting, calls, set-up, Ours, May, Board, boardAfter, Sound}
-use Rattle.agreement.specs.Demand.{partyBy, answerNow, Answers, Shared, Holds}
+use Rattle.board_calls.specs.declared.Answer.{Answer}
+use Rattle.board_calls.specs.Calls.{answeredOf}
+use Rattle.agreement.specs.History.{Instance, set-up, calls, History, Stage, waiting, running, Board, boardAfter}
+use Rattle.agreement.specs.Allowed.{Sound, Ours, May}
+use Rattle.agreement.specs.Demand.{partyBy, answerNow, Answers, Holds, Shared}
 use Rattle.agreement_histories.specs.Scripts.{Action, historyOf}
-use Rattle.agreement_histories.proofs.Worlds.{World, sound, sound→, isRunning, Shows, answerIn, settled, passes, ending, shown}
-use Rattle.agreement_histories.proofs.Delivery.{full, completed}
+use Rattle.agreement_histories.proofs.Worlds.{World, sound, isRunning}
+use Rattle.agreement_histories.proofs.Tests.{sound→}
+use Rattle.agreement_histories.proofs.Shows.{Shows}
+use Rattle.agreement_histories.proofs.Passing.{answerIn, settled, passes, ending, shown}
+use Rattle.agreement_histories.proofs.Delivery.{full}
+use Rattle.agreement_histories.proofs.Delivered.{completed}
 use Rattle.agreement_premises.specs.Edits.{Edit}
 use Rattle.agreement_premises.specs.Examples.{alone, four, nobody, last, Example, historyWith, Fails}
 use Rattle.agreement_premises.proofs.Running.{Runs, worldAtEnd, lawful, board, Strays, runs}
@@ -38,16 +43,16 @@ pub not-waiting : running ≡ waiting → ⊥
 not-waiting e = subst (λ (s : Stage). T (isRunning s)) e tt
 
 -- the settings of the vote
-pub ours : (v : Vote) (i : ℕ) → Ours v i (v .n) (v .t) i (v .agreement) (v .plan)
+pub ours : (v : Instance) (i : ℕ) → Ours v i (v .n) (v .t) i (v .agreement) (v .plan)
 ours v i = record { boards = refl; faults = refl; seat = refl; number = refl; bytes = refl }
 
 -- a first set-up of a vote
-pub may-set-up : (v : Vote) (bad : Set) (i : ℕ) → Sound v bad i → May v bad (calls i (set-up (v .n) (v .t) i (v .agreement) (v .plan))) []
+pub may-set-up : (v : Instance) (bad : Set) (i : ℕ) → Sound v bad i → May v bad (calls i (set-up (v .n) (v .t) i (v .agreement) (v .plan))) []
 unfolding boardAfter
 may-set-up v bad i o = (o, inr (refl, ours v i))
 
 -- settings that pass
-pub sharing : (v : Vote) (plan : Plan) (bad : Set) → T (settled v bad) → planOf (v .plan) ≡ found plan → Shared v plan × (count (v .n) bad ≤ v .t)
+pub sharing : (v : Instance) (plan : Plan) (bad : Set) → T (settled v bad) → planOf (v .plan) ≡ found plan → Shared v plan × (count (v .n) bad ≤ v .t)
 sharing v plan bad f g = (
   record {
     boards = leb→le (v .n) maxBoards (T-left one two ones);
@@ -79,7 +84,7 @@ sharing v plan bad f g = (
 -- ---- answers
 
 -- what a board has at the end
-pub now : (v : Vote) (w : World) (h : History) → Shows v w h → (i : ℕ) (a : Answer) → answerIn v w i ≡ a → answerNow v h i ≡ a
+pub now : (v : Instance) (w : World) (h : History) → Shows v w h → (i : ℕ) (a : Answer) → answerIn v w i ≡ a → answerNow v h i ≡ a
 now v w h s i a e = subst (λ (b : Board). answeredOf (partyBy v i b (b .stage)) .answer ≡ a) (s .board i) e
 
 abbrev isNone : Answer → Bool
@@ -91,7 +96,7 @@ pub unanswered : {a : Answer} → a ≡ Answer.None → (z : ℤ) × (a ≡ Answ
 unanswered e r = subst (λ (a : Answer). T (isNone a)) (sym e ∙ r .1) tt
 
 -- after a script that passes, where board 0 has an answer
-module _ (v : Vote) (bad : Set) (script : List Action) (f : passes v bad script ≡ true) (z : ℤ) (a : answerIn v (ending v script) 0 ≡ Answer.At z) where
+module _ (v : Instance) (bad : Set) (script : List Action) (f : passes v bad script ≡ true) (z : ℤ) (a : answerIn v (ending v script) 0 ≡ Answer.At z) where
   pub script-answers : Answers v (historyOf v script) 0 z
   script-answers = inl (now v (ending v script) (historyOf v script) (shown v bad script f) 0 (Answer.At z) a)
 
@@ -106,7 +111,7 @@ abbrev pub passing : Example → Bool
 passing x = (settled (x .vote) (x .bad) && sound (x .vote) (x .bad) (board x)) && lawful x
 
 module _ (e : Edit) (x : Example) (f : passing x ≡ true) (g : planOf (x .vote .plan) ≡ found (x .plan)) (s : Strays e x) where
-  abbrev v : Vote
+  abbrev v : Instance
   v = x .vote
 
   abbrev i : ℕ
@@ -142,7 +147,7 @@ module _ (e : Edit) (x : Example) (f : passing x ≡ true) (g : planOf (x .vote 
   invalid-now y z k a = invalid y z k (inl (now v (worldAtEnd x) h (run .shows) i (Answer.At z) a))
 
   -- all is delivered, and it has none
-  pub unended : full v (x .plan) (x .bad) (worldAtEnd x) ≡ true → answerIn v (worldAtEnd x) i ≡ Answer.None → Fails e x
+  pub unended : full v (x .bad) (worldAtEnd x) ≡ true → answerIn v (worldAtEnd x) i ≡ Answer.None → Fails e x
   unended k a = failing (λ q.
       unanswered (now v (worldAtEnd x) h (run .shows) i Answer.None a)
-      (q .ending (completed v (x .plan) (x .bad) (worldAtEnd x) h (run .shows) (true→T k)) i o))
+      (q .ending (completed v (x .bad) (worldAtEnd x) h (run .shows) (true→T k)) i o))

@@ -1,10 +1,10 @@
 -- Journals and records that are not as the call before left them.
 use mathlib.Core.Path.{refl}
 use mathlib.Core.Logic.{inl, inr}
-use mathlib.Core.List.{[], _∷_, List·Memᴰ·head, List·Memᴰ·tail}
+use mathlib.Core.List.{[], _∷_, List·Memᴰ·head}
 use lib.IntN.{pos}
 use Rattle.agreement.specs.History.{boardAfter}
-use Rattle.agreement_histories.specs.Scripts.{lent}
+use Rattle.agreement_histories.specs.Scripts.{lent, lentBack}
 use Rattle.agreement_histories.proofs.Computing.{computing}
 use Rattle.agreement_premises.specs.Edits.{journal-overwritten, record-altered, other-record-read, other-journal-restored, overwritten, altered, misread, restored}
 use Rattle.agreement_premises.specs.Examples.{two, alone, exampleOf, Fails}
@@ -18,7 +18,7 @@ overwritten-strays = overwritten (lent (1 ∷ 1 ∷ 0 ∷ [])) (sound-four two) 
 
 pub overwritten-fails : Fails journal-overwritten (exampleOf journal-overwritten)
 unfolding computing allIn
-overwritten-fails = invalid-now journal-overwritten (exampleOf journal-overwritten) refl refl overwritten-strays 1 (pos 0) refl refl
+overwritten-fails = invalid-now journal-overwritten (exampleOf journal-overwritten) refl refl overwritten-strays 0 (pos 1) refl refl
 
 altered-strays : Strays record-altered (exampleOf record-altered)
 unfolding computing
@@ -38,8 +38,8 @@ misread-fails = invalid other-record-read (exampleOf other-record-read) refl ref
 
 restored-strays : Strays other-journal-restored (exampleOf other-journal-restored)
 unfolding computing
-restored-strays = restored (1 ∷ 1 ∷ 0 ∷ []) (sound-alone two) (not-waiting, ours (alone two) 0, inl refl)
+restored-strays = restored (lentBack (1 ∷ 1 ∷ 0 ∷ [])) (sound-alone two) (not-waiting, ours (alone two) 0, inl refl)
 
 pub restored-fails : Fails other-journal-restored (exampleOf other-journal-restored)
 unfolding computing allIn
-restored-fails = invalid other-journal-restored (exampleOf other-journal-restored) refl refl restored-strays 1 (pos 0) refl (inr (_, List·Memᴰ·tail (List·Memᴰ·head refl), refl))
+restored-fails = invalid-now other-journal-restored (exampleOf other-journal-restored) refl refl restored-strays 0 (pos 1) refl refl

@@ -1,17 +1,18 @@
 -- Too many faulty boards, an agreement number that no record can have, and a plan that is not the vote's.
 use mathlib.Core.Path.{_≡_, refl}
 use mathlib.Core.Bool.{true}
-use Prim.Native.Nat.{_<_, _≤_}
 use native.Mathlib.Omega.{arith}
 use lib.IntN.{pos}
-use Rattle.board.specs.declared.Answer.{Answer}
+use Rattle.board_calls.specs.declared.Answer.{Answer}
 use Rattle.agreement_histories.specs.Scripts.{historyOf}
-use Rattle.agreement_histories.proofs.Worlds.{passes, ending, answerIn, allowed}
+use Rattle.agreement_histories.proofs.Passing.{passes, ending, answerIn, allowed, shown}
+use Rattle.agreement_histories.proofs.Delivery.{full}
+use Rattle.agreement_histories.proofs.Delivered.{complete}
 use Rattle.agreement_histories.proofs.Computing.{computing}
 use Rattle.agreement_premises.specs.Examples.{two, three, twoPlan, threePlan, elsewherePlan, alone, four, nobody}
-use Rattle.agreement_premises.specs.Claims.{TwiceTheFaults, half, deceived, NumberTooLarge, unreadable, begins, PlanNotRead}
+use Rattle.agreement_premises.specs.Claims.{TwiceTheFaults, half, deceived, NumberTooLarge, unreadable, cutAfter, PlanNotRead, begins}
 use Rattle.agreement_premises.proofs.Starts.{allIn, misplaced}
-use Rattle.agreement_premises.proofs.Failing.{sound-alone, sharing, script-fails}
+use Rattle.agreement_premises.proofs.Failing.{sound-alone, sharing, now, unanswered, script-fails}
 
 -- ---- twice the faults
 
@@ -36,24 +37,24 @@ twice-the-faults claim =
 
 -- ---- a number that is too large
 
-unreadable-passes : passes unreadable nobody begins ≡ true
-unfolding computing begins
+unreadable-passes : passes unreadable nobody cutAfter ≡ true
+unfolding computing cutAfter
 unreadable-passes = refl
 
-unreadable-answers : answerIn unreadable (ending unreadable begins) 0 ≡ Answer.At (pos 0)
-unfolding computing begins
-unreadable-answers = refl
+unreadable-full : full unreadable nobody (ending unreadable cutAfter) ≡ true
+unfolding computing cutAfter
+unreadable-full = refl
 
-unreadable-misplaced : misplaced unreadable twoPlan (ending unreadable begins) 1 (pos 0) ≡ true
-unfolding computing begins allIn
-unreadable-misplaced = refl
+unreadable-answers : answerIn unreadable (ending unreadable cutAfter) 0 ≡ Answer.None
+unfolding computing cutAfter
+unreadable-answers = refl
 
 pub number-too-large : NumberTooLarge → ⊥
 unfolding computing
 number-too-large claim =
-    script-fails unreadable nobody begins unreadable-passes (pos 0) unreadable-answers twoPlan 1 unreadable-misplaced (omega arith, tt)
-    (claim unreadable twoPlan nobody (historyOf unreadable begins) (omega arith) (omega arith) (omega arith) refl (omega arith)
-    (allowed unreadable nobody begins unreadable-passes))
+    unanswered (now unreadable (ending unreadable cutAfter) (historyOf unreadable cutAfter) (shown unreadable nobody cutAfter unreadable-passes) 0 Answer.None unreadable-answers)
+    (claim unreadable twoPlan nobody (historyOf unreadable cutAfter) (omega arith) (omega arith) (omega arith) refl (omega arith) (allowed unreadable nobody cutAfter unreadable-passes)
+    .ending (complete unreadable nobody cutAfter unreadable-passes unreadable-full) 0 (omega arith, tt))
 
 -- ---- another plan than the bytes give
 

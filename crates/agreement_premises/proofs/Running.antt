@@ -6,19 +6,23 @@ use Prim.Native.Nat.{ℕ}
 use lib.Dec.{T}
 use Rattle.base.specs.Sets.{Set}
 use Rattle.base.proofs.Bools.{T-left, T-right}
-use Rattle.agreement.specs.History.{Vote, History, boardAfter, Sound}
+use Rattle.agreement.specs.History.{Instance, History, boardAfter}
+use Rattle.agreement.specs.Allowed.{Sound}
 use Rattle.agreement_histories.specs.Scripts.{Action, actor, stepOf, followed}
-use Rattle.agreement_histories.proofs.Worlds.{World, boardOf, beginning, acted, worldAfter, sound, sound→, fits, fitsBoard, allFit, Shows, shows-beginning, shows-action, may}
+use Rattle.agreement_histories.proofs.Worlds.{World, boardOf, beginning, acted, worldAfter, sound, fits, fitsBoard, allFit}
+use Rattle.agreement_histories.proofs.Tests.{sound→}
+use Rattle.agreement_histories.proofs.Shows.{Shows, shows-beginning, shows-action}
+use Rattle.agreement_histories.proofs.Passing.{may}
 use Rattle.agreement_premises.specs.Edits.{Edit, Lets, AllowedWith}
 use Rattle.agreement_premises.specs.Examples.{Example, historyWith}
 
 -- ---- a world shows the history so far, and its steps are allowed or let in
 
-pub record Runs (e : Edit) (v : Vote) (bad : Set) (w : World) (h : History) : Type 0 where
+pub record Runs (e : Edit) (v : Instance) (bad : Set) (w : World) (h : History) : Type 0 where
   pub shows : Shows v w h
   pub steps : AllowedWith e v bad h
 
-module _ (e : Edit) (v : Vote) (bad : Set) where
+module _ (e : Edit) (v : Instance) (bad : Set) where
   -- through actions that pass
   onward : (w : World) (h : History) (script : List Action) → Runs e v bad w h → T (allFit v bad w script)
       → Runs e v bad (worldAfter v w script) (followed v h script)
@@ -59,7 +63,7 @@ abbrev pub Strays : Edit → Example → Type 0
 Strays e x = Lets (x .vote) (x .bad) (historyBefore x) e (stepOf (x .vote) (boardAfter (historyBefore x) (board x)) (x .stray))
 
 module _ (e : Edit) (x : Example) (f : T (lawful x)) (o : Sound (x .vote) (x .bad) (board x)) (s : Strays e x) where
-  abbrev v : Vote
+  abbrev v : Instance
   v = x .vote
 
   abbrev one : Bool

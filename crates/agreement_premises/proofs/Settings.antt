@@ -2,11 +2,11 @@
 use mathlib.Core.Path.{refl}
 use mathlib.Core.Logic.{inl, inr}
 use mathlib.Core.List.{List·Memᴰ·head, List·Memᴰ·tail}
-use Prim.Native.Nat.{_≤_}
 use native.Mathlib.Omega.{arith}
 use lib.IntN.{pos}
-use Rattle.base.specs.Limits.{outgoingSize}
-use Rattle.agreement.specs.History.{Vote, History, calls, restore, boardAfter, May}
+use Rattle.agreement.specs.History.{Instance, restore, calls, History, boardAfter}
+use Rattle.agreement.specs.Allowed.{May}
+use Rattle.agreement_histories.specs.Scripts.{lentBack}
 use Rattle.agreement_histories.specs.Alone.{script}
 use Rattle.agreement_histories.proofs.Computing.{computing}
 use Rattle.agreement_premises.specs.Edits.{second-set-up, other-boards, other-faults, other-number, other-plan, again, boards, faults, number, plan}
@@ -27,13 +27,13 @@ boards-strays : Strays other-boards (exampleOf other-boards)
 unfolding computing script
 boards-strays = boards 2 (omega arith) (sound-alone three) may-restore
   where
-    pair : Vote
+    pair : Instance
     pair = record { n = 2; t = 0; agreement = 1; plan = three }
 
     before : History
     before = historyBefore (exampleOf other-boards)
 
-    may-restore : May pair nobody (calls 0 (restore 2 0 0 1 three (boardAfter before 0 .journal) outgoingSize)) before
+    may-restore : May pair nobody (calls 0 (restore 2 0 0 1 three (lentBack (boardAfter before 0 .journal)))) before
     may-restore = ((omega arith, tt), inr (not-waiting, ours pair 0, inl refl))
 
 pub boards-fails : Fails other-boards (exampleOf other-boards)

@@ -11,8 +11,9 @@ use Rattle.plan.specs.declared.Plan.{Plan}
 use Rattle.message.specs.declared.Message.{Message}
 use Rattle.message.specs.Message.{messageBytes}
 use Rattle.party.specs.declared.Party.{Party}
-use Rattle.agreement.specs.History.{Vote, Call, Step, calls, hands, cut, set-up, start, take-message, read-answer, restore, whose, History, running, boardAfter, Sound, Continues, Ours, Accepts, May}
-use Rattle.agreement.specs.Demand.{Shared, Holds}
+use Rattle.agreement.specs.History.{Instance, Lent, set-up, start, take-message, read-answer, restore, Step, calls, hands, cut, whose, History, running, boardAfter}
+use Rattle.agreement.specs.Allowed.{Sound, Continues, Ours, Accepts, May}
+use Rattle.agreement.specs.Demand.{Holds, Shared}
 
 -- named as in agreement/must-fail
 pub data Edit : Type 0 where
@@ -39,12 +40,17 @@ isHanding (cut i left) = false
 
 abbrev pub isReading : Step → Bool
 isReading (calls i (set-up n t own agreement plan)) = false
-isReading (calls i (start p input journal used out)) = false
-isReading (calls i (take-message p sender bytes journal used out)) = false
+isReading (calls i (start p input lent used)) = false
+isReading (calls i (take-message p sender bytes lent used)) = false
 isReading (calls i (read-answer p)) = true
-isReading (calls i (restore n t own agreement plan journal out)) = false
+isReading (calls i (restore n t own agreement plan lent)) = false
 isReading (hands i bytes) = false
 isReading (cut i left) = false
+
+abbrev pub isCut : Step → Bool
+isCut (calls i c) = false
+isCut (hands i bytes) = false
+isCut (cut i left) = true
 
 unfoldable pub without : (Step → Bool) → History → History
 without f [] = []
@@ -54,10 +60,10 @@ without f (s ∷ h) = pick (f s) (without f h) (s ∷ without f h)
 
 -- Steps after h that the edit lets in: each meets every clause of its kind of step but the one that the edit drops, so `Allowed` as the edit leaves it
 -- holds of them too (by reading: the edit and the clause side by side).
-pub data Lets (v : Vote) (bad : Set) (h : History) : Edit → Step → Type 0 where
+pub data Lets (v : Instance) (bad : Set) (h : History) : Edit → Step → Type 0 where
   -- without "a message taken as a sound board's was handed over earlier by it for that vote"
-  unsent : {i sender used out : ℕ} {p : Party} {bytes journal : List ℕ} → Sound v bad i → Continues (boardAfter h i) p journal used
-      → Lets v bad h taken-unsent (calls i (take-message p sender bytes journal used out))
+  unsent : {i sender used : ℕ} {p : Party} {bytes : List ℕ} {lent : Lent} → Sound v bad i → Continues (boardAfter h i) p lent used
+      → Lets v bad h taken-unsent (calls i (take-message p sender bytes lent used))
   -- a board hands over what its calls made; without that, any message
   unmade : {i : ℕ} {bytes : List ℕ} (m : Message) → Sound v bad i → boardAfter h i .stage ≡ running → bytes ≡ messageBytes m
       → Lets v bad h handed-unmade (hands i bytes)
@@ -66,19 +72,18 @@ pub data Lets (v : Vote) (bad : Set) (h : History) : Edit → Step → Type 0 wh
   -- without "or reading of an answer": the cut may come where no answer was read
   unread : {i left : ℕ} → May v bad (cut i left) (without isReading h) → Lets v bad h answer-guards-nothing (cut i left)
   -- without "with nobody else writing them": the take would be accepted if another journal were lent
-  overwritten : {i sender used out : ℕ} {p : Party} {bytes journal : List ℕ} (kept : List ℕ) → Sound v bad i
-      → Accepts v bad i h (boardAfter h i) (take-message p sender bytes kept used out)
-      → Lets v bad h journal-overwritten (calls i (take-message p sender bytes journal used out))
+  overwritten : {i sender used : ℕ} {p : Party} {bytes : List ℕ} {lent : Lent} (kept : Lent) → Sound v bad i
+      → Accepts v bad i h (boardAfter h i) (take-message p sender bytes kept used) → Lets v bad h journal-overwritten (calls i (take-message p sender bytes lent used))
   -- without "each later call gets the record .. as the call before left": the start would be accepted if another record were given
-  altered : {i used out : ℕ} {p : Party} {input : ℤ} {journal : List ℕ} (left : Party) → Sound v bad i
-      → Accepts v bad i h (boardAfter h i) (start left input journal used out) → Lets v bad h record-altered (calls i (start p input journal used out))
+  altered : {i used : ℕ} {p : Party} {input : ℤ} {lent : Lent} (left : Party) → Sound v bad i
+      → Accepts v bad i h (boardAfter h i) (start left input lent used) → Lets v bad h record-altered (calls i (start p input lent used))
   -- the same for a reading
   misread : {i : ℕ} {p : Party} (left : Party) → Sound v bad i → Accepts v bad i h (boardAfter h i) (read-answer left)
       → Lets v bad h other-record-read (calls i (read-answer p))
   -- without "from what the cut left": the restore would be accepted if another journal were lent
-  restored : {i n t own agreement out : ℕ} {plan journal : List ℕ} (left : List ℕ) → Sound v bad i
-      → Accepts v bad i h (boardAfter h i) (restore n t own agreement plan left out)
-      → Lets v bad h other-journal-restored (calls i (restore n t own agreement plan journal out))
+  restored : {i n t own agreement : ℕ} {plan : List ℕ} {lent : Lent} (left : Lent) → Sound v bad i
+      → Accepts v bad i h (boardAfter h i) (restore n t own agreement plan left)
+      → Lets v bad h other-journal-restored (calls i (restore n t own agreement plan lent))
   -- without "A sound board's first call of a vote is its one set-up": the board may have been set up before
   again : {i n t own agreement : ℕ} {plan : List ℕ} → Sound v bad i → Ours v i n t own agreement plan
       → Lets v bad h second-set-up (calls i (set-up n t own agreement plan))
@@ -91,11 +96,11 @@ pub data Lets (v : Vote) (bad : Set) (h : History) : Edit → Step → Type 0 wh
   plan : {s : Step} (plan : List ℕ) → May (record { n = v .n; t = v .t; agreement = v .agreement; plan = plan }) bad s h → Lets v bad h other-plan s
 
 -- every step of the list is allowed, or let in by the edit
-abbrev pub AllowedWith : Edit → Vote → Set → History → Type 0
+abbrev pub AllowedWith : Edit → Instance → Set → History → Type 0
 AllowedWith e v bad [] = Unit {0}
 AllowedWith e v bad (s ∷ h) = (May v bad s h ⊎ Lets v bad h e s) × AllowedWith e v bad h
 
 -- demand 3 with the edit
 abbrev pub Demand3With : Edit → Type 0
 Demand3With e =
-    (v : Vote) (plan : Plan) (bad : Set) (h : History) → Shared v plan → count (v .n) bad ≤ v .t → AllowedWith e v bad h → Holds v plan bad h
+    (v : Instance) (plan : Plan) (bad : Set) (h : History) → Shared v plan → count (v .n) bad ≤ v .t → AllowedWith e v bad h → Holds v plan bad h

@@ -1,21 +1,20 @@
 -- For each edit of what 01 allows a history with one step that the edit lets in.
 use mathlib.Core.Bool.{false}
-use mathlib.Core.List.{List, [], _∷_, _++_}
+use mathlib.Core.List.{List, [], _∷_}
 use Prim.Native.Nat.{ℕ, _≤_}
 use lib.Dec.{eqb}
 use lib.IntN.{pos}
 use lib.ListN.{length}
 use Rattle.base.specs.Sets.{Set, count}
-use Rattle.base.specs.Limits.{outgoingSize}
 use Rattle.plan.specs.declared.Plan.{Plan}
 use Rattle.plan.specs.Positions.{rangePlan}
 use Rattle.message.specs.declared.Body.the-variants.{FirstEcho, FirstProposal, SecondEcho, SecondProposal, Centre}
 use Rattle.message.specs.Message.{messageBytes}
 use Rattle.party.specs.Party.{newParty}
 use Rattle.party.specs.Run.{starting}
-use Rattle.agreement.specs.History.{Vote, Call, set-up, start, take-message, read-answer, restore, History, Board}
-use Rattle.agreement.specs.Demand.{Shared, Holds}
-use Rattle.agreement_histories.specs.Scripts.{Action, sets-up, starts, takes, reads, sends, cuts, restores, tries, lent, says, followed}
+use Rattle.agreement.specs.History.{Instance, Call, set-up, start, take-message, read-answer, restore, History, Board}
+use Rattle.agreement.specs.Demand.{Holds, Shared}
+use Rattle.agreement_histories.specs.Scripts.{Action, sets-up, starts, takes, reads, sends, cuts, restores, tries, lent, lentBack, says, followed}
 use Rattle.agreement_histories.specs.Alone as lone
 use Rattle.agreement_premises.specs.Edits.{Edit, AllowedWith, taken-unsent, handed-unmade, hands-guard-nothing, answer-guards-nothing, journal-overwritten, record-altered, other-record-read, other-journal-restored, second-set-up, other-boards, other-faults, other-number, other-plan}
 
@@ -42,10 +41,10 @@ abbrev pub elsewherePlan : Plan
 elsewherePlan = rangePlan 2147483653 1
 
 -- one board alone; four boards, of which one may be faulty
-abbrev pub alone : List ℕ → Vote
+abbrev pub alone : List ℕ → Instance
 alone plan = record { n = 1; t = 0; agreement = 1; plan = plan }
 
-abbrev pub four : List ℕ → Vote
+abbrev pub four : List ℕ → Instance
 four plan = record { n = 4; t = 1; agreement = 1; plan = plan }
 
 abbrev pub nobody : Set
@@ -58,7 +57,7 @@ last = λ i. eqb i 3
 
 -- a script of the vote, and one action in it that 01 does not allow
 pub record Example : Type 0 where
-  pub vote : Vote
+  pub vote : Instance
   pub plan : Plan
   pub bad : Set
   pub before : List Action
@@ -117,14 +116,14 @@ exampleOf hands-guard-nothing = record {
 }
 -- The answer 0 is read, and the start is lost.
 exampleOf answer-guards-nothing = record { vote = alone two; plan = twoPlan; bad = nobody; before = answered; stray = cuts 0 0; after = [] }
--- The board starts at 0. The next call is lent a journal whose record says 1.
+-- The board starts at 0. The next call is lent a journal whose record says 1; power is cut, and once restored the board would answer 1.
 exampleOf journal-overwritten = record {
   vote = four two;
   plan = twoPlan;
   bad = last;
   before = sets-up 0 ∷ starts 0 (pos 0) ∷ [];
-  stray = callsWith 0 (λ b. take-message (b .party) 3 (messageBytes (says (FirstEcho 0))) (lent (1 ∷ 1 ∷ 1 ∷ [])) (length (b .journal)) outgoingSize);
-  after = [];
+  stray = callsWith 0 (λ b. take-message (b .party) 3 (messageBytes (says (FirstEcho 0))) (lent (1 ∷ 1 ∷ 1 ∷ [])) (length (b .journal)));
+  after = cuts 0 9 ∷ [];
 }
 -- The board is set up for the readings 0 and 1, and starts with a record of the readings 5 and 6: it answers 5.
 exampleOf record-altered = record {
@@ -132,7 +131,7 @@ exampleOf record-altered = record {
   plan = twoPlan;
   bad = nobody;
   before = sets-up 0 ∷ [];
-  stray = callsWith 0 (λ b. start (newParty 1 0 0 1 elsewherePlan) (pos 5) (lent (b .journal)) (length (b .journal)) outgoingSize);
+  stray = callsWith 0 (λ b. start (newParty 1 0 0 1 elsewherePlan) (pos 5) (lent (b .journal)) (length (b .journal)));
   after = [];
 }
 -- The board has not started, and the answer is read from a record that has.
@@ -144,13 +143,13 @@ exampleOf other-record-read = record {
   stray = callsWith 0 (λ b. read-answer (starting (b .party) 0 .party));
   after = [];
 }
--- The answer 0 is read, and the board restored from an empty journal.
+-- The board starts at 0, and is restored from a journal whose record says 1: it answers 1.
 exampleOf other-journal-restored = record {
   vote = alone two;
   plan = twoPlan;
   bad = nobody;
-  before = answered;
-  stray = callsWith 0 (λ b. restore 1 0 0 1 two [] outgoingSize);
+  before = sets-up 0 ∷ starts 0 (pos 0) ∷ [];
+  stray = callsWith 0 (λ b. restore 1 0 0 1 two (lentBack (1 ∷ 1 ∷ 1 ∷ [])));
   after = [];
 }
 -- The answer 0 is read, and the board set up again.
@@ -161,7 +160,7 @@ exampleOf other-boards = record {
   plan = threePlan;
   bad = nobody;
   before = lone.script 1;
-  stray = callsWith 0 (λ b. restore 2 0 0 1 three (b .journal) outgoingSize);
+  stray = callsWith 0 (λ b. restore 2 0 0 1 three (lentBack (b .journal)));
   after = [];
 }
 -- The board is set up for no faults, starts at 0, and one message, of the faulty board, makes it answer 1.

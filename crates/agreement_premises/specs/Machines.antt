@@ -1,7 +1,7 @@
--- Against the must-fail edits of `vote`: a start off the plan, and a board that follows t + 1 senders.
+-- Against the must-fail edits of `party_life` and `vote_machine`: a start off the plan, and a board that follows t + 1 senders.
 use mathlib.Core.Path.{_≡_}
 use mathlib.Core.Bool.{true, false}
-use Prim.Native.Nat.{ℕ, suc}
+use Prim.Native.Nat.{suc}
 use lib.Dec.{ltb}
 use Rattle.base.specs.Sets.{count}
 use Rattle.message.specs.declared.Body.{Body}
@@ -11,7 +11,7 @@ use Rattle.party.specs.declared.Party.{Party}
 use Rattle.party.specs.Party.{newParty, levelAt}
 use Rattle.party.specs.Run.{starting}
 use Rattle.party.specs.Valid.{partyValid}
-use Rattle.level_laws.proofs.Counted.{heardFrom}
+use Rattle.level_laws.specs.Inner.{heardFrom}
 use Rattle.execution.specs.Machine.{start, take}
 use Rattle.vote_machine.specs.Machine.{called}
 use Rattle.agreement_histories.specs.Scripts.{says}

@@ -26,10 +26,10 @@ use Rattle.party.specs.Party.{levelAt, started, heldBy, outputOf}
 use Rattle.party.specs.Run.{Ran, starting, taking, bytesOf}
 use Rattle.party.specs.Valid.{everyLevel, settingsPass, setsPass, outputPasses, placePasses, resultsPass, levelPasses, partyValid}
 use Rattle.plan.specs.Valid.{planValid}
-use Rattle.board.specs.declared.Answer.{Answer}
-use Rattle.board.specs.declared.Answered.{Answered}
-use Rattle.board.specs.Answers.{positionOf, answerOf}
-use Rattle.board.specs.Calls.{Entry, again, fresh, atDoor, fitting, startQuestions, takeMessage, takeQuestions, answeredOf}
+use Rattle.board_calls.specs.declared.Answer.{Answer}
+use Rattle.board_calls.specs.declared.Answered.{Answered}
+use Rattle.board_calls.specs.Answers.{positionOf, answerOf}
+use Rattle.board_calls.specs.Calls.{Entry, again, fresh, atDoor, fitting, startQuestions, takeMessage, takeQuestions, answeredOf}
 use Rattle.range_as_path.specs.Twin.{TwinParties, TwinRan, TwinFound, both, neither, TwinEntry, held, recorded, TwinCall, nothing, TwinAnswered}
 use Rattle.range_as_path.proofs.Twins.{twin-started, twin-held, twin-output, twin-valid, twin-starting, twin-taking}
 use Rattle.range_as_path.proofs.Positions.{twin-answer}

@@ -5,8 +5,8 @@ use native.Mathlib.Omega.{arith}
 use lib.IntN.{pos}
 use Rattle.plan.specs.declared.Plan.{Plan}
 use Rattle.plan.specs.Positions.{rangePlan, treePlan, readingOf}
-use Rattle.board.specs.declared.Answer.{Answer}
-use Rattle.board.specs.Answers.{answerOf}
+use Rattle.board_calls.specs.declared.Answer.{Answer}
+use Rattle.board_calls.specs.Answers.{answerOf}
 use Rattle.range_as_path.specs.Twin.{TwinAnswer, position}
 
 -- the low reading in offset binary: 2^31 + 5

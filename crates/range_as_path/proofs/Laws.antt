@@ -29,9 +29,9 @@ use Rattle.party.specs.Party.{levelAt, componentOf, sending, contextOf, entered
 use Rattle.party.specs.Run.{ruleAt, openAt, openLevel, stepAt, runUpTo, run, starting, taking}
 use Rattle.party.specs.Valid.{partyValid}
 use Rattle.party_life.specs.Life.{lived, Life}
-use Rattle.board.specs.declared.SetUp.{SetUp}
-use Rattle.board.specs.Calls.{setUpOf, startQuestions, takeQuestions}
-use Rattle.board.specs.Restore.{restoreQuestions}
+use Rattle.board_calls.specs.declared.SetUp.{SetUp}
+use Rattle.board_calls.specs.Calls.{setUpOf, startQuestions, takeQuestions}
+use Rattle.board_calls.specs.Restore.{restoreQuestions}
 use Rattle.range_as_path.specs.Twin.{PathListed, TwinPlans, TwinParties, TwinRan, TwinFound, both, TwinSetUp, set-up, not-set-up, TwinBytes, SameBehaviour}
 use Rattle.range_as_path.specs.Script.{Ask, Desk, after, TwinDesks, SameNext}
 use Rattle.range_as_path.proofs.Geometry.{twin-alike, alike-size, alike-centre, alike-degree, alike-port, alike-neighbour, alike-side}

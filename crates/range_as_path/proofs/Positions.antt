@@ -12,8 +12,8 @@ use Rattle.signed.specs.Signed.{fromOffset}
 use Rattle.plan.specs.declared.Plan.{Plan}
 use Rattle.plan.specs.Positions.{readingOf}
 use Rattle.level.specs.Level.{noOutput}
-use Rattle.board.specs.declared.Answer.{Answer}
-use Rattle.board.specs.Answers.{onPlan, vertexOf, rangePosition, positionOf, answerOf}
+use Rattle.board_calls.specs.declared.Answer.{Answer}
+use Rattle.board_calls.specs.Answers.{onPlan, vertexOf, rangePosition, positionOf, answerOf}
 use Rattle.range_as_path.specs.Twin.{TwinPlans, TwinAnswer, nothing, position}
 
 -- where the test holds, the first

@@ -1,28 +1,28 @@
 -- Set-up and restore on plan bytes that give twin plans.
-use mathlib.Core.Path.{_≡_, refl, ap}
-use mathlib.Core.Bool.{Bool, true, false, not, _&&_}
+use mathlib.Core.Path.{_≡_, refl, ap, subst}
+use mathlib.Core.Bool.{Bool, true, false, _&&_}
 use mathlib.Core.List.{List}
-use Prim.Native.Nat.{ℕ, zero, suc, _*_}
+use Prim.Native.Nat.{ℕ, zero, suc}
 use lib.Dec.{leb, ltb, eqb}
 use lib.ListN.{length}
 use Rattle.base.specs.Put.{putAt}
-use Rattle.base.specs.Limits.{outgoingSize, maxBoards}
+use Rattle.base.specs.Limits.{outgoingSize}
 use Rattle.base.specs.Found.{Found, ask}
+use Rattle.settings.specs.Settings.{settingsFault, settingsFit}
 use Rattle.plan.specs.declared.Plan.{Plan}
 use Rattle.plan.specs.Reading.{planOf, settledPlan}
 use Rattle.message.specs.declared.Message.{Message}
 use Rattle.journal.specs.declared.Record.{Record}
-use Rattle.journal.specs.declared.Record.the-variants.{Start, Taken}
 use Rattle.journal.specs.declared.RecordRead.{RecordRead}
 use Rattle.journal.specs.Journal.{recordAt}
 use Rattle.party.specs.declared.Party.{Party}
-use Rattle.party.specs.Party.{newParty, started}
+use Rattle.party.specs.Party.{newParty}
 use Rattle.party.specs.Run.{Ran, resting, bytesOf}
-use Rattle.party_life.specs.Life.{replayed, following}
-use Rattle.board.specs.Calls.{setUpAnswer, setUpOf}
-use Rattle.board.specs.Restore.{recordFits, Replay, replayFrom, onPlanRead, restoreQuestions}
+use Rattle.party_life.specs.Life.{replayed, following, fault}
+use Rattle.board_calls.specs.Calls.{setUpAnswer, setUpOf}
+use Rattle.board_calls.specs.Restore.{recordFits, Replay, replayFrom, onPlanRead, restoreQuestions}
 use Rattle.range_as_path.specs.Twin.{TwinPlans, TwinParties, TwinRan, TwinFound, both, neither, TwinReplay, TwinSetUp, set-up, not-set-up, restored, not-restored, TwinRestore}
-use Rattle.range_as_path.proofs.Twins.{twin-started, twin-replayed, twin-following, twin-resting, twin-new}
+use Rattle.range_as_path.proofs.Twins.{twin-fault, twin-replayed, twin-following, twin-resting, twin-new}
 use Rattle.range_as_path.proofs.Calls.{twin-ask}
 
 -- ---- plans
@@ -30,11 +30,7 @@ use Rattle.range_as_path.proofs.Calls.{twin-ask}
 -- questions 1 to 3, then the plan
 pub twin-settled : (n t own : ℕ) (s s′ : List ℕ) → TwinFound TwinPlans (planOf s) (planOf s′) → TwinFound TwinPlans (settledPlan n t own s) (settledPlan n t own s′)
 unfolding settledPlan
-twin-settled n t own s s′ w =
-    let a = twin-ask (ltb own n) (ltb own n) refl 3 0 (planOf s) (planOf s′) w in
-    let b = twin-ask (ltb (3 * t) n) (ltb (3 * t) n) refl 2 0 (ask (ltb own n) 3 0 (planOf s)) (ask (ltb own n) 3 0 (planOf s′)) a in
-    twin-ask (leb 1 n && leb n maxBoards) (leb 1 n && leb n maxBoards) refl 1 0
-    (ask (ltb (3 * t) n) 2 0 (ask (ltb own n) 3 0 (planOf s))) (ask (ltb (3 * t) n) 2 0 (ask (ltb own n) 3 0 (planOf s′))) b
+twin-settled n t own s s′ w = twin-ask (settingsFit n t own) (settingsFit n t own) refl (settingsFault n t own) 0 (planOf s) (planOf s′) w
 
 twin-set-up : (n t own agreement : ℕ) (a b : Found Plan) → TwinFound TwinPlans a b → TwinSetUp (setUpAnswer n t own agreement a) (setUpAnswer n t own agreement b)
 twin-set-up n t own agreement a b (both {a = r} {b = q} w) = set-up (twin-new n t own agreement r q w)
@@ -47,15 +43,9 @@ twin-setUp n t own agreement s s′ w = twin-set-up n t own agreement (settledPl
 -- ---- records
 
 twin-record : (p p′ : Party) → TwinParties p p′ → (at : ℕ) (r : Record) (a b : Found Replay) → TwinFound TwinReplay a b → TwinFound TwinReplay (recordFits p at r a) (recordFits p′ at r b)
-twin-record p p′ w at (Start c x) a b h =
-    let d = twin-ask (ltb x (p .plan .count)) (ltb x (p′ .plan .count)) (ap (ltb x) (w .plans .count)) 12 at a b h in
-    let e = twin-ask (not (started p)) (not (started p′)) (ap not (twin-started p p′ w)) 13 at (ask (ltb x (p .plan .count)) 12 at a) (ask (ltb x (p′ .plan .count)) 12 at b) d in
-    twin-ask (eqb c (p .agreement)) (eqb c (p′ .agreement)) (ap (eqb c) (w .agreement)) 16 at
-    (ask (not (started p)) 13 at (ask (ltb x (p .plan .count)) 12 at a)) (ask (not (started p′)) 13 at (ask (ltb x (p′ .plan .count)) 12 at b)) e
-twin-record p p′ w at (Taken s m) a b h =
-    let d = twin-ask (ltb s (p .n)) (ltb s (p′ .n)) (ap (ltb s) (w .n)) 14 at a b h in
-    twin-ask (eqb (m .number) (p .agreement)) (eqb (m .number) (p′ .agreement)) (ap (eqb (m .number)) (w .agreement)) 16 at
-    (ask (ltb s (p .n)) 14 at a) (ask (ltb s (p′ .n)) 14 at b) d
+twin-record p p′ w at r a b h =
+    subst (λ (k : ℕ). TwinFound TwinReplay (recordFits p at r a) (ask (eqb k 0) k at b)) (twin-fault p p′ w r)
+    (twin-ask (eqb (fault p r) 0) (eqb (fault p r) 0) refl (fault p r) at a b h)
 
 -- the records from `at` on, after twin runs
 pub twin-replay : (f : ℕ) (j : List ℕ) (at : ℕ) (a b : Ran) → TwinRan a b → TwinFound TwinReplay (replayFrom f j at a) (replayFrom f j at b)

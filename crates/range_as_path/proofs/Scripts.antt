@@ -4,7 +4,7 @@ use mathlib.Core.List.{List, [], _∷_}
 use Prim.Native.Nat.{ℕ}
 use lib.ListN.{length}
 use Rattle.plan.specs.Positions.{readingOf}
-use Rattle.board.specs.Calls.{startQuestions, takeQuestions, calledOf, journalAfter}
+use Rattle.board_calls.specs.Calls.{startQuestions, takeQuestions, calledOf, journalAfter}
 use Rattle.range_as_path.specs.Twin.{TwinParties, TwinFound, TwinEntry, TwinCall}
 use Rattle.range_as_path.specs.Script.{Ask, start-at, take-from, Desk, lent, asked, served, after, TwinDesks, SameNext}
 use Rattle.range_as_path.proofs.Positions.{twin-input}

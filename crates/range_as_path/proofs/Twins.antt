@@ -1,10 +1,11 @@
 -- Twin parties: whatever they do, they stay twins, apply as many rules and make the same messages.
 use mathlib.Core.Path.{_≡_, refl, sym, ap, ap₂, _∙_, subst}
 use mathlib.Core.Logic.{_↔_}
-use mathlib.Core.Bool.{Bool}
+use mathlib.Core.Bool.{_&&_}
 use mathlib.Core.List.{List, [], _∷_}
-use Prim.Native.Nat.{ℕ, _+_, _<_}
-use lib.Dec.{T}
+use Prim.Native.Nat.{ℕ, _+_}
+use lib.Dec.{T, ltb, eqb}
+use Rattle.base.specs.Pick.{pick}
 use Rattle.base.specs.Limits.{maxRules}
 use Rattle.base.proofs.Bools.{T→true}
 use Rattle.plan.specs.declared.Plan.{Plan}
@@ -17,7 +18,7 @@ use Rattle.party.specs.declared.Party.{Party}
 use Rattle.party.specs.Party.{levelAt, componentOf, sending, contextOf, started, entered, heldBy, hearing, outputOf, newParty}
 use Rattle.party.specs.Run.{Ran, ruleAt, openAt, openLevel, stepAt, resting, runUpTo, run, starting, taking}
 use Rattle.party.specs.Valid.{partyValid}
-use Rattle.party_life.specs.Life.{replayed, following, lived, Fits, Life}
+use Rattle.party_life.specs.Life.{replayed, following, lived, fault, tabled, passes, Fits, Life}
 use Rattle.range_as_path.specs.Twin.{TwinPlans, TwinParties, TwinRan}
 use Rattle.range_as_path.proofs.Geometry.{Alike, twin-alike}
 use Rattle.range_as_path.proofs.Parties.{retold, retoldRan, retold-component, retold-sending, retold-context, retold-rule, retold-open, retold-lowest, retold-entered, retold-hearing, retold-step, retold-runs, retold-starting, retold-taking, step-plan, entered-plan, hearing-plan, runs-plan, starting-plan, taking-plan}
@@ -139,17 +140,16 @@ twin-lived p p′ w (r ∷ rs) =
     twin-following (lived p rs) (lived p′ rs) (replayed (lived p rs .party) r) (replayed (lived p′ rs .party) r) h
     (twin-replayed (lived p rs .party) (lived p′ rs .party) (h .party) r)
 
+-- the same question of a record fails
+pub twin-fault : (p p′ : Party) → TwinParties p p′ → (r : Record) → fault p r ≡ fault p′ r
+twin-fault p p′ w (Start a x) = λ z. pick (eqb a (w .agreement z)) (pick (twin-started p p′ w z) 13 (pick (ltb x (w .plans .count z)) 0 12)) 16
+twin-fault p p′ w (Taken s m) = λ z. pick (eqb (m .number) (w .agreement z)) (pick (ltb s (w .n z)) 0 14) 16
+
 -- the same records fit
 pub twin-fits : (p p′ : Party) → TwinParties p p′ → (r : Record) → Fits p r ↔ Fits p′ r
-twin-fits p p′ w (Start a x) = (
-  λ (e, d, l). (e ∙ w .agreement, subst (λ (b : Bool). T b → ⊥) (twin-started p p′ w) d, subst (λ (n : ℕ). x < n) (w .plans .count) l),
-  λ (e, d, l).
-      (e ∙ sym (w .agreement), subst (λ (b : Bool). T b → ⊥) (sym (twin-started p p′ w)) d, subst (λ (n : ℕ). x < n) (sym (w .plans .count)) l),
-)
-twin-fits p p′ w (Taken s m) = (
-  λ (e, l, h). (e ∙ w .agreement, subst (λ (n : ℕ). s < n) (w .n) l, h),
-  λ (e, l, h). (e ∙ sym (w .agreement), subst (λ (n : ℕ). s < n) (sym (w .n)) l, h),
-)
+twin-fits p p′ w r =
+    let e : passes p r ≡ passes p′ r = ap (λ (k : ℕ). eqb k 0 && tabled r) (twin-fault p p′ w r) in
+    (λ f. subst T e f, λ f. subst T (sym e) f)
 
 -- and make the same lives
 pub twin-life : (p p′ : Party) → TwinParties p p′ → (rs : List Record) → Life p rs ↔ Life p′ rs

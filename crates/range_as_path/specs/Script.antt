@@ -6,7 +6,7 @@ use lib.ListN.{length}
 use Rattle.base.specs.Found.{Found}
 use Rattle.plan.specs.Positions.{readingOf}
 use Rattle.party.specs.declared.Party.{Party}
-use Rattle.board.specs.Calls.{Entry, startQuestions, takeQuestions, calledOf, journalAfter, answeredOf}
+use Rattle.board_calls.specs.Calls.{Entry, startQuestions, takeQuestions, calledOf, journalAfter, answeredOf}
 use Rattle.range_as_path.specs.Twin.{TwinParties, TwinCall, TwinAnswered}
 
 -- a start at position x, or a message's bytes taken from a sender; the outgoing buffer is lent anew each time

@@ -18,13 +18,13 @@ use Rattle.plan.specs.Valid.{planValid}
 use Rattle.journal.specs.declared.Record.{Record}
 use Rattle.party.specs.declared.Party.{Party}
 use Rattle.party.specs.Run.{Ran}
-use Rattle.board.specs.declared.SetUp.{SetUp}
-use Rattle.board.specs.declared.Called.{Called}
-use Rattle.board.specs.declared.Answered.{Answered}
-use Rattle.board.specs.declared.Answer.{Answer}
-use Rattle.board.specs.Answers.{positionOf}
-use Rattle.board.specs.Calls.{Entry, again, fresh, noParty, setUpOf, startQuestions, takeQuestions, calledOf, journalAfter, outgoingAfter, answeredOf}
-use Rattle.board.specs.Restore.{Replay, restoreQuestions, restoredOf, restoreOutgoing}
+use Rattle.board_calls.specs.declared.SetUp.{SetUp}
+use Rattle.board_calls.specs.declared.Called.{Called}
+use Rattle.board_calls.specs.declared.Answered.{Answered}
+use Rattle.board_calls.specs.declared.Answer.{Answer}
+use Rattle.board_calls.specs.Answers.{positionOf}
+use Rattle.board_calls.specs.Calls.{Entry, again, fresh, noParty, setUpOf, startQuestions, takeQuestions, calledOf, journalAfter, outgoingAfter, answeredOf}
+use Rattle.board_calls.specs.Restore.{Replay, restoreQuestions, restoredOf, restoreOutgoing}
 
 -- ---- plans
 

@@ -21,9 +21,9 @@ use Rattle.party.specs.Party.{levelAt, withLevel, componentOf, sending, context
 use Rattle.party.specs.Run.{ruleAt, openAt, openLevel, afterRule, runUpTo, run, starting, taking}
 use Rattle.party.specs.Valid.{everyLevel, setsPass, levelPasses, partyValid}
 use Rattle.party_life.specs.Life.{replayed}
-use Rattle.board.specs.Answers.{positionOf}
-use Rattle.board.specs.Calls.{setUpOf, startQuestions, takeQuestions, answeredOf}
-use Rattle.board.specs.Restore.{replayFrom, restoreQuestions}
+use Rattle.board_calls.specs.Answers.{positionOf}
+use Rattle.board_calls.specs.Calls.{setUpOf, startQuestions, takeQuestions, answeredOf}
+use Rattle.board_calls.specs.Restore.{replayFrom, restoreQuestions}
 use Rattle.vectors_questions.specs.Rows.{Holds, Every, table}
 
 infixr 20 _and_

@@ -7,8 +7,8 @@ use Prim.Native.Nat.{ℕ}
 use lib.IntN.{ℤ, pos}
 use Rattle.base.specs.declared.Verdict.{Verdict}
 use Rattle.party.specs.declared.Party.{Party}
-use Rattle.board.specs.Calls.{setUpOf, startQuestions, takeQuestions, calledOf, answeredOf}
-use Rattle.board.specs.Restore.{restoreQuestions, restoredOf}
+use Rattle.board_calls.specs.Calls.{setUpOf, startQuestions, takeQuestions, calledOf, answeredOf}
+use Rattle.board_calls.specs.Restore.{restoreQuestions, restoredOf}
 
 -- a call for agreement 1
 pub data Call : Type 0 where
