@@ -1,24 +1,22 @@
 // A vote on the bench: boards, readings and messages from a script on standard input.
+use bench_settings::Settings;
+use boards::Bench;
+use boards::JOURNALS;
 use libc::STDIN_FILENO;
 use script::Line;
 use script::Step;
-use settings::Settings;
-use vote::JOURNALS;
-use vote::Vote;
 
+mod boards;
 mod print;
-mod settings;
-mod vote;
-mod wire;
 
-// The vote, the line that is being read, and whether there may be more of it.
+// The bench, the line that is being read, and whether there may be more of it.
 struct Reader {
-    vote: Vote,
+    bench: Bench,
     line: Line,
     open: bool,
 }
 
-// Does a line say a step? (For one that does not, the vote is not even copied.)
+// Does a line say a step? (For one that does not, the bench is not even copied.)
 fn readable(step: Step) -> bool {
     if let Step::Unreadable = step {
         false
@@ -32,7 +30,7 @@ fn read_lines(
     r: Reader,
     s: &[u8],
     journals: &mut [u8; JOURNALS],
-    wire: &mut [u8; wire::SIZE],
+    wire: &mut [u8; bench_wire::SIZE],
 ) -> Reader {
     let mut next = r;
     let mut at: usize = 0;
@@ -43,23 +41,27 @@ fn read_lines(
         next.line = line;
         let step = found.step;
         if readable(step) {
-            let v = next.vote;
-            next.vote = v.step(step, journals, wire);
+            let v = next.bench;
+            next.bench = v.step(step, journals, wire);
         }
     }
     next
 }
 
 // One read of standard input. Where it brings nothing, the last line ends, which may lack its newline.
-fn read_some(r: Reader, journals: &mut [u8; JOURNALS], wire: &mut [u8; wire::SIZE]) -> Reader {
+fn read_some(
+    r: Reader,
+    journals: &mut [u8; JOURNALS],
+    wire: &mut [u8; bench_wire::SIZE],
+) -> Reader {
     let mut buf = io::buffer();
     let got = libc::read(STDIN_FILENO, &mut buf);
     let n = io::count(got, &buf);
     if n == 0 {
-        let v = r.vote;
+        let v = r.bench;
         let line = r.line;
         return Reader {
-            vote: v.step(line.step(), journals, wire),
+            bench: v.step(line.step(), journals, wire),
             line: Line::blank(),
             open: false,
         };
@@ -70,11 +72,11 @@ fn read_some(r: Reader, journals: &mut [u8; JOURNALS], wire: &mut [u8; wire::SIZ
 // A proved loop has to end, and nothing says that the input does: the turns are counted down from a number that no run uses up.
 fn main() {
     let mut journals = [0u8; JOURNALS];
-    let mut wire = [0u8; wire::SIZE];
-    let vote = Vote::new(Settings::blank());
+    let mut wire = [0u8; bench_wire::SIZE];
+    let first = Bench::new(Settings::blank());
     let blank = Line::blank();
     let mut r = Reader {
-        vote: vote,
+        bench: first,
         line: blank,
         open: true,
     };
@@ -83,7 +85,7 @@ fn main() {
         r = read_some(r, &mut journals, &mut wire);
         turns -= 1;
     }
-    let last = r.vote;
+    let last = r.bench;
     print::totals(last.settings, last.sent);
     print::boards(last);
 }

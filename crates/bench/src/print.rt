@@ -1,7 +1,7 @@
 // What the program prints in the end.
-use crate::settings::Settings;
-use crate::vote::BOARDS;
-use crate::vote::Vote;
+use crate::boards::BOARDS;
+use crate::boards::Bench;
+use bench_settings::Settings;
 use libc::STDOUT_FILENO;
 ghost use Prim.Native.Nat.{_^_, _<_};
 
@@ -61,7 +61,7 @@ pub fn totals(s: Settings, sent: usize) {
 }
 
 // A line for each board.
-pub fn boards(v: Vote) {
+pub fn boards(v: Bench) {
     let s = v.settings;
     let mut i: usize = 0;
     while i < BOARDS {

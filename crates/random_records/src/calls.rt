@@ -1,5 +1,7 @@
 // A call as the state describes it, made on the library and on the second implementation.
 use party::Party;
+use random_buffers::OUTGOING;
+use random_calls::word;
 use random_records_draw::state;
 use random_records_draw::state::State;
 use second::Outcome;
@@ -7,13 +9,6 @@ use second::Voter;
 use second_wire::num;
 use second_wire::num::Room;
 use second_wire::wire;
-
-// The journal of an implementation, and its outgoing buffer.
-pub type Journal = [u8; state::JOURNAL];
-
-pub const OUTGOING: usize = 2700;
-
-pub type Out = [u8; OUTGOING];
 
 // A start's input: the reading of its position.
 fn input(s: &State) -> i64 {
@@ -44,7 +39,7 @@ fn first_take_of(
     journal: &mut [u8],
     out: &mut [u8],
 ) -> board::Called {
-    let sender = random_records_sheet::word(state::get(s, state::SENDER));
+    let sender = word(state::get(s, state::SENDER));
     let used = state::get(s, state::USED);
     let room = &whole[..];
     if room.len() < length {
@@ -68,17 +63,16 @@ fn first_on(p: Party, s: &State, journal: &mut [u8], out: &mut [u8]) -> board::C
     first_take(p, s, journal, out)
 }
 
-// The call on what is lent of the journal and of the outgoing buffer.
-pub fn make_first(p: Party, s: &State, journal: &mut [u8], out: &mut [u8]) -> board::Called {
+// The call on what is lent of its journal and of its outgoing buffer.
+pub fn make_first(p: Party, s: &State, journals: &mut [u8], out: &mut [u8]) -> board::Called {
     let room = state::get(s, state::ROOM);
     let o = state::get(s, state::OUT_ROOM);
-    if journal.len() < room {
-        return first_on(p, s, journal, out);
+    if room <= journals.len() {
+        if o <= out.len() {
+            return first_on(p, s, &mut journals[0..room], &mut out[0..o]);
+        }
     }
-    if out.len() < o {
-        return first_on(p, s, journal, out);
-    }
-    first_on(p, s, &mut journal[0..room], &mut out[0..o])
+    first_on(p, s, journals, out)
 }
 
 // ---- the second implementation
@@ -104,7 +98,7 @@ fn second_take_of(
     journal: &mut [u8],
     out: &mut [u8],
 ) -> Outcome {
-    let sender = random_records_sheet::word(state::get(s, state::SENDER));
+    let sender = word(state::get(s, state::SENDER));
     let used = state::get(s, state::USED);
     let room = &whole[..];
     if room.len() < length {
@@ -128,18 +122,37 @@ fn second_on(v: Voter, s: &State, journal: &mut [u8], out: &mut [u8]) -> Outcome
     second_take(v, s, journal, out)
 }
 
-// The call on what is lent, unless question 19 of the record gave a number.
-pub fn make_second(v: Voter, asked: u32, s: &State, journal: &mut [u8], out: &mut [u8]) -> Outcome {
+// The same of the second implementation, whose buffers stand after the library's.
+fn lend_second(v: Voter, s: &State, journals: &mut [u8], out: &mut [u8]) -> Outcome {
+    let room = num::add(state::JOURNAL, state::get(s, state::ROOM));
+    let o = num::add(OUTGOING, state::get(s, state::OUT_ROOM));
+    if state::JOURNAL <= room {
+        if room <= journals.len() {
+            if OUTGOING <= o {
+                if o <= out.len() {
+                    return second_on(
+                        v,
+                        s,
+                        &mut journals[state::JOURNAL..room],
+                        &mut out[OUTGOING..o],
+                    );
+                }
+            }
+        }
+    }
+    second_on(v, s, journals, out)
+}
+
+// The call, unless question 19 of the record gave a number.
+pub fn make_second(
+    v: Voter,
+    asked: u32,
+    s: &State,
+    journals: &mut [u8],
+    out: &mut [u8],
+) -> Outcome {
     if asked != 0 {
         return refused(v, asked, state::get(s, state::USED));
     }
-    let room = state::get(s, state::ROOM);
-    let o = state::get(s, state::OUT_ROOM);
-    if journal.len() < room {
-        return second_on(v, s, journal, out);
-    }
-    if out.len() < o {
-        return second_on(v, s, journal, out);
-    }
-    second_on(v, s, &mut journal[0..room], &mut out[0..o])
+    lend_second(v, s, journals, out)
 }

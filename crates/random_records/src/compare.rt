@@ -1,38 +1,16 @@
 // What the two implementations gave is compared.
-use crate::calls;
+use crate::both::Journals;
 use party::Party;
+use random_buffers::OUTGOING;
+use random_buffers::Out;
+use random_calls::number_of;
+use random_calls::wide;
 use random_records_draw::state;
 use random_records_draw::state::State;
 use second::Voter;
+use second_plan::table;
+use second_plan::table::Table;
 use second_wire::num;
-use second_wire::table;
-use second_wire::table::Table;
-
-// A byte as a number.
-fn wide(x: u8) -> usize {
-    x as usize
-}
-
-// A u32 as a number.
-pub fn wide_word(x: u32) -> usize {
-    x as usize
-}
-
-// A verdict's number, 0 if it is none.
-pub fn number_of(v: base::Verdict) -> usize {
-    match v {
-        base::Verdict::Accepted => 0,
-        base::Verdict::Refused(number, _) => wide(number),
-    }
-}
-
-// A verdict's place, 0 if it has none.
-pub fn place_of(v: base::Verdict) -> usize {
-    match v {
-        base::Verdict::Accepted => 0,
-        base::Verdict::Refused(_, place) => place,
-    }
-}
 
 // Number, place, used length, sent bytes and rules of a call are noted.
 pub fn note(
@@ -61,21 +39,12 @@ fn is_same_result(s: &State) -> bool {
     true
 }
 
-// Whether two buffers are the same to before `to`.
-fn is_same_bytes(a: &[u8], b: &[u8], to: usize) -> bool {
-    for i in 0..to {
-        if num::byte_at(a, i) != num::byte_at(b, i) {
-            return false;
-        }
-    }
-    true
-}
-
 // Whether results, lent journals and whole outgoing buffers are the same.
-pub fn is_same_call(s: &State, ja: &[u8], jb: &[u8], oa: &[u8], ob: &[u8]) -> bool {
+pub fn is_same_call(s: &State, journals: &Journals, out: &Out) -> bool {
     if is_same_result(s) {
-        if is_same_bytes(ja, jb, state::get(s, state::ROOM)) {
-            return is_same_bytes(oa, ob, calls::OUTGOING);
+        let room = state::get(s, state::ROOM);
+        if random_buffers::is_same(journals, state::JOURNAL, 0, room) {
+            return random_buffers::is_same(out, OUTGOING, 0, OUTGOING);
         }
     }
     false
@@ -102,7 +71,7 @@ pub fn is_same_reading(p: Party, v: Voter, asked: u32) -> bool {
     let r = board::read_answer(p);
     let verdict = r.verdict;
     let answer = r.answer;
-    if number_of(verdict) != wide_word(asked) {
+    if number_of(verdict) != wide(asked) {
         return false;
     }
     if asked != 0 {

@@ -1,61 +1,66 @@
 // What the run came to, in lines.
-use libc::STDOUT_FILENO;
 use random_records_draw::change;
 use random_records_draw::state;
 use random_records_draw::state::State;
+use random_report::end;
+use random_report::line;
+use random_report::number;
+use random_report::row;
+use random_report::text;
 use second_wire::num;
 
-// Writes words.
-pub fn text(words: &[u8]) {
-    io::write_all(STDOUT_FILENO, words);
-}
-
-// A number for printing.
-fn wide(x: usize) -> u64 {
-    x as u64
-}
-
-// Writes a space and a number.
-fn number(x: usize) {
-    text(b" ");
-    io::print_decimal(STDOUT_FILENO, wide(x));
-}
-
-// Ends a line.
-fn end() {
-    text(b"\n");
-}
-
-// A count after its name.
-pub fn line(s: &State, words: &[u8], i: usize) {
-    text(words);
-    number(state::get(s, i));
-    end();
-}
-
-// The name of a kind of change.
-fn write_kind(kind: usize) {
+// The names of kinds of changes, a few in a function: one with all of them is dear to prove.
+fn write_setting_kind(kind: usize) {
     match kind {
         0 => text(b"several:"),
         1 => text(b"n:"),
         2 => text(b"t:"),
         3 => text(b"own number:"),
-        4 => text(b"agreement number:"),
+        _ => text(b"agreement number:"),
+    }
+}
+
+// Of the plan.
+fn write_plan_kind(kind: usize) {
+    match kind {
         5 => text(b"plan kind:"),
         6 => text(b"positions:"),
         7 => text(b"low reading:"),
         8 => text(b"plan row:"),
-        9 => text(b"unused plan row:"),
+        _ => text(b"unused plan row:"),
+    }
+}
+
+// Of senders, outputs and entries.
+fn write_level_kind(kind: usize) {
+    match kind {
         10 => text(b"set of senders:"),
         11 => text(b"many sets of senders:"),
         12 => text(b"output:"),
         13 => text(b"entered:"),
-        14 => text(b"side:"),
+        _ => text(b"side:"),
+    }
+}
+
+// Of positions and results.
+fn write_result_kind(kind: usize) {
+    match kind {
         15 => text(b"position:"),
         16 => text(b"first result:"),
         17 => text(b"second result:"),
         18 => text(b"flags and proposals:"),
         _ => text(b"level entered:"),
+    }
+}
+
+// The name of a kind of change.
+fn write_kind(kind: usize) {
+    let group = kind / 5;
+    match group {
+        0 => write_setting_kind(kind),
+        1 => write_plan_kind(kind),
+        2 => write_level_kind(kind),
+        _ => write_result_kind(kind),
     }
 }
 
@@ -76,30 +81,45 @@ fn write_all_changes(s: &State) {
     }
 }
 
-// So many counts of an area, each after its number.
-fn row(s: &State, words: &[u8], area: usize, last: usize) {
-    text(words);
-    for i in 0..last {
-        number(i);
-        text(b":");
-        number(state::get(s, num::add(area, i)));
-    }
-    end();
+// The seed of a run.
+pub fn write_seed(s: &State) {
+    line(s, b"seed", state::SEED);
 }
 
-// The run.
-pub fn write(s: &State) {
+// How many records there were.
+fn write_records(s: &State) {
     line(s, b"votes", state::VOTES);
     line(s, b"records of refused set-ups", state::SET_UPS);
     line(s, b"records of refused restores", state::RESTORES);
     line(s, b"records changed", state::RECORDS);
-    write_all_changes(s);
-    row(s, b"by levels entered:", state::DEPTHS, 17);
+}
+
+// What was called.
+fn write_calls(s: &State) {
+    row(s, b"by levels entered:", state::DEPTHS, 0, 17);
     line(s, b"calls compared", state::CALLS);
     line(s, b"of these on changed records", state::CHANGED_CALLS);
-    row(s, b"accepted or refused by question:", state::REFUSED, 21);
+    row(
+        s,
+        b"accepted or refused by question:",
+        state::REFUSED,
+        0,
+        21,
+    );
+}
+
+// What came of it.
+fn write_ends(s: &State) {
     line(s, b"rules applied on changed records", state::RULES);
     line(s, b"most rules in a call on one", state::MOST);
     line(s, b"records compared as a whole", state::TABLES);
     line(s, b"differences", state::DIFFERENCES);
+}
+
+// The run.
+pub fn write(s: &State) {
+    write_records(s);
+    write_all_changes(s);
+    write_calls(s);
+    write_ends(s);
 }

@@ -2,11 +2,11 @@
 // table of the second implementation says where the limits of a level are.
 use crate::state;
 use crate::state::State;
-use second_inspect::sheet;
-use second_inspect::sheet::Sheet;
+use second_plan::table;
+use second_plan::table::Table;
+use second_sheet::sheet;
+use second_sheet::sheet::Sheet;
 use second_wire::num;
-use second_wire::table;
-use second_wire::table::Table;
 
 // The kinds of changes: 1 to 7 are the numbers of the vote's row, each named in the report.
 pub const KINDS: usize = 19;
@@ -56,7 +56,7 @@ fn count_limit(s: &mut State, x: &Sheet) -> usize {
 
 // A limit of the low reading.
 fn low_limit(s: &mut State, x: &Sheet) -> usize {
-    if of_vote(x, sheet::KIND) == second_wire::plan::RANGE {
+    if of_vote(x, sheet::KIND) == second_plan::plans::RANGE {
         return num::less(4294967296, of_vote(x, sheet::COUNT));
     }
     state::below(s, 2)
@@ -121,7 +121,7 @@ fn change_row(s: &mut State, x: &mut Sheet) {
 
 // The first unused row of the plan; a range uses none.
 fn first_unused(x: &Sheet) -> usize {
-    if of_vote(x, sheet::KIND) == second_wire::plan::RANGE {
+    if of_vote(x, sheet::KIND) == second_plan::plans::RANGE {
         return 0;
     }
     num::less(of_vote(x, sheet::COUNT), 1)

@@ -1,7 +1,6 @@
 // Random plans, as bytes.
 use crate::state;
 use crate::state::State;
-use second_inspect::part;
 use second_wire::group;
 use second_wire::num;
 use second_wire::num::Room;
@@ -61,7 +60,7 @@ fn draw_tree(s: &mut State, room: &mut Room) -> usize {
     let shape = state::below(s, 4);
     let count = vertices(s, shape);
     state::set(s, state::LAST, num::less(count, 1));
-    state::set(s, state::BASE, second_wire::plan::ZERO);
+    state::set(s, state::BASE, second_plan::plans::ZERO);
     let at = group::write(room, 0, 1);
     let from = group::write(room, at, count);
     let turned = state::once_in(s, 2);
@@ -93,7 +92,7 @@ fn low(s: &mut State, width: usize) -> usize {
     match how {
         0 => 0,
         1 => num::less(4294967295, width),
-        _ => num::add(second_wire::plan::ZERO - 5, state::below(s, 10)),
+        _ => num::add(second_plan::plans::ZERO - 5, state::below(s, 10)),
     }
 }
 
@@ -102,7 +101,7 @@ fn draw_range(s: &mut State, room: &mut Room, w: usize) -> usize {
     let l = low(s, w);
     state::set(s, state::LAST, w);
     state::set(s, state::BASE, l);
-    part::spell_range(room, l, w)
+    second_plan::plans::spell_range(room, l, w)
 }
 
 // A plan in the room; its length.

@@ -2,8 +2,8 @@
 use level::Level;
 use party::Party;
 use plan::Plan;
-use second_inspect::sheet;
-use second_inspect::sheet::Sheet;
+use second_sheet::sheet;
+use second_sheet::sheet::Sheet;
 use second_wire::num;
 use second_wire::wire;
 

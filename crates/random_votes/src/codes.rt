@@ -4,24 +4,9 @@ use random_votes_state::state;
 use random_votes_state::state::State;
 use second_wire::num;
 
-// A number as a u32, without what does not fit.
-pub fn word(x: usize) -> u32 {
-    (x % 4294967296) as u32
-}
-
-// The same as a byte.
+// A number as a byte, without what does not fit.
 fn byte(x: usize) -> u8 {
     (x % 256) as u8
-}
-
-// A byte as a number.
-fn wide(x: u8) -> usize {
-    x as usize
-}
-
-// A u32 as a number.
-pub fn wide_word(x: u32) -> usize {
-    x as usize
 }
 
 // -1-m of a small m.
@@ -79,32 +64,19 @@ pub fn of_found(f: second::Found) -> usize {
     0
 }
 
-// A verdict's number, 0 if it is none.
-pub fn number_of(v: base::Verdict) -> usize {
-    match v {
-        base::Verdict::Accepted => 0,
-        base::Verdict::Refused(number, _) => wide(number),
-    }
-}
-
-// A verdict's place, 0 if it has none.
-pub fn place_of(v: base::Verdict) -> usize {
-    match v {
-        base::Verdict::Accepted => 0,
-        base::Verdict::Refused(_, place) => place,
-    }
-}
+// The most bytes of a plan or a message.
+pub const MOST: usize = 1280;
 
 // A number of an area becomes a byte.
-fn load_byte(s: &State, area: usize, i: usize, bytes: &mut [u8; 1280]) {
-    if i < 1280 {
+fn load_byte(s: &State, area: usize, i: usize, bytes: &mut [u8; MOST]) {
+    if i < MOST {
         bytes[i] = byte(state::of(s, area, i));
     }
 }
 
 // The first bytes of an area.
-pub fn load(s: &State, area: usize, length: usize) -> [u8; 1280] {
-    let mut bytes = [0u8; 1280];
+pub fn load(s: &State, area: usize, length: usize) -> [u8; MOST] {
+    let mut bytes = [0u8; MOST];
     for i in 0..length {
         load_byte(s, area, i, &mut bytes);
     }

@@ -1,6 +1,8 @@
 // Document 01's cases at the limits: boards, faults, vertices and width, on both implementations.
 use crate::calls;
-use crate::report;
+use random_report::end;
+use random_report::number;
+use random_report::text;
 use random_votes_draw::plans;
 use random_votes_judge::judge;
 use random_votes_state::call;
@@ -9,15 +11,15 @@ use random_votes_state::state::State;
 
 // The number and place of a refusal, or that there was none.
 fn write_result(s: &State, area: usize) {
-    let number = state::of(s, area, call::NUMBER);
-    if number == 0 {
-        report::text(b" accepted");
+    let refusal = state::of(s, area, call::NUMBER);
+    if refusal == 0 {
+        text(b" accepted");
         return;
     }
-    report::text(b" refused");
-    report::number(number);
-    report::text(b" at");
-    report::number(state::of(s, area, call::PLACE));
+    text(b" refused");
+    number(refusal);
+    text(b" at");
+    number(state::of(s, area, call::PLACE));
 }
 
 // The set-up on both, and what they gave.
@@ -25,13 +27,13 @@ fn set_up(s: &mut State, words: &[u8], limit: usize) {
     judge::clear(s);
     state::set(s, state::CALL, call::SET_UP);
     calls::try_set_up(s);
-    report::text(words);
-    report::number(limit);
-    report::text(b":");
+    text(words);
+    number(limit);
+    text(b":");
     write_result(s, state::FIRST);
-    report::text(b",");
+    text(b",");
     write_result(s, state::SECOND);
-    report::end();
+    end();
 }
 
 // Boards and faults.

@@ -1,46 +1,11 @@
 // What the run came to, in lines.
-use libc::STDOUT_FILENO;
+use random_report::end;
+use random_report::line;
+use random_report::number;
+use random_report::row;
+use random_report::text;
 use random_votes_state::state;
 use random_votes_state::state::State;
-
-// Writes words.
-pub fn text(words: &[u8]) {
-    io::write_all(STDOUT_FILENO, words);
-}
-
-// A number for printing.
-fn wide(x: usize) -> u64 {
-    x as u64
-}
-
-// Writes a space and a number.
-pub fn number(x: usize) {
-    text(b" ");
-    io::print_decimal(STDOUT_FILENO, wide(x));
-}
-
-// Ends a line.
-pub fn end() {
-    text(b"\n");
-}
-
-// A count after its name.
-pub fn line(s: &State, words: &[u8], i: usize) {
-    text(words);
-    number(state::get(s, i));
-    end();
-}
-
-// So many counts from a place on, each after its number.
-fn row(s: &State, words: &[u8], from: usize, first: usize, last: usize) {
-    text(words);
-    for i in first..last {
-        number(i);
-        text(b":");
-        number(state::of(s, from, i));
-    }
-    end();
-}
 
 // Something that must not be, and where it was first.
 fn fault(s: &State, words: &[u8], i: usize, first: usize) {
@@ -54,12 +19,16 @@ fn fault(s: &State, words: &[u8], i: usize, first: usize) {
     }
 }
 
-// What was called.
-pub fn write_calls(s: &State) {
+// How many votes and calls there were.
+fn write_votes(s: &State) {
     line(s, b"votes", state::VOTES);
     line(s, b"votes on the widest range", state::WIDE_RANGES);
     line(s, b"votes on a tree of 255 vertices", state::LARGE_TREES);
     line(s, b"calls compared", state::CALLS);
+}
+
+// What was called.
+fn write_calls(s: &State) {
     row(
         s,
         b"accepted set-up, start, take, reading, restore:",
@@ -71,7 +40,7 @@ pub fn write_calls(s: &State) {
 }
 
 // What rules did in starts and takes.
-pub fn write_rules(s: &State) {
+fn write_rules(s: &State) {
     row(s, b"rules applied by boards:", state::BOARD_RULES, 1, 15);
     row(s, b"rules applied by the bench:", state::BENCH_RULES, 1, 15);
     row(s, b"levels entered by boards:", state::ENTERED, 0, 16);
@@ -79,7 +48,7 @@ pub fn write_rules(s: &State) {
 }
 
 // What was said and not said.
-pub fn write_messages(s: &State) {
+fn write_messages(s: &State) {
     row(s, b"messages handed over by kind:", state::KINDS, 1, 7);
     row(s, b"lies taken by level:", state::LIES_TAKEN, 0, 15);
     line(
@@ -91,18 +60,22 @@ pub fn write_messages(s: &State) {
 }
 
 // What happened to boards.
-pub fn write_events(s: &State) {
+fn write_cuts(s: &State) {
     line(s, b"cuts", state::CUTS);
     line(s, b"cuts after a reading", state::READ_CUTS);
     line(s, b"cuts while down", state::DOWN_CUTS);
     line(s, b"torn records dropped", state::TORN);
+}
+
+// How votes ended.
+fn write_ends(s: &State) {
     line(s, b"starts lost", state::LOST);
     line(s, b"answers", state::ANSWERS);
     line(s, b"votes with answers one edge apart", state::SPLIT_VOTES);
 }
 
 // What must be 0.
-pub fn write_faults(s: &State) {
+fn write_faults(s: &State) {
     fault(
         s,
         b"calls whose rules are not as many as reported",
@@ -121,4 +94,15 @@ pub fn write_faults(s: &State) {
         state::FAULTY_ANSWERS,
         state::FIRST_FAULT,
     );
+}
+
+// The run.
+pub fn write(s: &State) {
+    write_votes(s);
+    write_calls(s);
+    write_rules(s);
+    write_messages(s);
+    write_cuts(s);
+    write_ends(s);
+    write_faults(s);
 }

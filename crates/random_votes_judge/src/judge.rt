@@ -1,10 +1,10 @@
 // What a call did is compared, and what it leaves is kept.
 use crate::demand;
+use random_buffers::OUTGOING;
+use random_buffers::Out;
 use random_votes_seats::cuts;
-use random_votes_state::buffers;
-use random_votes_state::buffers::Journals;
-use random_votes_state::buffers::Out;
 use random_votes_state::call;
+use random_votes_state::call::Journals;
 use random_votes_state::pool;
 use random_votes_state::random;
 use random_votes_state::state;
@@ -28,12 +28,12 @@ fn is_same_result(s: &State) -> bool {
 }
 
 // Results, lent journals and whole outgoing buffers are the same.
-fn is_same(s: &State, ja: &[u8], jb: &[u8], oa: &[u8], ob: &[u8]) -> bool {
+fn is_same(s: &State, journals: &Journals, out: &Out) -> bool {
     if is_same_result(s) {
         let from = call::journal_at(state::get(s, state::SEAT));
         let to = num::add(from, state::get(s, state::ROOM));
-        if buffers::is_same(ja, jb, from, to) {
-            return buffers::is_same(oa, ob, 0, buffers::OUTGOING);
+        if random_buffers::is_same(journals, call::SECOND_JOURNALS, from, to) {
+            return random_buffers::is_same(out, OUTGOING, 0, OUTGOING);
         }
     }
     false
@@ -191,18 +191,18 @@ fn after_accepted(s: &mut State, out: &[u8], b: usize) {
 }
 
 // Compares what the two implementations gave, and keeps what the first did, where there was a call.
-pub fn judge(s: &mut State, ja: &Journals, jb: &Journals, oa: &Out, ob: &Out) {
+pub fn judge(s: &mut State, journals: &Journals, out: &Out) {
     if state::get(s, state::CALL) == call::NO_CALL {
         return;
     }
     state::count(s, state::CALLS);
-    if !is_same(s, ja, jb, oa, ob) {
+    if !is_same(s, journals, out) {
         difference(s);
     }
     let b = state::get(s, state::SEAT);
     let number = state::of(s, state::FIRST, call::NUMBER);
     if number == 0 {
-        after_accepted(s, oa, b);
+        after_accepted(s, out, b);
     } else {
         state::grow(s, num::add(state::REFUSED, number % 32), 1);
     }

@@ -1,5 +1,5 @@
 // Which rules a start or take applied, read off the library's party before and after it: each rule leaves its own mark in a level's record, once, but for rule 6.
-pub mod marks;
+pub mod traces;
 
 use level::Level;
 use party::Party;
@@ -11,18 +11,18 @@ use second_wire::num;
 // Rules 1 to 8 and 11 at a level.
 fn count_marks(s: &mut State, old: Level, new: Level) {
     for rule in 1..12 {
-        let more = num::less(marks::of(new, rule), marks::of(old, rule));
+        let more = num::less(traces::of(new, rule), traces::of(old, rule));
         state::grow(s, num::add(state::APPLIED, rule), more);
     }
 }
 
 // The rule that gave the output, but for rule 11, which is counted by its mark.
 fn count_output(s: &mut State, old: Level, new: Level, next: Level) {
-    if marks::has_output(old) {
+    if traces::has_output(old) {
         return;
     }
-    if marks::has_output(new) {
-        let rule = marks::output_rule(new, next);
+    if traces::has_output(new) {
+        let rule = traces::output_rule(new, next);
         if rule != 11 {
             state::grow(s, num::add(state::APPLIED, rule), 1);
         }
@@ -35,7 +35,7 @@ fn count_entry(s: &mut State, level: Level, old_next: Level, next: Level) {
         return;
     }
     if next.entered {
-        state::grow(s, num::add(state::APPLIED, marks::entry_rule(level)), 1);
+        state::grow(s, num::add(state::APPLIED, traces::entry_rule(level)), 1);
     }
 }
 
@@ -45,17 +45,6 @@ fn count_level(s: &mut State, old: Level, new: Level, old_next: Level, next: Lev
         count_marks(s, old, new);
         count_output(s, old, new, next);
         count_entry(s, new, old_next, next);
-    }
-}
-
-// The rules at all levels.
-fn count_levels(s: &mut State, p: Party, q: Party) {
-    for i in 0usize..15 {
-        let old = p.levels[i];
-        let new = q.levels[i];
-        let old_next = p.levels[i + 1];
-        let next = q.levels[i + 1];
-        count_level(s, old, new, old_next, next);
     }
 }
 
@@ -71,18 +60,37 @@ fn count_entered(s: &mut State, i: usize, old: Level, new: Level) {
 
 // The result is counted by its grade.
 fn count_grade(s: &mut State, old: Level, new: Level) {
-    if marks::of(old, 8) < marks::of(new, 8) {
-        state::grow(s, num::add(state::GRADES, marks::grade(new)), 1);
+    if traces::of(old, 8) < traces::of(new, 8) {
+        state::grow(s, num::add(state::GRADES, traces::grade(new)), 1);
     }
 }
 
-// The levels entered, and the results by their grade.
-fn count_reach(s: &mut State, p: Party, q: Party) {
-    for i in 0usize..16 {
+// Whether the level was entered, and its result by its grade.
+fn count_reach(s: &mut State, i: usize, old: Level, new: Level) {
+    count_entered(s, i, old, new);
+    count_grade(s, old, new);
+}
+
+// Level i of a seat whose party was p and is q: its rules and, for a board, what it reached.
+fn count_at(s: &mut State, p: Party, q: Party, i: usize, seat: usize) {
+    if i < 16 {
         let old = p.levels[i];
         let new = q.levels[i];
-        count_entered(s, i, old, new);
-        count_grade(s, old, new);
+        if seat != call::BENCH {
+            count_reach(s, i, old, new);
+        }
+        if i < 15 {
+            let old_next = p.levels[i + 1];
+            let next = q.levels[i + 1];
+            count_level(s, old, new, old_next, next);
+        }
+    }
+}
+
+// All levels.
+fn count_levels(s: &mut State, p: Party, q: Party, seat: usize) {
+    for i in 0..16 {
+        count_at(s, p, q, i, seat);
     }
 }
 
@@ -104,10 +112,9 @@ pub fn count(s: &mut State, p: Party, q: Party, seat: usize) -> bool {
     if reported == 0 {
         return true;
     }
-    count_levels(s, p, q);
+    count_levels(s, p, q, seat);
     if seat == call::BENCH {
         return book(s, state::BENCH_RULES) == reported;
     }
-    count_reach(s, p, q);
     book(s, state::BOARD_RULES) == reported
 }

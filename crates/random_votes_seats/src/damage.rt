@@ -1,54 +1,66 @@
 // Journals damaged in the same way for both implementations.
-use random_votes_state::buffers;
 use random_votes_state::call;
+use random_votes_state::call::Journals;
 use random_votes_state::random;
 use random_votes_state::state::State;
 use second_wire::num;
 
+// Both journals get the same byte.
+fn poke(journals: &mut Journals, at: usize, value: usize) {
+    random_buffers::poke_both(journals, call::SECOND_JOURNALS, at, value);
+}
+
 // A random byte in both journals of a seat.
-fn spoil(s: &mut State, a: &mut [u8], b: &mut [u8], seat: usize, length: usize) {
+fn spoil(s: &mut State, journals: &mut Journals, seat: usize, length: usize) {
     let at = num::add(call::journal_at(seat), random::below(s, length));
     let value = random::below(s, 256);
-    buffers::poke_both(a, b, at, value);
+    poke(journals, at, value);
 }
 
 // One byte, or two neighbours, become small numbers, which records begin with and hold.
-fn spoil_little(s: &mut State, a: &mut [u8], b: &mut [u8], seat: usize, length: usize) {
+fn spoil_little(s: &mut State, journals: &mut Journals, seat: usize, length: usize) {
     let at = num::add(call::journal_at(seat), random::below(s, length));
     let value = random::below(s, 20);
-    buffers::poke_both(a, b, at, value);
+    poke(journals, at, value);
     if random::once_in(s, 2) {
         let next = random::below(s, 20);
-        buffers::poke_both(a, b, num::next(at), next);
+        poke(journals, num::next(at), next);
     }
 }
 
+// So many bytes of both journals are copied within.
+pub fn copy(journals: &mut Journals, from: usize, to: usize, count: usize) {
+    random_buffers::move_both(journals, call::SECOND_JOURNALS, from, to, count);
+}
+
 // A few bytes past the end, or the journal's first bytes once more.
-fn lengthen(s: &mut State, a: &mut [u8], b: &mut [u8], seat: usize, length: usize) -> usize {
+fn lengthen(s: &mut State, journals: &mut Journals, seat: usize, length: usize) -> usize {
     let from = call::journal_at(seat);
     let to = num::add(from, length);
     let more = random::below(s, num::add(length % 64, 12));
-    buffers::move_within(a, from, to, more);
-    buffers::move_within(b, from, to, more);
+    copy(journals, from, to, more);
     num::add(length, more)
 }
 
 // Both journals of a seat are damaged in one way or none; their length then.
-pub fn damage(s: &mut State, a: &mut [u8], b: &mut [u8], seat: usize, length: usize) -> usize {
+pub fn damage(s: &mut State, journals: &mut Journals, seat: usize, length: usize) -> usize {
     let how = random::below(s, 6);
-    if how == 0 {
-        return random::below(s, num::next(length));
+    match how {
+        0 => random::below(s, num::next(length)),
+        1 => lengthen(s, journals, seat, length),
+        2 => length,
+        _ => {
+            spoil_some(s, journals, seat, length, how);
+            length
+        }
     }
-    if how == 1 {
-        return lengthen(s, a, b, seat, length);
-    }
-    if how == 2 {
-        return length;
-    }
+}
+
+// Any byte, or little ones.
+fn spoil_some(s: &mut State, journals: &mut Journals, seat: usize, length: usize, how: usize) {
     if how == 3 {
-        spoil(s, a, b, seat, length);
-        return length;
+        spoil(s, journals, seat, length);
+    } else {
+        spoil_little(s, journals, seat, length);
     }
-    spoil_little(s, a, b, seat, length);
-    length
 }

@@ -54,7 +54,12 @@ pub const ZERO: usize = 17179869184;
 // The bytes kept for a journal.
 pub const JOURNAL: usize = 24576;
 
-// Where a seat's journal begins.
+// The journals of all seats, and one unused, of the first implementation; those of the second so many places on.
+pub const SECOND_JOURNALS: usize = 18 * JOURNAL;
+
+pub type Journals = [u8; 2 * SECOND_JOURNALS];
+
+// Where a seat's journal begins, in the first implementation.
 pub fn journal_at(seat: usize) -> usize {
     if seat < 17 {
         return seat * JOURNAL;

@@ -1,5 +1,4 @@
-// What random votes are kept in: one table of numbers, pseudo-random numbers, journals and outgoing buffers, and the messages handed over.
-pub mod buffers;
+// What random votes are kept in: one table of numbers, pseudo-random numbers, and the messages handed over.
 pub mod call;
 pub mod pool;
 pub mod put;

@@ -3,8 +3,8 @@ use random_votes_draw::plans;
 use random_votes_seats::damage;
 use random_votes_seats::lies;
 use random_votes_seats::seats;
-use random_votes_state::buffers;
 use random_votes_state::call;
+use random_votes_state::call::Journals;
 use random_votes_state::pool;
 use random_votes_state::put;
 use random_votes_state::random;
@@ -115,13 +115,12 @@ fn bench_settings(s: &mut State, b: usize) -> usize {
 }
 
 // A restore from a board's journal, damaged.
-fn bench_journal(s: &mut State, a: &mut [u8], b: &mut [u8], board: usize) -> usize {
+fn bench_journal(s: &mut State, journals: &mut Journals, board: usize) -> usize {
     let used = state::of(s, state::USED, board);
     let from = call::journal_at(board);
     let to = call::journal_at(call::BENCH);
-    buffers::move_within(a, from, to, used);
-    buffers::move_within(b, from, to, used);
-    let length = damage::damage(s, a, b, call::BENCH, used);
+    damage::copy(journals, from, to, used);
+    let length = damage::damage(s, journals, call::BENCH, used);
     seats::own_settings(s, board);
     seats::plain(s, call::BENCH, call::RESTORE);
     seats::set_room(s, length);
@@ -203,13 +202,13 @@ pub fn bench_call(s: &mut State) -> usize {
 }
 
 // A call of the bench.
-pub fn bench(s: &mut State, a: &mut [u8], b: &mut [u8], board: usize) -> usize {
+pub fn bench(s: &mut State, journals: &mut Journals, board: usize) -> usize {
     let how = random::below(s, 8);
     if how < 3 {
         return bench_settings(s, board);
     }
     if how < 5 {
-        return bench_journal(s, a, b, board);
+        return bench_journal(s, journals, board);
     }
     bench_call(s)
 }

@@ -5,6 +5,7 @@ use random_votes_seats::cuts;
 use random_votes_seats::lies;
 use random_votes_seats::seats;
 use random_votes_state::call;
+use random_votes_state::call::Journals;
 use random_votes_state::pool;
 use random_votes_state::random;
 use random_votes_state::state;
@@ -89,7 +90,7 @@ fn play_board(s: &mut State, b: usize) -> usize {
 }
 
 // A random step of a board or of the bench.
-fn play(s: &mut State, ja: &mut [u8], jb: &mut [u8]) -> usize {
+fn play(s: &mut State, journals: &mut Journals) -> usize {
     let n = state::get(s, state::BOARDS);
     let b = random::below(s, n);
     if state::get(s, state::FLOOD) == 1 {
@@ -99,7 +100,7 @@ fn play(s: &mut State, ja: &mut [u8], jb: &mut [u8]) -> usize {
         return bench::bench_call(s);
     }
     if random::once_in(s, 16) {
-        return bench::bench(s, ja, jb, b);
+        return bench::bench(s, journals, b);
     }
     play_board(s, b)
 }
@@ -127,10 +128,10 @@ fn turns(s: &State, phase: usize) -> usize {
 }
 
 // The call of a turn of the phase.
-fn step(s: &mut State, phase: usize, turn: usize, ja: &mut [u8], jb: &mut [u8]) -> usize {
+fn step(s: &mut State, phase: usize, turn: usize, journals: &mut Journals) -> usize {
     match phase {
         0 => set_up_if(s, turn),
-        1 => play(s, ja, jb),
+        1 => play(s, journals),
         2 => deliver::deliver(s, turn),
         _ => deliver::read_last(s, turn),
     }
@@ -151,24 +152,24 @@ fn go_on(s: &mut State, phase: usize) {
 }
 
 // The seat of the next turn's call, or 17.
-fn next(s: &mut State, ja: &mut [u8], jb: &mut [u8]) -> usize {
+fn next(s: &mut State, journals: &mut Journals) -> usize {
     let phase = state::get(s, state::PHASE);
     let turn = state::get(s, state::TURN);
     if turn < turns(s, phase) {
         state::set(s, state::TURN, num::next(turn));
-        return step(s, phase, turn, ja, jb);
+        return step(s, phase, turn, journals);
     }
     go_on(s, phase);
     call::NOBODY
 }
 
 // The seat of the next call, or 17 at the end of the vote.
-pub fn seek(s: &mut State, ja: &mut [u8], jb: &mut [u8]) -> usize {
+pub fn seek(s: &mut State, journals: &mut Journals) -> usize {
     for _ in 0usize..100000 {
         if state::get(s, state::PHASE) == call::DONE {
             break;
         }
-        let b = next(s, ja, jb);
+        let b = next(s, journals);
         if b < 17 {
             return b;
         }

@@ -3,10 +3,12 @@ use mathlib.Core.Path.{_≡_, refl}
 use mathlib.Core.Bool.{true, false}
 use mathlib.Core.List.{List, [], _∷_, _++_}
 use Prim.Native.Nat.{ℕ}
-use Rattle.script.specs.declared.keyword.Command.the-variants.{Boards, Agreement, Range, Start, Give}
-use Rattle.script.specs.declared.number.Reading.{Reading}
+use Rattle.script_commands.specs.declared.Command.the-variants.{Boards, Agreement, Range, Start, Give}
+use Rattle.script_numbers.specs.declared.Reading.{Reading}
 use Rattle.script.specs.declared.Step.{Step}
-use Rattle.script.specs.Script.{spelling, same, commandOf, wordsFrom, allDigits, valueFrom, says}
+use Rattle.script_commands.specs.Commands.{spelling, same, commandOf}
+use Rattle.script_numbers.specs.Numbers.{allDigits, valueFrom}
+use Rattle.script.specs.Script.{wordsFrom, says}
 
 -- a line's bytes, and the step that it says
 pub record Sample : Type 0 where

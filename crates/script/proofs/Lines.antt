@@ -6,17 +6,20 @@ use mathlib.Core.Option.{none, some}
 use Prim.Native.Nat.{ℕ, zero, suc}
 use lib.Dec.{eqb}
 use Rattle.base.specs.Pick.{pick}
-use Rattle.script.specs.declared.keyword.Command.{Command}
-use Rattle.script.specs.declared.keyword.Command.the-variants.{Unknown, Boards, Agreement, Range, Start, Give}
-use Rattle.script.specs.declared.number.Number.{Number}
+use Rattle.script_commands.specs.declared.Command.{Command}
+use Rattle.script_commands.specs.declared.Command.the-variants.{Unknown, Boards, Agreement, Range, Start, Give}
+use Rattle.script_numbers.specs.declared.Number.{Number}
 use Rattle.script.specs.declared.Line.{Line}
-use Rattle.script.specs.declared.number.Reading.{Reading}
+use Rattle.script_numbers.specs.declared.Reading.{Reading}
 use Rattle.script.specs.declared.Step.{Step}
 use Rattle.script.specs.declared.Scanned.{Scanned}
-use Rattle.script.specs.Script.{isBlank, before, wordsFrom, commandOf, natural, signed, withOne, withTwo, stepOf, says}
-use Rattle.script.specs.Automaton.{noKeyword, commandNamed, noNumber, isNumber, isNatural, readingOf, noLine, lineWith, lineFrom, stepBy, lineStep, Tells, upTo, hasNewline, scanned, Scans}
-use Rattle.script.proofs.Numbers.{numberFrom, number-more, readNumber, number-read}
-use Rattle.script.proofs.Keywords.{keywordFrom, keyword-more, keyword-named}
+use Rattle.script_commands.specs.Commands.{commandOf}
+use Rattle.script.specs.Script.{isBlank, before, wordsFrom, natural, signed, withOne, withTwo, stepOf, says}
+use Rattle.script_commands.specs.Inner.{noKeyword, commandNamed}
+use Rattle.script_numbers.specs.Inner.{noNumber, isNumber, isNatural, readingOf}
+use Rattle.script.specs.Inner.{noLine, lineWith, lineFrom, stepBy, lineStep, Tells, upTo, hasNewline, scanned, Scans}
+use Rattle.script_numbers.proofs.Numbers.{numberFrom, number-more, readNumber, number-read}
+use Rattle.script_commands.proofs.Keywords.{keywordFrom, keyword-more, keyword-named}
 
 -- ---- a line of some words
 

@@ -1,13 +1,15 @@
 -- Document 01, "The bench program": what a line of the script says. A line is the bytes before its newline.
-use mathlib.Core.Bool.{Bool, true, false, not, _&&_, _||_}
+use mathlib.Core.Bool.{Bool, not, _||_}
 use mathlib.Core.List.{List, [], _∷_, _++_}
 use mathlib.Core.Option.{Option, none, some}
-use Prim.Native.Nat.{ℕ, _+_, _-_, _*_}
-use lib.Dec.{eqb, leb}
+use Prim.Native.Nat.{ℕ}
+use lib.Dec.{eqb}
 use Rattle.base.specs.Pick.{pick}
-use Rattle.script.specs.declared.keyword.Command.{Command}
-use Rattle.script.specs.declared.keyword.Command.the-variants.{Unknown, Boards, Agreement, Range, Start, Give}
-use Rattle.script.specs.declared.number.Reading.{Reading}
+use Rattle.script_commands.specs.declared.Command.{Command}
+use Rattle.script_commands.specs.declared.Command.the-variants.{Unknown, Boards, Agreement, Range, Start, Give}
+use Rattle.script_commands.specs.Commands.{commandOf}
+use Rattle.script_numbers.specs.declared.Reading.{Reading}
+use Rattle.script_numbers.specs.Numbers.{numberOf}
 use Rattle.script.specs.declared.Step.{Step}
 
 -- ---- words
@@ -29,65 +31,6 @@ wordsFrom w (b ∷ s) = pick (isBlank b) (before w (wordsFrom [] s)) (wordsFrom 
 -- the words of a line
 abbrev pub words : List ℕ → List (List ℕ)
 words s = wordsFrom [] s
-
--- ---- the first word names a command
-
--- the commands' names, in ASCII
-abbrev pub spelling : Command → List ℕ
-spelling Unknown = []
-spelling Boards = 98 ∷ 111 ∷ 97 ∷ 114 ∷ 100 ∷ 115 ∷ []
-spelling Agreement = 97 ∷ 103 ∷ 114 ∷ 101 ∷ 101 ∷ 109 ∷ 101 ∷ 110 ∷ 116 ∷ []
-spelling Range = 114 ∷ 97 ∷ 110 ∷ 103 ∷ 101 ∷ []
-spelling Start = 115 ∷ 116 ∷ 97 ∷ 114 ∷ 116 ∷ []
-spelling Give = 103 ∷ 105 ∷ 118 ∷ 101 ∷ []
-
--- are two words the same?
-unfoldable pub same : List ℕ → List ℕ → Bool
-same [] [] = true
-same [] (b ∷ t) = false
-same (a ∷ s) [] = false
-same (a ∷ s) (b ∷ t) = eqb a b && same s t
-
--- the command that a word names
-unfoldable pub commandOf : List ℕ → Command
-commandOf w =
-    pick (same w (spelling Boards)) Boards
-    (pick (same w (spelling Agreement)) Agreement
-    (pick (same w (spelling Range)) Range
-    (pick (same w (spelling Start)) Start
-    (pick (same w (spelling Give)) Give
-    Unknown))))
-
--- ---- the other words are numbers: an optional minus (45) and one digit or more (48 to 57), at most 2^32 - 1
-
--- 0 to 9
-abbrev pub isDigit : ℕ → Bool
-isDigit b = leb 48 b && leb b 57
-
--- nothing but digits
-unfoldable pub allDigits : List ℕ → Bool
-allDigits [] = true
-allDigits (b ∷ s) = isDigit b && allDigits s
-
--- the value of digits, after digits of the value m
-unfoldable pub valueFrom : ℕ → List ℕ → ℕ
-valueFrom m [] = m
-valueFrom m (b ∷ s) = valueFrom (10 * m + (b - 48)) s
-
--- the largest number
-abbrev pub largest : ℕ
-largest = 4294967295
-
--- digits, after a minus or not
-abbrev pub digitsOf : Bool → List ℕ → Option Reading
-digitsOf minus [] = none
-digitsOf minus (b ∷ s) =
-    pick (allDigits (b ∷ s) && leb (valueFrom 0 (b ∷ s)) largest) (some (record { negative = minus; magnitude = valueFrom 0 (b ∷ s) })) none
-
--- the number that a word stands for
-abbrev pub numberOf : List ℕ → Option Reading
-numberOf [] = none
-numberOf (b ∷ s) = pick (eqb b 45) (digitsOf true s) (digitsOf false (b ∷ s))
 
 -- ---- a line
 

@@ -1,18 +1,14 @@
 // The bench script, byte by byte: a line of any length is read with no buffer.
-use keyword::Command;
-use keyword::Keyword;
-use number::Number;
+use script_commands::Command;
+use script_commands::Keyword;
+use script_numbers::Number;
+use script_numbers::Reading;
+use script_numbers::both;
 ghost use mathlib.Core.Path.{_≡_};
-ghost use mathlib.Core.Bool.{_&&_};
 ghost use lib.ListN.{drop};
 ghost use Rattle.base.specs.Pick.{pick};
 ghost use Rattle.script.specs.Script.{isBlank};
-ghost use Rattle.script.specs.Automaton.{noLine, wordOf, lineWith, stepBy, Tells, Scans};
-
-pub mod keyword;
-pub mod number;
-
-pub use number::Reading;
+ghost use Rattle.script.specs.Inner.{noLine, wordOf, lineWith, stepBy, Tells, Scans};
 
 // A line so far: how many words there are (4 stands for more), whether the last one goes on, and the first three.
 pub struct Line {
@@ -38,16 +34,6 @@ pub struct Scanned {
     pub step: Step,
     pub line: Line,
     pub next: usize,
-}
-
-// Do both hold?
-fn both(a: bool, b: bool) -> bool
-    ensures { λ r. ⌜ r ≡ (a && b) ⌝ }
-{
-    if a {
-        return b;
-    }
-    false
 }
 
 // Words are split at spaces, tabs and carriage returns.

@@ -1,8 +1,8 @@
 // Questions at the door. Each function gives the number of the first that is answered no, or 0.
+use second_plan::table;
+use second_plan::table::Table;
 use second_wire::group;
 use second_wire::num;
-use second_wire::table;
-use second_wire::table::Table;
 use second_wire::wire;
 
 // The first of two numbers that is not 0.

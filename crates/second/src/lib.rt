@@ -2,14 +2,15 @@
 // boards, values, positions and edges. It is compared with the first implementation byte for byte;
 // of itself it is proved only that it is safe and ends.
 pub mod ask;
-pub mod plan;
 pub mod reading;
 pub mod record;
 
 use record::Done;
+use second_plan::plans;
+use second_plan::plans::Verdict;
+use second_plan::table;
+use second_plan::table::Table;
 use second_wire::num;
-use second_wire::table;
-use second_wire::table::Table;
 use second_wire::wire;
 
 // A party: its memory.
@@ -63,20 +64,13 @@ fn keep_settings(table: &mut Table, n: usize, t: usize, agreement: usize) {
 }
 
 // Questions 1 to 11, which fill an empty table.
-fn prepare(
-    n: u32,
-    t: u32,
-    own: u32,
-    agreement: u32,
-    bytes: &[u8],
-    table: &mut Table,
-) -> plan::Verdict {
+fn prepare(n: u32, t: u32, own: u32, agreement: u32, bytes: &[u8], table: &mut Table) -> Verdict {
     let number = ask::settings(n, t, own);
     if number != 0 {
-        return plan::decided(number, 0);
+        return plans::decided(number, 0);
     }
     keep_settings(table, n as usize, t as usize, agreement as usize);
-    plan::read(bytes, table)
+    plans::read(bytes, table)
 }
 
 // A refused set-up or restore gives no party: its table is empty.
@@ -86,12 +80,6 @@ fn party(number: u32, table: Table) -> Voter {
     }
     let empty = table::empty();
     Voter { table: empty }
-}
-
-// The plan's questions, 4 to 11.
-pub fn plan_read(bytes: &[u8]) -> plan::Verdict {
-    let mut table = table::empty();
-    plan::read(bytes, &mut table)
 }
 
 // Set-up: questions 1 to 11.
@@ -158,7 +146,7 @@ pub fn take(
 }
 
 // Replays the journal over a table that was not refused.
-fn recover(verdict: plan::Verdict, table: &mut Table, journal: &[u8], out: &mut [u8]) -> Done {
+fn recover(verdict: Verdict, table: &mut Table, journal: &[u8], out: &mut [u8]) -> Done {
     if verdict.number != 0 {
         return record::idle(verdict.number, verdict.place, 0);
     }
@@ -177,9 +165,9 @@ fn ask_restore(
     agreement: u32,
     plan: &[u8],
     table: &mut Table,
-) -> plan::Verdict {
+) -> Verdict {
     if room < num::OUTGOING {
-        return plan::decided(18, 0);
+        return plans::decided(18, 0);
     }
     prepare(n, t, own, agreement, plan, table)
 }

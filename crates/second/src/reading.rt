@@ -1,6 +1,6 @@
 // Signed readings: z is kept as z plus 2,147,483,648, which is ZERO.
+use second_plan::plans::ZERO;
 use second_wire::num;
-use second_wire::plan::ZERO;
 
 // Above every reading kept so.
 const BEYOND: usize = 2 * ZERO;

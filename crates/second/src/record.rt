@@ -1,11 +1,11 @@
 // Records: what a start or a taken message does, and how a journal does it again.
 use crate::ask;
-use second_rules::level;
-use second_rules::run;
+use second_plan::table;
+use second_plan::table::Table;
+use second_rules::levels;
+use second_rules::running;
 use second_wire::num;
 use second_wire::num::Room;
-use second_wire::table;
-use second_wire::table::Table;
 use second_wire::wire;
 
 // An outcome without the party.
@@ -31,7 +31,7 @@ pub fn idle(number: u32, place: usize, used: usize) -> Done {
 // A start enters level 0; a message is kept.
 fn note(table: &mut Table, record: wire::Record) {
     if record.sort == wire::START {
-        level::open(table, 0, record.position);
+        levels::open(table, 0, record.position);
         return;
     }
     table::hear(
@@ -44,12 +44,12 @@ fn note(table: &mut Table, record: wire::Record) {
 }
 
 // A record is noted and rules are applied; one of a message held adds nothing and has no messages.
-fn act(table: &mut Table, record: wire::Record, room: &mut Room) -> run::Ran {
+fn act(table: &mut Table, record: wire::Record, room: &mut Room) -> running::Ran {
     if ask::is_held(table, record) {
-        return run::Ran { rules: 0, sent: 0 };
+        return running::Ran { rules: 0, sent: 0 };
     }
     note(table, record);
-    run::run(table, room)
+    running::run(table, room)
 }
 
 // Acts on a record that stands in the room and in the journal up to `after`; the messages go to the

@@ -2,14 +2,14 @@
 // whole plan and each next over a side of the one before, with every position in its level's
 // component and every result value at most d".
 use crate::fill;
-use crate::sheet;
-use crate::sheet::Sheet;
-use second_rules::level as levels;
+use second_plan::plans;
+use second_plan::table;
+use second_plan::table::Table;
+use second_plan::trees;
+use second_rules::levels;
+use second_sheet::sheet;
+use second_sheet::sheet::Sheet;
 use second_wire::num;
-use second_wire::plan;
-use second_wire::table;
-use second_wire::table::Table;
-use second_wire::tree;
 
 // Whether the level is entered and has a d: a component of one or two positions has none.
 fn has_degree(t: &Table, level: usize) -> bool {
@@ -21,13 +21,13 @@ fn has_degree(t: &Table, level: usize) -> bool {
 
 // Whether a position is in the level's component.
 fn is_inside(t: &Table, level: usize, position: usize) -> bool {
-    if table::at(t, table::VOTE, table::KIND) == plan::RANGE {
+    if table::at(t, table::VOTE, table::KIND) == plans::RANGE {
         if position < table::at(t, level, table::LOW) {
             return false;
         }
         return position <= table::at(t, level, table::HIGH);
     }
-    tree::is_inside(t, level, position)
+    trees::is_inside(t, level, position)
 }
 
 // Whether the level before has this side.

@@ -1,10 +1,10 @@
 // "whose sender sets name only boards below n"; and what is kept of a record without a question:
 // its flags and proposals.
-use crate::sheet;
-use crate::sheet::Sheet;
+use second_plan::table;
+use second_plan::table::Table;
+use second_sheet::sheet;
+use second_sheet::sheet::Sheet;
 use second_wire::num;
-use second_wire::table;
-use second_wire::table::Table;
 use second_wire::wire;
 
 // Whether board b is in the set: bit b of the mask.

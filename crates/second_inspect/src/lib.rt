@@ -8,10 +8,10 @@
 pub mod entry;
 pub mod fill;
 pub mod part;
-pub mod sheet;
 
 use second::Voter;
-use sheet::Sheet;
+use second_sheet::sheet;
+use second_sheet::sheet::Sheet;
 
 // 0, or 19 of a record that is refused, and the party.
 pub struct Inspected {

@@ -1,32 +1,22 @@
 // "whose settings pass 1 to 3, whose plan part a plan reading gives": the plan that the part spells
 // is read, and must give this very part back.
-use crate::sheet;
-use crate::sheet::Sheet;
+use second_plan::plans;
+use second_plan::trees;
+use second_plan::trees::Distances;
+use second_sheet::sheet;
+use second_sheet::sheet::Sheet;
 use second_wire::group;
 use second_wire::num;
 use second_wire::num::Room;
-use second_wire::plan;
-use second_wire::tree;
-use second_wire::tree::Distances;
 
 // A u32 of a number.
 fn word(x: usize) -> u32 {
     (x % 4294967296) as u32
 }
 
-// The group value of the signed reading kept as r.
-pub fn signed(r: usize) -> usize {
-    if r < plan::ZERO {
-        let below = num::less(plan::ZERO, r);
-        return num::less(num::add(below, below), 1);
-    }
-    let above = num::less(r, plan::ZERO);
-    num::add(above, above)
-}
-
 // How many rows the part has: one fewer than its positions, and none in a range.
 fn rows(sheet: &Sheet) -> usize {
-    if sheet::at(sheet, sheet::VOTE, sheet::KIND) == plan::RANGE {
+    if sheet::at(sheet, sheet::VOTE, sheet::KIND) == plans::RANGE {
         return 0;
     }
     num::less(sheet::at(sheet, sheet::VOTE, sheet::COUNT), 1)
@@ -50,20 +40,13 @@ fn spell_rows(sheet: &Sheet, room: &mut Room, from: usize) -> usize {
     at
 }
 
-// A plan of kind, low reading and width.
-pub fn spell_range(room: &mut Room, low: usize, width: usize) -> usize {
-    let at = group::write(room, 0, plan::RANGE);
-    let next = group::write(room, at, signed(low));
-    group::write(room, next, width)
-}
-
 // The plan that the part spells, from the room's start on; the place after it.
 fn spell(sheet: &Sheet, room: &mut Room) -> usize {
     let kind = sheet::at(sheet, sheet::VOTE, sheet::KIND);
     let count = sheet::at(sheet, sheet::VOTE, sheet::COUNT);
-    if kind == plan::RANGE {
+    if kind == plans::RANGE {
         let low = sheet::at(sheet, sheet::VOTE, sheet::LOW);
-        return spell_range(room, low, num::less(count, 1));
+        return plans::spell_range(room, low, num::less(count, 1));
     }
     let at = group::write(room, 0, kind);
     let next = group::write(room, at, count);
@@ -95,13 +78,13 @@ pub fn read(sheet: &Sheet) -> second::SetUp {
 fn leads_on(sheet: &Sheet, d: &mut Distances, i: usize) -> bool {
     let a = sheet::from(sheet, i);
     let b = sheet::to(sheet, i);
-    if tree::between(d, 0, a) == tree::APART {
+    if trees::between(d, 0, a) == trees::APART {
         return false;
     }
-    if tree::between(d, 0, b) < tree::APART {
+    if trees::between(d, 0, b) < trees::APART {
         return false;
     }
-    tree::join(d, a, b);
+    trees::join(d, a, b);
     true
 }
 
@@ -118,7 +101,7 @@ fn row_comes_back(sheet: &Sheet, d: &mut Distances, i: usize, rows: usize) -> bo
 
 // Whether all rows come back.
 fn rows_come_back(sheet: &Sheet) -> bool {
-    let mut d = tree::alone();
+    let mut d = trees::alone();
     for i in 0..sheet::PLAN_ROWS {
         if !row_comes_back(sheet, &mut d, i, rows(sheet)) {
             return false;
@@ -132,7 +115,7 @@ pub fn comes_back(sheet: &Sheet) -> bool {
     if sheet::at(sheet, sheet::VOTE, sheet::COUNT) == 0 {
         return false;
     }
-    if sheet::at(sheet, sheet::VOTE, sheet::KIND) != plan::RANGE {
+    if sheet::at(sheet, sheet::VOTE, sheet::KIND) != plans::RANGE {
         if sheet::at(sheet, sheet::VOTE, sheet::LOW) != 0 {
             return false;
         }

@@ -1,8 +1,8 @@
 // Counting the boards that said something. Values above the level's d are never counted; none is.
+use second_plan::table;
+use second_plan::table::Table;
+use second_plan::table::VALUES;
 use second_wire::num;
-use second_wire::table;
-use second_wire::table::Table;
-use second_wire::table::VALUES;
 use second_wire::wire;
 
 // No value at all.

@@ -2,8 +2,8 @@
 // tables. Of it only is proved that it is safe and ends.
 pub mod grading;
 pub mod heard;
-pub mod level;
+pub mod levels;
 pub mod moving;
 pub mod rules;
-pub mod run;
+pub mod running;
 pub mod say;

@@ -2,9 +2,9 @@
 use crate::heard;
 use crate::say::say;
 use crate::say::say_once;
+use second_plan::table;
+use second_plan::table::Table;
 use second_wire::num;
-use second_wire::table;
-use second_wire::table::Table;
 use second_wire::wire;
 
 // The second result's value, where there is one.

@@ -2,8 +2,8 @@
 // and notes the message to send and the side to enter.
 use crate::grading;
 use crate::moving;
-use second_wire::table;
-use second_wire::table::Table;
+use second_plan::table;
+use second_plan::table::Table;
 
 // Applies a rule, if it applies.
 fn apply(rule: usize, t: &mut Table, level: usize) -> bool {

@@ -1,6 +1,6 @@
 // Noting the message that a rule sends.
-use second_wire::table;
-use second_wire::table::Table;
+use second_plan::table;
+use second_plan::table::Table;
 
 // Notes the message to send.
 pub fn say(t: &mut Table, kind: usize, value: usize) -> bool {

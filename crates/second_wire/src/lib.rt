@@ -1,8 +1,5 @@
-// Groups, messages, journal records and plans, written a second time from document 01's sentences,
-// and the table that a board keeps. Of it only is proved that it is safe and ends.
+// Groups, messages and journal records, written a second time from document 01's sentences. Of it
+// only is proved that it is safe and ends.
 pub mod group;
 pub mod num;
-pub mod plan;
-pub mod table;
-pub mod tree;
 pub mod wire;

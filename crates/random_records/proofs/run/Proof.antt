@@ -5,10 +5,10 @@ use Rattle.random_records.proofs.run.Statement.{statement}
 use Rattle.random_records.proofs.run.Tie as tie
 
 abbrev Inv-loop : tie.InvT-loop
-Inv-loop seed ja₀ jb₀ oa₀ ob₀ s₀ counter₀ ja jb oa ob s counter = 0 ≤ counter
+Inv-loop seed journals₀ out₀ s₀ counter₀ journals out s counter = 0 ≤ counter
 
 abbrev μ-loop : tie.MeasureT-loop
-μ-loop seed ja₀ jb₀ oa₀ ob₀ s₀ counter₀ ja jb oa ob s counter = 400 - counter
+μ-loop seed journals₀ out₀ s₀ counter₀ journals out s counter = 400 - counter
 
 pub run-spec : {M : Type 1} → statement M
 run-spec =
@@ -17,7 +17,6 @@ run-spec =
     Inv-loop
     μ-loop
     (λ c κs. search needs)
-    (λ c. search needs)
     (λ c κs. search needs)
     (λ c. search needs)
     (λ c κs. search needs)

@@ -5,10 +5,10 @@ use Rattle.random_records.proofs.vote.Statement.{statement}
 use Rattle.random_records.proofs.vote.Tie as tie
 
 abbrev Inv-loop : tie.InvT-loop
-Inv-loop plan s₀ ja₀ jb₀ oa₀ ob₀ seat₀ steps i₀ s ja jb oa ob seat i = 0 ≤ i
+Inv-loop plan s₀ journals₀ out₀ seat₀ steps i₀ s journals out seat i = 0 ≤ i
 
 abbrev μ-loop : tie.MeasureT-loop
-μ-loop plan s₀ ja₀ jb₀ oa₀ ob₀ seat₀ steps i₀ s ja jb oa ob seat i = steps - i
+μ-loop plan s₀ journals₀ out₀ seat₀ steps i₀ s journals out seat i = steps - i
 
 pub vote-spec : {M : Type 1} → statement M
 vote-spec =

@@ -5,10 +5,10 @@ use Rattle.random_votes.proofs.run.Statement.{statement}
 use Rattle.random_votes.proofs.run.Tie as tie
 
 abbrev Inv-loop : tie.InvT-loop
-Inv-loop s₀ ja₀ jb₀ oa₀ ob₀ seats₀ counter₀ s ja jb oa ob seats counter = 0 ≤ counter
+Inv-loop s₀ journals₀ out₀ seats₀ counter₀ s journals out seats counter = 0 ≤ counter
 
 abbrev μ-loop : tie.MeasureT-loop
-μ-loop s₀ ja₀ jb₀ oa₀ ob₀ seats₀ counter₀ s ja jb oa ob seats counter = 100000 - counter
+μ-loop s₀ journals₀ out₀ seats₀ counter₀ s journals out seats counter = 100000 - counter
 
 nobody-requires : tie.Need-nobody-requires Inv-loop μ-loop
 nobody-requires c κs = search needs

@@ -5,10 +5,10 @@ use Rattle.random_votes.proofs.run_votes.Statement.{statement}
 use Rattle.random_votes.proofs.run_votes.Tie as tie
 
 abbrev Inv-loop : tie.InvT-loop
-Inv-loop s₀ ja₀ jb₀ oa₀ ob₀ counter₀ s ja jb oa ob counter = 0 ≤ counter
+Inv-loop s₀ journals₀ out₀ counter₀ s journals out counter = 0 ≤ counter
 
 abbrev μ-loop : tie.MeasureT-loop
-μ-loop s₀ ja₀ jb₀ oa₀ ob₀ counter₀ s ja jb oa ob counter = 2000 - counter
+μ-loop s₀ journals₀ out₀ counter₀ s journals out counter = 2000 - counter
 
 loop-holds : tie.Need-loop-holds Inv-loop μ-loop
 loop-holds c = search needs

@@ -4,7 +4,7 @@ use Prim.Native.Nat.{_-_}
 use native.Mathlib.Omega.{arith}
 use lib.ListN.{length, drop}
 use borrow.Author.Needs.{needs}
-use Rattle.script.specs.Automaton.{scanned}
+use Rattle.script.specs.Inner.{scanned}
 use Rattle.script.proofs.Laws.{scan-ends, scan-goes-on, scan-stops}
 use Rattle.script.proofs.Lines.{scans}
 use Rattle.script.proofs.scan.Statement.{statement}

@@ -1,7 +1,7 @@
 -- `script::Line::step` meets its contract.
 use mathlib.Core.Path.{ap, _∙_}
-use Rattle.script.specs.declared.keyword.Command.{Command}
-use Rattle.script.specs.Automaton.{stepBy, lineStep}
+use Rattle.script_commands.specs.declared.Command.{Command}
+use Rattle.script.specs.Inner.{stepBy, lineStep}
 use Rattle.script.proofs.Lines.{tells}
 use borrow.Author.Needs.{needs}
 use Rattle.script.proofs.Line.step.Statement.{statement}

@@ -1,6 +1,6 @@
 -- `script::Line::with` meets its contract.
 use mathlib.Core.Path.{sym, _∙_}
-use Rattle.script.specs.Automaton.{lineWith}
+use Rattle.script.specs.Inner.{lineWith}
 use borrow.Author.Needs.{needs}
 use Rattle.script.proofs.Line.with.Statement.{statement}
 use Rattle.script.proofs.Line.with.Tie as tie

@@ -1,0 +1,48 @@
+// A party in both implementations, and what calls give as plain numbers.
+use party::Party;
+use second::Voter;
+
+// The party of the library and that of the second implementation.
+pub struct Pair {
+    pub party: Party,
+    pub voter: Voter,
+}
+
+// The settings that a set-up or a restore is given.
+pub struct Terms {
+    pub boards: u32,
+    pub faults: u32,
+    pub own: u32,
+    pub number: u32,
+}
+
+// A number as a u32, without what does not fit.
+pub fn word(x: usize) -> u32 {
+    (x % 4294967296) as u32
+}
+
+// A u32 as a number.
+pub fn wide(x: u32) -> usize {
+    x as usize
+}
+
+// A byte as a number.
+fn wide_byte(x: u8) -> usize {
+    x as usize
+}
+
+// A verdict's number, 0 if it is none.
+pub fn number_of(v: base::Verdict) -> usize {
+    match v {
+        base::Verdict::Accepted => 0,
+        base::Verdict::Refused(number, _) => wide_byte(number),
+    }
+}
+
+// A verdict's place, 0 if it has none.
+pub fn place_of(v: base::Verdict) -> usize {
+    match v {
+        base::Verdict::Accepted => 0,
+        base::Verdict::Refused(_, place) => place,
+    }
+}
