@@ -14,11 +14,12 @@ use Rattle.base.proofs.Bools.{true→T, not-T→false}
 use Rattle.base.specs.Found.{found}
 use Rattle.varint.proofs.Laws.{pieces-most, length-last}
 use Rattle.varint.proofs.Lengths.{length-at-most}
-use Rattle.plan.specs.declared.Plan.{Plan}
+use Rattle.plan.specs.Plan.{Plan}
 use Rattle.plan_laws.proofs.Shape.{shape}
 use Rattle.message.specs.declared.Message.{Message}
 use Rattle.message.specs.declared.Exactly.{Exactly}
-use Rattle.message.specs.Message.{messageBytes, exactMessage}
+use Rattle.message.specs.Message.{messageBytes}
+use Rattle.message.specs.Reading.{exactMessage}
 use Rattle.message.proofs.RoundTrip.{message-length-most}
 use Rattle.level.specs.Level.{noOutput}
 use Rattle.journal.specs.declared.Record.{Record}
@@ -26,8 +27,7 @@ use Rattle.journal.specs.declared.Record.the-variants.{Start, Taken}
 use Rattle.journal.specs.Journal.{recordBytes}
 use Rattle.journal.specs.Records.{InLimits}
 use Rattle.journal.proofs.Laws.{start-length, taken-length}
-use Rattle.party.specs.declared.Party.{Party}
-use Rattle.party.specs.Party.{levelAt, started, heldBy}
+use Rattle.party.specs.Party.{Party, levelAt, started, heldBy}
 use Rattle.party.specs.Run.{Ran, starting, taking}
 use Rattle.party.specs.Valid.{partyValid}
 use Rattle.party_laws.proofs.Laws.{SameBoard}

@@ -11,18 +11,17 @@ use Rattle.base.specs.Sets.{Set}
 use Rattle.base.specs.Limits.{outgoingSize}
 use Rattle.base.proofs.Bools.{T→true}
 use Rattle.base.specs.Found.{Found}
-use Rattle.plan.specs.declared.Plan.{Plan}
+use Rattle.plan.specs.Plan.{Plan}
 use Rattle.plan.specs.Positions.{readingOf}
 use Rattle.message.specs.declared.Message.{Message}
 use Rattle.message.specs.declared.Exactly.{Exactly}
-use Rattle.message.specs.Message.{messageBytes, exactMessage}
-use Rattle.level.specs.declared.Level.{Level}
-use Rattle.level.specs.Level.{noOutput}
+use Rattle.message.specs.Message.{messageBytes}
+use Rattle.message.specs.Reading.{exactMessage}
+use Rattle.level.specs.Level.{Level, noOutput}
 use Rattle.journal.specs.declared.Record.{Record}
 use Rattle.journal.specs.declared.Record.the-variants.{Start, Taken}
 use Rattle.journal.proofs.Records.{holds-records}
-use Rattle.party.specs.declared.Party.{Party}
-use Rattle.party.specs.Party.{newParty, levelAt, started, outputOf}
+use Rattle.party.specs.Party.{Party, newParty, levelAt, started, outputOf}
 use Rattle.party.specs.Valid.{partyValid}
 use Rattle.party_laws.proofs.Laws.{SameBoard, Output, Formed, level-holds, output-stays}
 use Rattle.party_laws.proofs.Calls.{new-level}

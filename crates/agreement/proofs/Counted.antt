@@ -10,7 +10,7 @@ use lib.Dec.{T, leb}
 use lib.IntN.{ℤ}
 use lib.ListN.{length, drop}
 use Rattle.base.specs.Pick.{pick}
-use Rattle.plan.specs.declared.Plan.{Plan}
+use Rattle.plan.specs.Plan.{Plan}
 use Rattle.message.specs.declared.Message.{Message}
 use Rattle.message.specs.declared.Exactly.{Exactly}
 use Rattle.level.specs.Level.{noOutput}
@@ -18,7 +18,7 @@ use Rattle.journal.specs.declared.Record.{Record}
 use Rattle.journal.specs.declared.Record.the-variants.{Start, Taken}
 use Rattle.journal.specs.Records.{journalBytes}
 use Rattle.journal.proofs.Records.{journal-length}
-use Rattle.party.specs.declared.Party.{Party}
+use Rattle.party.specs.Party.{Party}
 use Rattle.party_life.specs.Life.{replayed, lived, madeAlong}
 use Rattle.board_calls.specs.Answers.{positionOf}
 use Rattle.agreement.specs.History.{Act, a-start, a-take, Counted, keptCalls}

@@ -9,23 +9,23 @@ use lib.Dec.{T, leb, ltb, eqb, T-not, leb→le, ltb→lt, eqb→eq, eqb-refl}
 use lib.IntN.{ℤ, pos, negsuc}
 use lib.ListN.{length}
 use Rattle.base.specs.Pick.{pick}
-use Rattle.base.specs.Limits.{maxBoards, maxWidth, outgoingSize}
+use Rattle.base.specs.Limits.{maxNumber, offsetZero, maxBoards, maxWidth, outgoingSize}
 use Rattle.base.proofs.Bools.{T→true, true→T}
 use Rattle.base.specs.Found.{Found, found, ask}
-use Rattle.plan.specs.declared.Plan.{Plan}
+use Rattle.plan.specs.Plan.{Plan}
 use Rattle.plan.proofs.Listed.{asked}
 use Rattle.message.specs.declared.Message.{Message}
 use Rattle.message.specs.declared.MessageRead.{MessageRead}
 use Rattle.message.specs.declared.Exactly.{Exactly}
-use Rattle.message.specs.Message.{inTable, messageAt, exactly, exactMessage}
+use Rattle.message.specs.Message.{inTable}
+use Rattle.message.specs.Reading.{messageAt, exactly, exactMessage}
 use Rattle.message.proofs.RoundTrip.{message-parts, message-table}
 use Rattle.level.specs.Level.{noOutput}
 use Rattle.journal.specs.declared.Record.{Record}
 use Rattle.journal.specs.declared.Record.the-variants.{Start, Taken}
 use Rattle.journal.specs.Journal.{recordBytes}
 use Rattle.journal.specs.Records.{InLimits}
-use Rattle.party.specs.declared.Party.{Party}
-use Rattle.party.specs.Party.{started, heldBy}
+use Rattle.party.specs.Party.{Party, started, heldBy}
 use Rattle.party.specs.Run.{Ran, starting, taking}
 use Rattle.party.specs.Valid.{partyValid}
 use Rattle.party_life.specs.Life.{replayed, Fits}
@@ -55,10 +55,10 @@ module _ (p : Plan) where
   unfolding positionOf
   input-placed (pos x) =
       either (eqb (p .kind) 1) (onPlan p x) (rangePosition p (pos x)) (on-plan x)
-      (either (leb (p .low) (x + 2147483648)) (onPlan p (x + 2147483648 - p .low)) noOutput (on-plan (x + 2147483648 - p .low)) (inl refl))
+      (either (leb (p .low) (x + offsetZero)) (onPlan p (x + offsetZero - p .low)) noOutput (on-plan (x + offsetZero - p .low)) (inl refl))
   input-placed (negsuc x) =
       either (eqb (p .kind) 1) noOutput (rangePosition p (negsuc x)) (inl refl)
-      (either (leb (p .low + (x + 1)) 2147483648) (onPlan p (2147483648 - (x + 1) - p .low)) noOutput (on-plan (2147483648 - (x + 1) - p .low)) (inl refl))
+      (either (leb (p .low + (x + 1)) offsetZero) (onPlan p (offsetZero - (x + 1) - p .low)) noOutput (on-plan (offsetZero - (x + 1) - p .low)) (inl refl))
 
 -- ---- messages
 
@@ -166,6 +166,6 @@ take-recorded p s bytes room used out r ran e = go (exactMessage bytes) refl (fo
     go Exactly.Refused i f = let z : _≡_ {A = ℕ} 0 1 = cc in absurd (omega arith)
 
 -- the record of an accepted call is within its limits
-pub fits-limits : (p : Party) → p .agreement < 2 ^ 32 → p .n ≤ maxBoards → p .plan .count ≤ maxWidth + 1 → (r : Record) → Fits p r → InLimits r
-fits-limits p a n c (Start b x) f = let g = fits-start p b x f in (subst (λ (z : ℕ). z < 2 ^ 32) (sym (g .0)) a, omega (arith, g .2))
-fits-limits p a n c (Taken s m) f = let g = fits-taken p s m f in (omega (arith, g .1), T→true (inTable m) (g .2), subst (λ (z : ℕ). z < 2 ^ 32) (sym (g .0)) a)
+pub fits-limits : (p : Party) → p .agreement ≤ maxNumber → p .n ≤ maxBoards → p .plan .count ≤ maxWidth + 1 → (r : Record) → Fits p r → InLimits r
+fits-limits p a n c (Start b x) f = let g = fits-start p b x f in (subst (λ (z : ℕ). z ≤ maxNumber) (sym (g .0)) a, omega (arith, g .2))
+fits-limits p a n c (Taken s m) f = let g = fits-taken p s m f in (omega (arith, g .1), T→true (inTable m) (g .2), subst (λ (z : ℕ). z ≤ maxNumber) (sym (g .0)) a)

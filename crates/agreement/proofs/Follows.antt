@@ -14,20 +14,21 @@ use Rattle.base.specs.Limits.{lastLevel}
 use Rattle.base.proofs.Bools.{T-right, T-and, true→T}
 use Rattle.base.specs.declared.Verdict.{Verdict}
 use Rattle.base.specs.Found.{Found, found, refused, ask}
-use Rattle.plan.specs.declared.Plan.{Plan}
+use Rattle.plan.specs.Plan.{Plan}
 use Rattle.plan.proofs.Listed.{asked}
 use Rattle.message.specs.declared.Message.{Message}
 use Rattle.message.specs.declared.Exactly.{Exactly}
-use Rattle.message.specs.Message.{bodyInTable, exactMessage}
+use Rattle.message.specs.Message.{bodyInTable}
+use Rattle.message.specs.Reading.{exactMessage}
 use Rattle.senders.specs.Senders.{isIn}
 use Rattle.level.specs.Level.{noOutput, senders, held}
 use Rattle.journal.specs.declared.Record.{Record}
 use Rattle.journal.specs.declared.Record.the-variants.{Start, Taken}
 use Rattle.journal.specs.Journal.{recordBytes}
-use Rattle.journal.specs.Records.{journalBytes, recordsFrom}
+use Rattle.journal.specs.Records.{journalBytes}
+use Rattle.journal.specs.Reading.{recordsFrom}
 use Rattle.journal.proofs.Records.{journal-length}
-use Rattle.party.specs.declared.Party.{Party}
-use Rattle.party.specs.Party.{levelAt, started, heldBy}
+use Rattle.party.specs.Party.{Party, levelAt, started, heldBy}
 use Rattle.party.specs.Run.{Ran, starting, taking}
 use Rattle.party_life.specs.Life.{replayed}
 use Rattle.board_calls.specs.declared.Answer.{Answer}

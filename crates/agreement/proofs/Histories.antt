@@ -12,21 +12,20 @@ use Rattle.base.specs.Sets.{Set}
 use Rattle.base.specs.declared.Verdict.{Verdict}
 use Rattle.base.proofs.Bools.{true→T}
 use Rattle.base.specs.Found.{Found, found, refused}
-use Rattle.plan.specs.declared.Plan.{Plan}
+use Rattle.plan.specs.Plan.{Plan}
 use Rattle.message.specs.declared.Message.{Message}
 use Rattle.message.specs.declared.Exactly.{Exactly}
-use Rattle.message.specs.Message.{messageBytes, exactMessage}
+use Rattle.message.specs.Message.{messageBytes}
+use Rattle.message.specs.Reading.{exactMessage}
 use Rattle.journal.specs.declared.Record.{Record}
-use Rattle.party.specs.declared.Party.{Party}
-use Rattle.party.specs.Party.{outputOf}
+use Rattle.party.specs.Party.{Party, outputOf}
 use Rattle.party.specs.Run.{Ran}
 use Rattle.party.specs.Valid.{partyValid}
 use Rattle.party_life.specs.Life.{lived}
 use Rattle.board_calls.specs.declared.Answer.{Answer}
 use Rattle.board_calls.specs.declared.Answered.{Answered}
-use Rattle.board_calls.specs.declared.SetUp.{SetUp}
 use Rattle.board_calls.specs.Answers.{positionOf, answerOf}
-use Rattle.board_calls.specs.Calls.{Entry, again, fresh, setUpOf, answeredOf}
+use Rattle.board_calls.specs.Calls.{SetUp, Entry, again, fresh, setUpOf, answeredOf}
 use Rattle.board_calls.specs.Restore.{Replay}
 use Rattle.execution.specs.Machine.{Event, Machine}
 use Rattle.execution.specs.History as logs

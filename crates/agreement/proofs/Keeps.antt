@@ -10,17 +10,18 @@ use Rattle.base.specs.Limits.{maxWidth}
 use Rattle.base.specs.declared.Verdict.{Verdict}
 use Rattle.base.proofs.Bools.{T→true}
 use Rattle.base.specs.Found.{found}
-use Rattle.plan.specs.declared.Plan.{Plan}
+use Rattle.plan.specs.Plan.{Plan}
 use Rattle.plan_laws.proofs.Shape.{shape}
 use Rattle.message.specs.declared.Message.{Message}
 use Rattle.message.specs.declared.Exactly.{Exactly}
-use Rattle.message.specs.Message.{inTable, messageBytes, exactMessage}
+use Rattle.message.specs.Message.{inTable, messageBytes}
+use Rattle.message.specs.Reading.{exactMessage}
 use Rattle.message.proofs.RoundTrip.{exact-message-read}
 use Rattle.journal.specs.declared.Record.{Record}
 use Rattle.journal.specs.Journal.{recordBytes}
 use Rattle.journal.specs.Records.{InLimits, journalBytes}
 use Rattle.journal.proofs.Records.{Holds, holds-whole, holds-records, holds-cut, journal-none, journal-more}
-use Rattle.party.specs.declared.Party.{Party}
+use Rattle.party.specs.Party.{Party}
 use Rattle.party.specs.Run.{Ran}
 use Rattle.party_life.specs.Life.{replayed, lived, Fits, Life}
 use Rattle.board_calls.specs.Calls.{fresh}

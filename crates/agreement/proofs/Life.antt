@@ -9,14 +9,14 @@ use Rattle.base.specs.Sets.{Set}
 use Rattle.base.specs.Limits.{maxWidth, outgoingSize}
 use Rattle.base.specs.declared.Verdict.{Verdict}
 use Rattle.base.specs.Found.{Found, found}
-use Rattle.plan.specs.declared.Plan.{Plan}
+use Rattle.plan.specs.Plan.{Plan}
 use Rattle.plan_laws.proofs.Shape.{shape}
 use Rattle.journal.specs.declared.Record.{Record}
 use Rattle.journal.specs.Records.{AllInLimits, journalBytes}
-use Rattle.party.specs.declared.Party.{Party}
+use Rattle.party.specs.Party.{Party}
 use Rattle.party.specs.Run.{Ran, bytesOf}
 use Rattle.party_life.specs.Life.{replayed, lived, Life}
-use Rattle.board_calls.specs.declared.Called.{Called}
+use Rattle.board_calls.specs.Calls.{Called}
 use Rattle.board_calls.specs.Restore.{Replay, restoreQuestions, restoredOf, restoreOutgoing}
 use Rattle.vote_machine.specs.Inner.{Le}
 use Rattle.vote_machine.proofs.Laws.{le-lived}

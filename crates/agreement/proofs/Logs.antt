@@ -4,7 +4,7 @@ use mathlib.Core.List.{List·Memᴰ}
 use Prim.Native.Nat.{ℕ}
 use lib.Dec.{T}
 use Rattle.base.specs.Sets.{Set}
-use Rattle.plan.specs.declared.Plan.{Plan}
+use Rattle.plan.specs.Plan.{Plan}
 use Rattle.message.specs.declared.Message.{Message}
 use Rattle.message.specs.Message.{messageBytes}
 use Rattle.party.specs.Party.{levelAt, started}

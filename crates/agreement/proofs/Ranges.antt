@@ -16,7 +16,7 @@ use Rattle.tree.specs.Edges.{Edges, Adjacent}
 use Rattle.tree.specs.Path.{pathEdges}
 use Rattle.tree.proofs.PathEdges.{Next, Along, path-adjacent, path-along}
 use Rattle.tree.proofs.PathWalk.{between}
-use Rattle.plan.specs.declared.Plan.{Plan}
+use Rattle.plan.specs.Plan.{Plan}
 use Rattle.plan.specs.Positions.{edgesOf}
 use Rattle.plan_laws.proofs.Readings.{reading-sum}
 use Rattle.plan_laws.proofs.Shape.{edges-range}

@@ -6,9 +6,10 @@ use native.Mathlib.Omega.{arith}
 use lib.Dec.{leb, ltb, eqb}
 use lib.IntN.{ℤ, pos, negsuc}
 use borrow.Author.Tests.{le-leb, lt-leb, leb-true}
+use Rattle.base.specs.Limits.{offsetZero}
 use Rattle.base.specs.Pick.{pick}
 use Rattle.signed.specs.Signed.{fromOffset}
-use Rattle.plan.specs.declared.Plan.{Plan}
+use Rattle.plan.specs.Plan.{Plan}
 use Rattle.plan.specs.Positions.{readingOf}
 use Rattle.level.specs.Level.{noOutput}
 use Rattle.board_calls.specs.Answers.{onPlan, vertexOf, rangePosition, positionOf}
@@ -30,27 +31,27 @@ module _ (p : Plan) where
   vertex-means (negsuc x) = λ d. absurd (d refl)
 
   range-means : (z : ℤ) → Means z (λ x. fromOffset (p .low + x)) (rangePosition p z)
-  range-means (pos x) = go (leb (p .low) (x + 2147483648)) refl
+  range-means (pos x) = go (leb (p .low) (x + offsetZero)) refl
     where
-      go : (b : Bool) → leb (p .low) (x + 2147483648) ≡ b → Means (pos x) (λ y. fromOffset (p .low + y)) (pick b (onPlan p (x + 2147483648 - p .low)) noOutput)
+      go : (b : Bool) → leb (p .low) (x + offsetZero) ≡ b → Means (pos x) (λ y. fromOffset (p .low + y)) (pick b (onPlan p (x + offsetZero - p .low)) noOutput)
       go true e =
-          let l = leb-true (p .low) (x + 2147483648) e in
-          let u : p .low + (x + 2147483648 - p .low) ≡ x + 2147483648 = omega arith in
-          on-means (pos x) (λ y. fromOffset (p .low + y)) (x + 2147483648 - p .low)
+          let l = leb-true (p .low) (x + offsetZero) e in
+          let u : p .low + (x + offsetZero - p .low) ≡ x + offsetZero = omega arith in
+          on-means (pos x) (λ y. fromOffset (p .low + y)) (x + offsetZero - p .low)
           (ap fromOffset u
-          ∙ ap (λ (b : Bool). pick b (pos (x + 2147483648 - 2147483648)) (negsuc (2147483647 - (x + 2147483648)))) (le-leb 2147483648 (x + 2147483648) (omega arith))
-          ∙ ap pos (let g : x + 2147483648 - 2147483648 ≡ x = omega arith in g))
+          ∙ ap (λ (b : Bool). pick b (pos (x + offsetZero - offsetZero)) (negsuc (offsetZero - 1 - (x + offsetZero)))) (le-leb offsetZero (x + offsetZero) (omega arith))
+          ∙ ap pos (let g : x + offsetZero - offsetZero ≡ x = omega arith in g))
       go false e = λ d. absurd (d refl)
-  range-means (negsuc x) = go (leb (p .low + (x + 1)) 2147483648) refl
+  range-means (negsuc x) = go (leb (p .low + (x + 1)) offsetZero) refl
     where
-      go : (b : Bool) → leb (p .low + (x + 1)) 2147483648 ≡ b → Means (negsuc x) (λ y. fromOffset (p .low + y)) (pick b (onPlan p (2147483648 - (x + 1) - p .low)) noOutput)
+      go : (b : Bool) → leb (p .low + (x + 1)) offsetZero ≡ b → Means (negsuc x) (λ y. fromOffset (p .low + y)) (pick b (onPlan p (offsetZero - (x + 1) - p .low)) noOutput)
       go true e =
-          let l = leb-true (p .low + (x + 1)) 2147483648 e in
-          let u : p .low + (2147483648 - (x + 1) - p .low) ≡ 2147483647 - x = omega arith in
-          on-means (negsuc x) (λ y. fromOffset (p .low + y)) (2147483648 - (x + 1) - p .low)
+          let l = leb-true (p .low + (x + 1)) offsetZero e in
+          let u : p .low + (offsetZero - (x + 1) - p .low) ≡ offsetZero - 1 - x = omega arith in
+          on-means (negsuc x) (λ y. fromOffset (p .low + y)) (offsetZero - (x + 1) - p .low)
           (ap fromOffset u
-          ∙ ap (λ (b : Bool). pick b (pos (2147483647 - x - 2147483648)) (negsuc (2147483647 - (2147483647 - x)))) (lt-leb 2147483648 (2147483647 - x) (omega arith))
-          ∙ ap negsuc (let g : 2147483647 - (2147483647 - x) ≡ x = omega arith in g))
+          ∙ ap (λ (b : Bool). pick b (pos (offsetZero - 1 - x - offsetZero)) (negsuc (offsetZero - 1 - (offsetZero - 1 - x)))) (lt-leb offsetZero (offsetZero - 1 - x) (omega arith))
+          ∙ ap negsuc (let g : offsetZero - 1 - (offsetZero - 1 - x) ≡ x = omega arith in g))
       go false e = λ d. absurd (d refl)
 
   -- the reading of an input's position is the input

@@ -13,17 +13,17 @@ use Rattle.base.specs.Pick.{pick}
 use Rattle.base.specs.Limits.{maxBoards, outgoingSize}
 use Rattle.base.proofs.Bools.{T-left}
 use Rattle.base.specs.Found.{Found, found}
-use Rattle.plan.specs.declared.Plan.{Plan}
+use Rattle.plan.specs.Plan.{Plan}
 use Rattle.plan.specs.Reading.{planOf, settledPlan}
 use Rattle.plan.proofs.Listed.{ask-yes, asked}
 use Rattle.plan.proofs.Answers.{settle-plan}
 use Rattle.journal.specs.declared.Record.{Record}
 use Rattle.journal.specs.declared.RecordRead.{RecordRead}
-use Rattle.journal.specs.Journal.{recordBytes, recordAt}
+use Rattle.journal.specs.Journal.{recordBytes}
+use Rattle.journal.specs.Reading.{recordAt}
 use Rattle.journal.specs.Records.{AllInLimits, journalBytes}
 use Rattle.journal.proofs.Records.{Holds, holds-whole, holds-records, holds-end, journal-none, journal-before, journal-record, journal-length, record-pos, records-fewer}
-use Rattle.party.specs.declared.Party.{Party}
-use Rattle.party.specs.Party.{newParty}
+use Rattle.party.specs.Party.{Party, newParty}
 use Rattle.party.specs.Run.{Ran, resting}
 use Rattle.party_life.specs.Life.{replayed, following, lived, fault, tabled, Fits, Life}
 use Rattle.board_calls.specs.Restore.{recordFits, Replay, replayFrom, onPlanRead, restoreQuestions}

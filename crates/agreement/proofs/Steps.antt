@@ -12,13 +12,13 @@ use Rattle.base.specs.Sets.{Set}
 use Rattle.base.proofs.Bools.{T→true}
 use Rattle.base.specs.declared.Verdict.{Verdict}
 use Rattle.base.specs.Found.{Found, found, refused}
-use Rattle.plan.specs.declared.Plan.{Plan}
+use Rattle.plan.specs.Plan.{Plan}
 use Rattle.message.specs.declared.Message.{Message}
-use Rattle.message.specs.Message.{exactMessage}
+use Rattle.message.specs.Reading.{exactMessage}
 use Rattle.journal.specs.declared.Record.{Record}
 use Rattle.journal.specs.Records.{journalBytes}
 use Rattle.journal.proofs.Records.{Holds, holds-whole, holds-records, holds-cut}
-use Rattle.party.specs.declared.Party.{Party}
+use Rattle.party.specs.Party.{Party}
 use Rattle.party.specs.Run.{Ran}
 use Rattle.party_life.specs.Life.{replayed, lived, madeAlong}
 use Rattle.board_calls.specs.Answers.{positionOf}

@@ -4,9 +4,8 @@ use mathlib.Core.Logic.{inl}
 use Prim.Native.Nat.{ℕ}
 use lib.IntN.{ℤ}
 use Rattle.base.specs.Sets.{Set}
-use Rattle.plan.specs.declared.Plan.{Plan}
-use Rattle.party.specs.declared.Party.{Party}
-use Rattle.party.specs.Party.{outputOf}
+use Rattle.plan.specs.Plan.{Plan}
+use Rattle.party.specs.Party.{Party, outputOf}
 use Rattle.log_agreement.specs.Logs as logs
 use Rattle.log_agreement.proofs.Theorem.{log-demand3}
 use Rattle.agreement.specs.History.{Instance, History}

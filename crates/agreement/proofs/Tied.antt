@@ -6,15 +6,14 @@ use native.Mathlib.Omega.{arith}
 use lib.Dec.{T}
 use lib.ListN.{length, drop}
 use Rattle.base.specs.declared.Verdict.{Verdict}
-use Rattle.plan.specs.declared.Plan.{Plan}
+use Rattle.plan.specs.Plan.{Plan}
 use Rattle.plan.specs.Valid.{planValid}
 use Rattle.plan_laws.proofs.Given.{found-good}
 use Rattle.message.specs.declared.Message.{Message}
 use Rattle.journal.specs.declared.Record.{Record}
 use Rattle.journal.specs.Records.{journalBytes}
 use Rattle.journal.proofs.Records.{Holds, holds-whole, journal-none}
-use Rattle.party.specs.declared.Party.{Party}
-use Rattle.party.specs.Party.{newParty}
+use Rattle.party.specs.Party.{Party, newParty}
 use Rattle.party.specs.Valid.{settingsPass}
 use Rattle.party_laws.proofs.Laws.{→settings}
 use Rattle.party_life.specs.Life.{lived, Life}

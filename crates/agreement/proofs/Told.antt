@@ -9,11 +9,11 @@ use lib.ListN.{length, take, drop}
 use Rattle.base.specs.Pick.{pick}
 use Rattle.base.specs.Sets.{Set}
 use Rattle.base.specs.Found.{Found, found, refused}
-use Rattle.plan.specs.declared.Plan.{Plan}
+use Rattle.plan.specs.Plan.{Plan}
 use Rattle.message.specs.declared.Message.{Message}
 use Rattle.message.specs.declared.Exactly.{Exactly}
-use Rattle.message.specs.Message.{exactMessage}
-use Rattle.journal.specs.Records.{recordsFrom}
+use Rattle.message.specs.Reading.{exactMessage}
+use Rattle.journal.specs.Reading.{recordsFrom}
 use Rattle.board_calls.specs.declared.Answer.{Answer}
 use Rattle.board_calls.specs.Calls.{Entry, again, fresh, answeredOf}
 use Rattle.board_calls.specs.Restore.{Replay}

@@ -11,9 +11,9 @@ use Rattle.message.specs.declared.Message.{Message}
 use Rattle.message.specs.Message.{messageBytes}
 use Rattle.journal.specs.declared.Record.{Record}
 use Rattle.journal.specs.declared.RecordRead.{RecordRead}
-use Rattle.journal.specs.Journal.{recordAt}
-use Rattle.journal.specs.Records.{journalBytes, recordsFrom}
-use Rattle.party.specs.declared.Party.{Party}
+use Rattle.journal.specs.Reading.{recordAt, recordsFrom}
+use Rattle.journal.specs.Records.{journalBytes}
+use Rattle.party.specs.Party.{Party}
 use Rattle.board_calls.specs.Calls.{setUpOf, answeredOf}
 use Rattle.agreement.specs.History.{Instance, Lent, Call, set-up, start, take-message, read-answer, restore, startFinds, takeFinds, restoreFinds, Step, calls, hands, cut, History, waiting, running, Board, boardAfter}
 

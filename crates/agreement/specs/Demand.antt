@@ -9,13 +9,14 @@ use Rattle.base.specs.Limits.{maxBoards, maxNumber, outgoingSize}
 use Rattle.base.specs.Found.{found}
 use Rattle.tree.specs.Walk.{Walk, OnPath}
 use Rattle.tree.specs.Edges.{Adjacent}
-use Rattle.plan.specs.declared.Plan.{Plan}
+use Rattle.plan.specs.Plan.{Plan}
 use Rattle.plan.specs.Positions.{edgesOf, readingOf}
 use Rattle.plan.specs.Reading.{planOf}
 use Rattle.message.specs.declared.Message.{Message}
 use Rattle.message.specs.declared.Exactly.{Exactly}
-use Rattle.message.specs.Message.{messageBytes, exactMessage}
-use Rattle.party.specs.declared.Party.{Party}
+use Rattle.message.specs.Message.{messageBytes}
+use Rattle.message.specs.Reading.{exactMessage}
+use Rattle.party.specs.Party.{Party}
 use Rattle.board_calls.specs.declared.Answer.{Answer}
 use Rattle.board_calls.specs.Calls.{answeredOf, noParty}
 use Rattle.board_calls.specs.Restore.{restoredOf}

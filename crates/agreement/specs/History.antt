@@ -9,8 +9,8 @@ use Rattle.base.specs.declared.Verdict.{Verdict}
 use Rattle.base.specs.Found.{Found, found, refused}
 use Rattle.message.specs.declared.Message.{Message}
 use Rattle.message.specs.declared.Exactly.{Exactly}
-use Rattle.message.specs.Message.{exactMessage}
-use Rattle.party.specs.declared.Party.{Party}
+use Rattle.message.specs.Reading.{exactMessage}
+use Rattle.party.specs.Party.{Party}
 use Rattle.board_calls.specs.declared.Answer.{Answer}
 use Rattle.board_calls.specs.Answers.{positionOf}
 use Rattle.board_calls.specs.Calls.{Entry, again, fresh, setUpOf, startQuestions, takeQuestions, calledOf, journalAfter, answeredOf, noParty}

@@ -5,12 +5,11 @@ use mathlib.Core.List.{List, List·Memᴰ}
 use Prim.Native.Nat.{ℕ}
 use lib.IntN.{ℤ}
 use Rattle.base.specs.Found.{found}
-use Rattle.plan.specs.declared.Plan.{Plan}
+use Rattle.plan.specs.Plan.{Plan}
 use Rattle.message.specs.declared.Message.{Message}
 use Rattle.journal.specs.declared.Record.{Record}
 use Rattle.journal.specs.declared.Record.the-variants.{Start, Taken}
-use Rattle.party.specs.declared.Party.{Party}
-use Rattle.party.specs.Party.{newParty}
+use Rattle.party.specs.Party.{Party, newParty}
 use Rattle.party.specs.Run.{starting}
 use Rattle.party_life.specs.Life.{madeAlong}
 use Rattle.board_calls.specs.Calls.{fresh}

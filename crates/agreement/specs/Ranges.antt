@@ -4,7 +4,7 @@ use Prim.Native.Nat.{ℕ, _≤_}
 use lib.IntN.{ℤ, _-ℤ_, natAbs}
 use lib.Signed.{_≤ℤ_}
 use Rattle.base.specs.Sets.{Set}
-use Rattle.plan.specs.declared.Plan.{Plan}
+use Rattle.plan.specs.Plan.{Plan}
 use Rattle.agreement.specs.History.{Instance, History}
 use Rattle.agreement.specs.Allowed.{Sound}
 use Rattle.agreement.specs.Demand.{Answers, StartedWith}

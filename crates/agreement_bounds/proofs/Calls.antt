@@ -12,15 +12,14 @@ use Rattle.base.specs.Limits.{lastLevel, maxRules, outgoingSize}
 use Rattle.base.specs.Found.{Found, found, refused}
 use Rattle.base.proofs.Bools.{T→true}
 use Rattle.varint.specs.Varint.{AllBytes}
-use Rattle.plan.specs.declared.Plan.{Plan}
+use Rattle.plan.specs.Plan.{Plan}
 use Rattle.plan.specs.Reading.{settledPlan}
 use Rattle.plan.proofs.Listed.{asked}
 use Rattle.message.specs.declared.Message.{Message}
 use Rattle.message.specs.Message.{inTable}
 use Rattle.message.proofs.RoundTrip.{message-length-most}
 use Rattle.journal.specs.declared.Record.{Record}
-use Rattle.party.specs.declared.Party.{Party}
-use Rattle.party.specs.Party.{newParty, heldBy, hearing}
+use Rattle.party.specs.Party.{Party, newParty, heldBy, hearing}
 use Rattle.party.specs.Run.{Ran, resting, run, taking, bytesOf}
 use Rattle.party.specs.Valid.{partyValid}
 use Rattle.party_life.specs.Life.{replayed, following, lived, Fits, Life}

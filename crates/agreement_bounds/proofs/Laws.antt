@@ -11,9 +11,9 @@ use Rattle.base.specs.Sets.{Set}
 use Rattle.base.specs.declared.Verdict.{Verdict}
 use Rattle.base.specs.Found.{Found, found, refused}
 use Rattle.varint.specs.Varint.{AllBytes}
-use Rattle.plan.specs.declared.Plan.{Plan}
+use Rattle.plan.specs.Plan.{Plan}
 use Rattle.journal.specs.declared.Record.{Record}
-use Rattle.party.specs.declared.Party.{Party}
+use Rattle.party.specs.Party.{Party}
 use Rattle.party.specs.Run.{Ran, openLevel, runUpTo, run}
 use Rattle.party.specs.Valid.{partyValid}
 use Rattle.party_life.specs.Life.{lived}

@@ -12,11 +12,11 @@ use Rattle.base.specs.Sets.{Set}
 use Rattle.base.specs.declared.Verdict.{Verdict}
 use Rattle.base.specs.Found.{Found, found, refused}
 use Rattle.base.proofs.Bools.{true→T}
-use Rattle.plan.specs.declared.Plan.{Plan}
+use Rattle.plan.specs.Plan.{Plan}
 use Rattle.journal.specs.declared.Record.{Record}
-use Rattle.message.specs.Message.{exactMessage}
-use Rattle.journal.specs.Records.{recordsFrom}
-use Rattle.party.specs.declared.Party.{Party}
+use Rattle.message.specs.Reading.{exactMessage}
+use Rattle.journal.specs.Reading.{recordsFrom}
+use Rattle.party.specs.Party.{Party}
 use Rattle.party.specs.Run.{Ran}
 use Rattle.party_life.specs.Life.{replayed, lived}
 use Rattle.board_calls.specs.declared.Answer.{Answer}

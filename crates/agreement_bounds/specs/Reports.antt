@@ -7,7 +7,7 @@ use lib.ListN.{length, drop}
 use Rattle.base.specs.Pick.{pick}
 use Rattle.base.specs.Found.{Found, found, refused}
 use Rattle.journal.specs.declared.Record.{Record}
-use Rattle.party.specs.declared.Party.{Party}
+use Rattle.party.specs.Party.{Party}
 use Rattle.board_calls.specs.Calls.{Entry, again, fresh, calledOf}
 use Rattle.agreement.specs.History.{Call, set-up, start, take-message, read-answer, restore, startFinds, takeFinds, Step, calls, hands, cut, whose, History, boardAfter}
 use Rattle.agreement.specs.Allowed.{recordsIn}

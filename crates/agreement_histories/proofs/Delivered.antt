@@ -13,11 +13,12 @@ use Rattle.base.specs.Limits.{maxNumber}
 use Rattle.base.proofs.Bools.{T-left, T-right, or-split, T→true, true→T}
 use Rattle.base.proofs.Counts.{count-full}
 use Rattle.base.specs.Found.{found}
-use Rattle.plan.specs.declared.Plan.{Plan}
+use Rattle.plan.specs.Plan.{Plan}
 use Rattle.plan.specs.Reading.{planOf}
 use Rattle.message.specs.declared.Message.{Message}
 use Rattle.message.specs.declared.Exactly.{Exactly}
-use Rattle.message.specs.Message.{messageBytes, exactMessage, inTable}
+use Rattle.message.specs.Message.{messageBytes, inTable}
+use Rattle.message.specs.Reading.{exactMessage}
 use Rattle.message.proofs.RoundTrip.{exact-message-read}
 use Rattle.board_calls.specs.declared.Answer.{Answer}
 use Rattle.agreement.specs.History.{Instance, History, Act, a-start, a-take, Counted, Board, boardAfter}

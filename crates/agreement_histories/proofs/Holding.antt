@@ -2,7 +2,7 @@
 use mathlib.Core.Path.{refl}
 use Rattle.base.specs.Limits.{maxNumber}
 use Rattle.base.specs.Sets.{Set}
-use Rattle.plan.specs.declared.Plan.{Plan}
+use Rattle.plan.specs.Plan.{Plan}
 use Rattle.agreement.specs.History.{Instance, History}
 use Rattle.agreement.specs.Demand.{Holds, Premises}
 use Rattle.agreement.specs.Ranges.{HoldsOnRange}

@@ -12,7 +12,7 @@ use Rattle.base.specs.Sets.{Set, count}
 use Rattle.base.specs.Limits.{maxBoards, maxNumber}
 use Rattle.base.proofs.Bools.{T-left, T-right, or-split, true→T}
 use Rattle.base.specs.Found.{found}
-use Rattle.plan.specs.declared.Plan.{Plan}
+use Rattle.plan.specs.Plan.{Plan}
 use Rattle.plan.specs.Reading.{planOf}
 use Rattle.message.specs.Message.{messageBytes}
 use Rattle.journal.specs.Records.{journalBytes}

@@ -8,9 +8,10 @@ use Rattle.base.specs.Sets.{Set}
 use Rattle.base.specs.declared.Verdict.{Verdict}
 use Rattle.base.specs.Found.{Found, found, refused}
 use Rattle.message.specs.declared.Message.{Message}
-use Rattle.message.specs.Message.{kindOf, valueOf}
+use Rattle.message.specs.Message.{kindOf}
+use Rattle.message.specs.Reading.{valueOf}
 use Rattle.journal.specs.declared.RecordRead.{RecordRead}
-use Rattle.journal.specs.Journal.{recordAt}
+use Rattle.journal.specs.Reading.{recordAt}
 use Rattle.journal.specs.Records.{journalBytes}
 use Rattle.board_calls.specs.Calls.{setUpOf, answeredOf}
 use Rattle.agreement.specs.History.{Instance, Call, set-up, start, take-message, read-answer, restore, startFinds, takeFinds, restoreFinds, Stage, waiting, running, down, Board, unborn, afterOwn}

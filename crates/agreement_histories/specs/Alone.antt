@@ -4,8 +4,9 @@ use mathlib.Core.List.{List, [], _∷_}
 use mathlib.Core.Bool.{false}
 use Prim.Native.Nat.{ℕ}
 use lib.IntN.{pos}
+use Rattle.base.specs.Limits.{offsetZero}
 use Rattle.base.specs.Sets.{Set}
-use Rattle.plan.specs.declared.Plan.{Plan}
+use Rattle.plan.specs.Plan.{Plan}
 use Rattle.plan.specs.Positions.{rangePlan}
 use Rattle.message.specs.declared.Body.the-variants.{FirstEcho, FirstProposal, SecondEcho, SecondProposal}
 use Rattle.agreement.specs.History.{Instance}
@@ -15,7 +16,7 @@ abbrev pub vote : ℕ → Instance
 vote a = record { n = 1; t = 0; agreement = a; plan = 2 ∷ 0 ∷ 2 ∷ [] }
 
 abbrev pub plan : Plan
-plan = rangePlan 2147483648 2
+plan = rangePlan offsetZero 2
 
 abbrev pub bad : Set
 bad = λ _. false

@@ -3,8 +3,9 @@
 use mathlib.Core.List.{List, [], _∷_}
 use mathlib.Core.Bool.{false}
 use lib.IntN.{pos}
+use Rattle.base.specs.Limits.{offsetZero}
 use Rattle.base.specs.Sets.{Set}
-use Rattle.plan.specs.declared.Plan.{Plan}
+use Rattle.plan.specs.Plan.{Plan}
 use Rattle.plan.specs.Positions.{rangePlan}
 use Rattle.message.specs.declared.Body.the-variants.{FirstEcho, FirstProposal, SecondEcho, SecondProposal, Side, Centre}
 use Rattle.message.specs.Message.{noneValue}
@@ -15,7 +16,7 @@ abbrev pub vote : Instance
 vote = record { n = 2; t = 0; agreement = 1; plan = 2 ∷ 0 ∷ 2 ∷ [] }
 
 abbrev pub plan : Plan
-plan = rangePlan 2147483648 2
+plan = rangePlan offsetZero 2
 
 abbrev pub bad : Set
 bad = λ _. false

@@ -3,8 +3,9 @@
 use mathlib.Core.List.{List, [], _∷_, _++_}
 use lib.Dec.{eqb}
 use lib.IntN.{pos}
+use Rattle.base.specs.Limits.{offsetZero}
 use Rattle.base.specs.Sets.{Set}
-use Rattle.plan.specs.declared.Plan.{Plan}
+use Rattle.plan.specs.Plan.{Plan}
 use Rattle.plan.specs.Positions.{rangePlan}
 use Rattle.message.specs.declared.Body.the-variants.{FirstEcho, FirstProposal, SecondEcho, SecondProposal, Side}
 use Rattle.message.specs.Message.{noneValue}
@@ -15,7 +16,7 @@ abbrev pub vote : Instance
 vote = record { n = 4; t = 1; agreement = 1; plan = 2 ∷ 0 ∷ 3 ∷ [] }
 
 abbrev pub plan : Plan
-plan = rangePlan 2147483648 3
+plan = rangePlan offsetZero 3
 
 abbrev pub bad : Set
 bad = λ i. eqb i 3

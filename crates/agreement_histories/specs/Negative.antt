@@ -4,7 +4,7 @@ use mathlib.Core.List.{List, [], _∷_}
 use mathlib.Core.Bool.{false}
 use lib.IntN.{negsuc}
 use Rattle.base.specs.Sets.{Set}
-use Rattle.plan.specs.declared.Plan.{Plan}
+use Rattle.plan.specs.Plan.{Plan}
 use Rattle.plan.specs.Positions.{rangePlan}
 use Rattle.agreement.specs.History.{Instance}
 use Rattle.agreement_histories.specs.Scripts.{Action}
@@ -13,7 +13,7 @@ use Rattle.agreement_histories.specs.OneSide.{onSide}
 abbrev pub vote : Instance
 vote = record { n = 2; t = 0; agreement = 1; plan = 2 ∷ 5 ∷ 4 ∷ [] }
 
--- -3 is 05 as a group, and 2147483648 - 3 in offset binary
+-- -3 is 05 as a group, and offsetZero - 3 in offset binary
 abbrev pub plan : Plan
 plan = rangePlan 2147483645 4
 

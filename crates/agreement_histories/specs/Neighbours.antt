@@ -3,8 +3,9 @@
 use mathlib.Core.List.{List, [], _∷_}
 use mathlib.Core.Bool.{false}
 use lib.IntN.{pos}
+use Rattle.base.specs.Limits.{offsetZero}
 use Rattle.base.specs.Sets.{Set}
-use Rattle.plan.specs.declared.Plan.{Plan}
+use Rattle.plan.specs.Plan.{Plan}
 use Rattle.plan.specs.Positions.{rangePlan}
 use Rattle.agreement.specs.History.{Instance}
 use Rattle.agreement_histories.specs.Scripts.{Action}
@@ -14,7 +15,7 @@ abbrev pub vote : Instance
 vote = record { n = 2; t = 0; agreement = 1; plan = 2 ∷ 0 ∷ 3 ∷ [] }
 
 abbrev pub plan : Plan
-plan = rangePlan 2147483648 3
+plan = rangePlan offsetZero 3
 
 abbrev pub bad : Set
 bad = λ _. false

@@ -6,8 +6,9 @@ use Prim.Native.Nat.{ℕ}
 use lib.Dec.{eqb}
 use lib.IntN.{ℤ, pos}
 use lib.ListN.{length}
+use Rattle.base.specs.Limits.{offsetZero}
 use Rattle.base.specs.Sets.{Set}
-use Rattle.plan.specs.declared.Plan.{Plan}
+use Rattle.plan.specs.Plan.{Plan}
 use Rattle.plan.specs.Positions.{rangePlan}
 use Rattle.message.specs.declared.Message.{Message}
 use Rattle.message.specs.declared.Body.the-variants.{FirstEcho, FirstProposal, SecondEcho, SecondProposal}
@@ -19,7 +20,7 @@ abbrev pub vote : Instance
 vote = record { n = 4; t = 1; agreement = 1; plan = 2 ∷ 0 ∷ 2 ∷ [] }
 
 abbrev pub plan : Plan
-plan = rangePlan 2147483648 2
+plan = rangePlan offsetZero 2
 
 abbrev pub bad : Set
 bad = λ i. eqb i 3

@@ -17,7 +17,7 @@ use Rattle.base.proofs.Bools.{T-and, T-right, true→T}
 use Rattle.base.proofs.Smallest.{smallest-is}
 use Rattle.tree.specs.Component.{upto}
 use Rattle.tree.proofs.Levels.{inner}
-use Rattle.plan.specs.declared.Plan.{Plan}
+use Rattle.plan.specs.Plan.{Plan}
 use Rattle.plan.specs.Positions.{edgesOf}
 use Rattle.plan.specs.Valid.{planValid}
 use Rattle.component.specs.Component.{sizeOf, centreOf, degreeOf, portOf, sideOf}
@@ -25,17 +25,14 @@ use Rattle.message.specs.declared.Body.{Body}
 use Rattle.message.specs.declared.Body.the-variants.{FirstEcho, FirstProposal, SecondEcho, SecondProposal}
 use Rattle.message.specs.declared.Message.{Message}
 use Rattle.message.specs.Message.{inTable, bodyInTable}
-use Rattle.level.specs.declared.Level.{Level}
 use Rattle.level.specs.declared.Context.{Context}
-use Rattle.level.specs.declared.Applied.{Applied}
 use Rattle.level.specs.declared.Effect.{Effect}
 use Rattle.level.specs.declared.Effect.the-variants.{Nothing, Quiet, Send, Enter, SendEnter}
-use Rattle.level.specs.Level.{blankLevel, noOutput, held, withHeard, withEntry}
-use Rattle.level.specs.Rules.{applies, does, lowestRule}
+use Rattle.level.specs.Level.{Level, blankLevel, noOutput, held, withHeard, withEntry}
+use Rattle.level.specs.Rules.{Applied, applies, does, lowestRule}
 use Rattle.journal.specs.declared.Record.{Record}
 use Rattle.journal.specs.declared.Record.the-variants.{Start, Taken}
-use Rattle.party.specs.declared.Party.{Party}
-use Rattle.party.specs.Party.{newParty, levelAt, withLevel, componentOf, sending, contextOf, entering, entered, heldBy, hearing}
+use Rattle.party.specs.Party.{Party, newParty, levelAt, withLevel, componentOf, sending, contextOf, entering, entered, heldBy, hearing}
 use Rattle.party.specs.Run.{Ran, ruleAt, openAt, openLevel, afterRule, stepAt, madeBy, descend, resting, oneMore, runUpTo, run, starting, taking}
 use Rattle.party_life.specs.Life.{replayed, lived, Life, madeAlong}
 use Rattle.party_life.proofs.Fits.{fitting-start, fitting-taken}

@@ -12,26 +12,25 @@ use lib.Seq.{take-at}
 use Rattle.base.specs.Limits.{outgoingSize}
 use Rattle.base.specs.Found.{Found, found}
 use Rattle.base.proofs.Bools.{T→true}
-use Rattle.plan.specs.declared.Plan.{Plan}
+use Rattle.plan.specs.Plan.{Plan}
 use Rattle.plan.specs.Positions.{readingOf}
 use Rattle.message.specs.declared.Message.{Message}
 use Rattle.message.specs.declared.Exactly.{Exactly}
-use Rattle.message.specs.Message.{inTable, messageBytes, exactMessage}
+use Rattle.message.specs.Message.{inTable, messageBytes}
+use Rattle.message.specs.Reading.{exactMessage}
 use Rattle.message.proofs.RoundTrip.{exact-message-read}
 use Rattle.journal.specs.declared.Record.{Record}
 use Rattle.journal.specs.declared.Record.the-variants.{Start, Taken}
 use Rattle.journal.specs.Journal.{recordBytes}
-use Rattle.journal.specs.Records.{recordsFrom}
-use Rattle.party.specs.declared.Party.{Party}
-use Rattle.party.specs.Party.{newParty, started, heldBy}
+use Rattle.journal.specs.Reading.{recordsFrom}
+use Rattle.party.specs.Party.{Party, newParty, started, heldBy}
 use Rattle.party.specs.Run.{Ran, starting, taking}
 use Rattle.party.specs.Valid.{partyValid}
 use Rattle.party_laws.proofs.Laws.{SameBoard}
 use Rattle.party_life.specs.Life.{lived, Fits, Life, madeAlong}
 use Rattle.party_life.proofs.Fits.{fits-start, fits-taken}
-use Rattle.board_calls.specs.declared.SetUp.{SetUp}
 use Rattle.board_calls.specs.Answers.{positionOf}
-use Rattle.board_calls.specs.Calls.{Entry, fresh}
+use Rattle.board_calls.specs.Calls.{SetUp, Entry, fresh}
 use Rattle.board_promises.proofs.Starts.{start-anywhere}
 use Rattle.board_laws.proofs.Questions.{take-fits}
 use Rattle.agreement.specs.History.{Instance, Lent, set-up, start, take-message, startFinds, takeFinds, Step, calls, hands, History, running, a-start, a-take, Board, unborn, afterSetUp, afterEntry, boardAfter}

@@ -7,17 +7,17 @@ use native.Mathlib.Omega.{arith}
 use lib.Dec.{T}
 use lib.ListN.{length}
 use Rattle.base.specs.Sets.{count}
-use Rattle.base.specs.Limits.{lastLevel, levelCount, maxWidth, maxNumber}
+use Rattle.base.specs.Limits.{offsetZero, lastLevel, levelCount, maxWidth, maxNumber}
 use Rattle.base.specs.Found.{found}
-use Rattle.varint.specs.Varint.{pieces, piecesAt, varintWithin}
-use Rattle.plan.specs.declared.Plan.{Plan}
+use Rattle.varint.specs.Varint.{pieces}
+use Rattle.varint.specs.Reading.{piecesAt, varintWithin}
+use Rattle.plan.specs.Plan.{Plan}
 use Rattle.plan.specs.Positions.{rangePlan}
 use Rattle.plan.specs.Reading.{planFrom, planOf}
 use Rattle.plan.specs.Valid.{planValid}
 use Rattle.component.specs.Component.{sizeOf}
 use Rattle.journal.specs.declared.Record.{Record}
-use Rattle.party.specs.declared.Party.{Party}
-use Rattle.party.specs.Party.{newParty, componentOf, sending}
+use Rattle.party.specs.Party.{Party, newParty, componentOf, sending}
 use Rattle.party.specs.Valid.{partyValid}
 use Rattle.party_life.specs.Life.{madeAlong}
 use Rattle.party_laws.proofs.Laws.{Formed, sending-level}
@@ -57,13 +57,13 @@ range-uses a bytes plan f range L most big =
     smaller : (i : ℕ) → i ≤ L → 3 * 2 ^ i ≤ plan .count
     smaller i k = let z : 0 < 2 = omega arith in omega (arith, pow-le-pow-right {n = 2} z {i = i} {j = L} k)
 
-reads-widest : planOf widest ≡ found (rangePlan 2147483648 maxWidth)
+reads-widest : planOf widest ≡ found (rangePlan offsetZero maxWidth)
 unfolding planFrom pieces piecesAt varintWithin
 reads-widest = refl
 
 -- "65,536 positions need all 15": on the widest range it makes one at each of the levels 0 to 14.
 pub all-fifteen : (a : ℕ) → a ≤ maxNumber
-    → (h : History) × Premises (aloneInstance a widest) (rangePlan 2147483648 maxWidth) nobody h
+    → (h : History) × Premises (aloneInstance a widest) (rangePlan offsetZero maxWidth) nobody h
     × ((i : ℕ) → i ≤ lastLevel → Made h 0 (echoAt a i))
 all-fifteen a number =
-    range-uses a widest (rangePlan 2147483648 maxWidth) (record { boards = omega arith; faults = omega arith; number = number; reads = reads-widest }) refl lastLevel (omega arith) (omega arith)
+    range-uses a widest (rangePlan offsetZero maxWidth) (record { boards = omega arith; faults = omega arith; number = number; reads = reads-widest }) refl lastLevel (omega arith) (omega arith)

@@ -7,10 +7,9 @@ use Rattle.base.specs.Pick.{smallest}
 use Rattle.base.specs.Sets.{count}
 use Rattle.message.specs.declared.Body.the-variants.{FirstEcho, FirstProposal, SecondEcho, SecondProposal}
 use Rattle.senders.specs.Senders.{isIn, withSender, unionOver}
-use Rattle.level.specs.declared.Level.{Level}
 use Rattle.level.specs.declared.Context.{Context}
 use Rattle.level.specs.declared.Effect.the-variants.{Nothing, Quiet, Send, Enter}
-use Rattle.level.specs.Level.{blankLevel, noOutput, slot, senders, held, withHeard, withEntry, withPortEcho, withProposal, withFirst, withSecondEcho, withSecondProposal, withResult}
+use Rattle.level.specs.Level.{Level, blankLevel, noOutput, slot, senders, held, withHeard, withEntry, withPortEcho, withProposal, withFirst, withSecondEcho, withSecondProposal, withResult}
 use Rattle.level.specs.Counts.{otherEchoes, mayPropose, proposed, digitEchoes, splitAt, split, echoedBy, secondProposed, echoedValues, sided}
 use Rattle.level.specs.Rules.{does, rule1, rule2, rule3, rule4, rule5, rule6, rule7, rule8, rule9, rule10, rule11, rule12, rule13, rule14, lowestRule}
 

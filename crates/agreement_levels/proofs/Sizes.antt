@@ -14,14 +14,13 @@ use Rattle.tree.proofs.PathEdges.{Along, path-along}
 use Rattle.tree.proofs.PathLevels.{above-whole}
 use Rattle.tree.proofs.PathInterval.{interval-size}
 use Rattle.tree.proofs.PathSides.{interval-degree, interval-port-above}
-use Rattle.plan.specs.declared.Plan.{Plan}
+use Rattle.plan.specs.Plan.{Plan}
 use Rattle.plan.specs.Positions.{edgesOf}
 use Rattle.plan.specs.Valid.{planValid}
 use Rattle.plan_laws.proofs.Shape.{shape, edges-range}
 use Rattle.component.specs.Component.{sizeOf}
 use Rattle.component_laws.proofs.Laws.{whole-size, side-half}
-use Rattle.party.specs.declared.Party.{Party}
-use Rattle.party.specs.Party.{levelAt, componentOf, sending}
+use Rattle.party.specs.Party.{Party, levelAt, componentOf, sending}
 use Rattle.party_laws.proofs.Laws.{Formed, sending-before, sending-level, whole-component, next-component}
 use Rattle.agreement_levels.proofs.Alone.{Wide}
 

@@ -8,8 +8,7 @@ use Rattle.message.specs.declared.Body.the-variants.{FirstEcho}
 use Rattle.message.specs.declared.Message.{Message}
 use Rattle.journal.specs.declared.Record.{Record}
 use Rattle.journal.specs.declared.Record.the-variants.{Start, Taken}
-use Rattle.party.specs.declared.Party.{Party}
-use Rattle.party.specs.Party.{heldBy}
+use Rattle.party.specs.Party.{Party, heldBy}
 use Rattle.party_life.specs.Life.{lived, madeAlong}
 use Rattle.agreement.specs.History.{Instance}
 

@@ -8,7 +8,8 @@ use lib.IntN.{ℤ}
 use Rattle.message.specs.declared.Body.the-variants.{FirstEcho}
 use Rattle.message.specs.declared.Message.{Message}
 use Rattle.message.specs.declared.Exactly.{Exactly}
-use Rattle.message.specs.Message.{messageBytes, exactMessage}
+use Rattle.message.specs.Message.{messageBytes}
+use Rattle.message.specs.Reading.{exactMessage}
 use Rattle.board_calls.specs.declared.Answer.{Answer}
 use Rattle.agreement.specs.History.{Instance, hands, History, Counted}
 use Rattle.agreement.specs.Allowed.{Sound, Handed}

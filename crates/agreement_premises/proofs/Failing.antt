@@ -11,7 +11,7 @@ use Rattle.base.specs.Sets.{Set, count}
 use Rattle.base.specs.Limits.{maxBoards, maxNumber}
 use Rattle.base.specs.Found.{found}
 use Rattle.base.proofs.Bools.{T-left, T-right, true→T}
-use Rattle.plan.specs.declared.Plan.{Plan}
+use Rattle.plan.specs.Plan.{Plan}
 use Rattle.plan.specs.Reading.{planOf}
 use Rattle.board_calls.specs.declared.Answer.{Answer}
 use Rattle.board_calls.specs.Calls.{answeredOf}

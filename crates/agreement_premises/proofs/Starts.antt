@@ -11,7 +11,7 @@ use Rattle.base.proofs.Bools.{T-left, T-right}
 use Rattle.base.proofs.Counts.{count-full}
 use Rattle.tree.specs.Walk.{Walk, Not, here}
 use Rattle.tree.specs.Edges.{Adjacent}
-use Rattle.plan.specs.declared.Plan.{Plan}
+use Rattle.plan.specs.Plan.{Plan}
 use Rattle.plan.specs.Positions.{edgesOf, readingOf}
 use Rattle.agreement.specs.History.{Instance, History, Board, boardAfter}
 use Rattle.agreement.specs.Allowed.{Sound}

@@ -8,13 +8,14 @@ use lib.IntN.{ℤ, pos}
 use Rattle.base.specs.Sets.{Set, count}
 use Rattle.base.specs.Limits.{maxBoards, maxNumber}
 use Rattle.base.specs.Found.{found}
-use Rattle.plan.specs.declared.Plan.{Plan}
+use Rattle.plan.specs.Plan.{Plan}
 use Rattle.plan.specs.Positions.{readingOf}
 use Rattle.plan.specs.Reading.{planOf}
 use Rattle.message.specs.declared.Body.the-variants.{FirstEcho, Centre}
 use Rattle.message.specs.declared.Message.{Message}
 use Rattle.message.specs.declared.Exactly.{Exactly}
-use Rattle.message.specs.Message.{messageBytes, exactMessage}
+use Rattle.message.specs.Message.{messageBytes}
+use Rattle.message.specs.Reading.{exactMessage}
 use Rattle.board_calls.specs.declared.Answer.{Answer}
 use Rattle.agreement.specs.History.{Instance, History}
 use Rattle.agreement.specs.Allowed.{Sound, Handed, Allowed}

@@ -7,10 +7,10 @@ use Prim.Native.Nat.{ℕ, _≤_}
 use lib.IntN.{ℤ}
 use Rattle.base.specs.Pick.{pick}
 use Rattle.base.specs.Sets.{Set, count}
-use Rattle.plan.specs.declared.Plan.{Plan}
+use Rattle.plan.specs.Plan.{Plan}
 use Rattle.message.specs.declared.Message.{Message}
 use Rattle.message.specs.Message.{messageBytes}
-use Rattle.party.specs.declared.Party.{Party}
+use Rattle.party.specs.Party.{Party}
 use Rattle.agreement.specs.History.{Instance, Lent, set-up, start, take-message, read-answer, restore, Step, calls, hands, cut, whose, History, running, boardAfter}
 use Rattle.agreement.specs.Allowed.{Sound, Continues, Ours, Accepts, May}
 use Rattle.agreement.specs.Demand.{Holds, Shared}

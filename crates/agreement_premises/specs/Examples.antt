@@ -5,8 +5,9 @@ use Prim.Native.Nat.{ℕ, _≤_}
 use lib.Dec.{eqb}
 use lib.IntN.{pos}
 use lib.ListN.{length}
+use Rattle.base.specs.Limits.{offsetZero}
 use Rattle.base.specs.Sets.{Set, count}
-use Rattle.plan.specs.declared.Plan.{Plan}
+use Rattle.plan.specs.Plan.{Plan}
 use Rattle.plan.specs.Positions.{rangePlan}
 use Rattle.message.specs.declared.Body.the-variants.{FirstEcho, FirstProposal, SecondEcho, SecondProposal, Centre}
 use Rattle.message.specs.Message.{messageBytes}
@@ -32,10 +33,10 @@ abbrev pub elsewhere : List ℕ
 elsewhere = 2 ∷ 10 ∷ 1 ∷ []
 
 abbrev pub twoPlan : Plan
-twoPlan = rangePlan 2147483648 1
+twoPlan = rangePlan offsetZero 1
 
 abbrev pub threePlan : Plan
-threePlan = rangePlan 2147483648 2
+threePlan = rangePlan offsetZero 2
 
 abbrev pub elsewherePlan : Plan
 elsewherePlan = rangePlan 2147483653 1

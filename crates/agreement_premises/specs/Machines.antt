@@ -7,8 +7,7 @@ use Rattle.base.specs.Sets.{count}
 use Rattle.message.specs.declared.Body.{Body}
 use Rattle.message.specs.declared.Body.the-variants.{FirstEcho, SecondProposal, Side}
 use Rattle.message.specs.Message.{noneValue}
-use Rattle.party.specs.declared.Party.{Party}
-use Rattle.party.specs.Party.{newParty, levelAt}
+use Rattle.party.specs.Party.{Party, newParty, levelAt}
 use Rattle.party.specs.Run.{starting}
 use Rattle.party.specs.Valid.{partyValid}
 use Rattle.level_laws.specs.Inner.{heardFrom}

@@ -7,7 +7,8 @@ use native.Mathlib.Nat.{le-refl}
 use native.Mathlib.Decide.{ℕ-discrete}
 use native.Mathlib.Omega.{arith}
 use lib.Dec.{T}
-use Rattle.base.specs.Sets.{Set, anyBelow}
+use Rattle.base.specs.Sets.{Set}
+use Rattle.base.specs.Inner.{anyBelow}
 use Rattle.base.proofs.Bools.{or-split, or-left, or-right}
 
 -- where some number below k passes, here is one

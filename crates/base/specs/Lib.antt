@@ -3,3 +3,4 @@ pub mod Sets
 pub mod Put
 pub mod Limits
 pub mod Found
+pub mod Inner

@@ -24,13 +24,21 @@ maxRows = maxVertices - 1
 abbrev pub maxDegree : ℕ
 maxDegree = 15
 
+-- "16 = none": a value that is no side and not the centre
+abbrev pub noneValue : ℕ
+noneValue = maxDegree + 1
+
 -- "the width, high minus low (0 to 65,535)"
 abbrev pub maxWidth : ℕ
 maxWidth = 65535
 
+-- offset binary: a signed reading z is kept as z + 2^31, so that 0 stands here
+abbrev pub offsetZero : ℕ
+offsetZero = 2147483648
+
 -- "High is at most 2,147,483,647", in offset binary
 abbrev pub maxReading : ℕ
-maxReading = 4294967295
+maxReading = offsetZero + (offsetZero - 1)
 
 -- "position (0 to 65,535)" of a start's record: those of the widest range
 abbrev pub maxPosition : ℕ
@@ -63,25 +71,3 @@ maxRules = sendingLevels * levelRules
 -- "2,640 bytes (15 × 22 × 8)"
 abbrev pub outgoingSize : ℕ
 outgoingSize = sendingLevels * levelMessages * messageSize
-
--- the limits that the code has by name
-abbrev pub limits : Code.Limits
-limits = record {
-  number = maxNumber;
-  boards = maxBoards;
-  sender = maxSender;
-  vertices = maxVertices;
-  rows = maxRows;
-  degree = maxDegree;
-  width = maxWidth;
-  reading = maxReading;
-  position = maxPosition;
-  «sending_levels» = sendingLevels;
-  «last_level» = lastLevel;
-  levels = levelCount;
-  «level_rules» = levelRules;
-  «level_messages» = levelMessages;
-  «message_size» = messageSize;
-  rules = maxRules;
-  outgoing = outgoingSize;
-}

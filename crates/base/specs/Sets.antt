@@ -1,5 +1,5 @@
 -- Sets of numbers as tests, and how many numbers below a bound are in them.
-use mathlib.Core.Bool.{Bool, true, false, not, _||_}
+use mathlib.Core.Bool.{Bool, true, false, not}
 use Prim.Native.Nat.{ℕ, zero, suc, _+_, _<_}
 use lib.Dec.{T}
 
@@ -14,11 +14,6 @@ Set = ℕ → Bool
 unfoldable pub count : ℕ → Set → ℕ
 count zero f = 0
 count (suc n) f = bit (f n) + count n f
-
--- some number below k passes
-unfoldable pub anyBelow : ℕ → Set → Bool
-anyBelow zero f = false
-anyBelow (suc k) f = f k || anyBelow k f
 
 -- board i is sound: one of the n, and not among the faulty ones
 abbrev pub Sound : ℕ → Set → ℕ → Type 0

@@ -1,7 +1,7 @@
 // What all layers share: document 01's limits, each named once; the answer of a call; and in specs/ and proofs/ choice by a test, finite sets and
 // their counts, bytes written into a buffer.
 ghost use mathlib.Core.Path.{_≡_};
-ghost use Rattle.base.specs.Limits.{limits};
+ghost use Rattle.base.specs.Inner.{limits};
 
 // Agreement numbers, and all numbers of messages and records, are at most so large.
 pub const MAX_NUMBER: u32 = 4294967295;
@@ -18,13 +18,20 @@ pub const MAX_ROWS: usize = MAX_VERTICES - 1;
 
 pub const MAX_DEGREE: u8 = 15;
 
-// Ranges: the largest width, and the largest reading in offset binary.
+// None as a value: one more than the largest side.
+pub const NONE: u8 = MAX_DEGREE + 1;
+
+// Ranges: the largest width; where reading 0 stands in offset binary, and the largest reading there.
 pub const MAX_WIDTH: u32 = 65535;
 
-pub const MAX_READING: u32 = 4294967295;
+pub const OFFSET_ZERO: u32 = 2147483648;
 
-// The largest position of a plan: that of the widest range.
-pub const MAX_POSITION: u32 = MAX_WIDTH;
+pub const MAX_READING: u32 = OFFSET_ZERO + (OFFSET_ZERO - 1);
+
+// A position of a plan, and the largest: that of the widest range.
+pub type Position = u32;
+
+pub const MAX_POSITION: Position = MAX_WIDTH;
 
 // Levels: how many send messages, the highest of them, and how many can be entered, which is one more.
 pub const SENDING_LEVELS: u32 = 15;
@@ -53,9 +60,11 @@ pub struct Limits {
     pub vertices: usize,
     pub rows: usize,
     pub degree: u8,
+    pub none: u8,
     pub width: u32,
+    pub offset_zero: u32,
     pub reading: u32,
-    pub position: u32,
+    pub position: Position,
     pub sending_levels: u32,
     pub last_level: u32,
     pub levels: usize,
@@ -77,7 +86,9 @@ pub fn all_limits() -> Limits
         vertices: MAX_VERTICES,
         rows: MAX_ROWS,
         degree: MAX_DEGREE,
+        none: NONE,
         width: MAX_WIDTH,
+        offset_zero: OFFSET_ZERO,
         reading: MAX_READING,
         position: MAX_POSITION,
         sending_levels: SENDING_LEVELS,

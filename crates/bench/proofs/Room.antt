@@ -5,11 +5,10 @@ use native.Mathlib.Omega.{arith}
 use lib.Dec.{T}
 use lib.ListN.{length, length-append}
 use Rattle.base.specs.Limits.{lastLevel, sendingLevels, levelMessages}
-use Rattle.plan.specs.declared.Plan.{Plan}
+use Rattle.plan.specs.Plan.{Plan}
 use Rattle.plan.specs.Valid.{planValid}
 use Rattle.journal.specs.declared.Record.{Record}
-use Rattle.party.specs.declared.Party.{Party}
-use Rattle.party.specs.Party.{newParty}
+use Rattle.party.specs.Party.{Party, newParty}
 use Rattle.party.specs.Valid.{settingsPass}
 use Rattle.party_life.specs.Life.{replayed, lived, Life, madeAlong}
 use Rattle.party_bounds.proofs.Laws.{Sized, sized-new, sized-lived, messagesLeft, messages-most, replayed-within}

@@ -106,7 +106,7 @@ impl Bench {
         out: &[u8],
         wire: &mut [u8; bench_wire::SIZE],
     ) -> Bench
-        requires { ⌜ i < 16 ⌝ }
+        requires { ⌜ i < maxBoards ⌝ }
     {
         let v = called.verdict;
         if !accepted(v) {

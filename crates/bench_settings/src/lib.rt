@@ -10,6 +10,9 @@ ghost use Rattle.bench_settings.specs.Settings.{integer, rangePlan};
 // The longest plan of a range: its kind, and two varints.
 const PLAN: usize = 11;
 
+// The largest number that a varint holds.
+const MOST: u64 = base::MAX_NUMBER as u64;
+
 // What the settings lines said.
 pub struct Settings {
     // 0 until there is a `boards` line
@@ -130,13 +133,13 @@ impl Settings {
         let z = zigzag(low);
         let a = raised(low);
         let b = raised(high);
-        if 4294967295 < z {
+        if MOST < z {
             return self;
         }
         if b < a {
             return self;
         }
-        if 4294967295 < b - a {
+        if MOST < b - a {
             return self;
         }
         let least = z as u32;

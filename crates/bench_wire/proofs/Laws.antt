@@ -6,7 +6,7 @@ use native.Mathlib.Omega.{arith}
 use lib.ListN.{length}
 use Rattle.message.specs.declared.Message.{Message}
 use Rattle.message.specs.declared.MessageRead.{MessageRead}
-use Rattle.message.specs.Message.{messageAt}
+use Rattle.message.specs.Reading.{messageAt}
 use Rattle.message.proofs.RoundTrip.{message-parts, message-places}
 
 pub message-within : (s : List ℕ) (at : ℕ) (m : Message) (next : ℕ) → messageAt s at ≡ MessageRead.Read m next → (at ≤ next) × (next ≤ length s)

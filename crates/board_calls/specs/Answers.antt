@@ -2,8 +2,9 @@
 use Prim.Native.Nat.{ℕ, _+_, _-_}
 use lib.Dec.{leb, ltb, eqb}
 use lib.IntN.{ℤ, pos, negsuc}
+use Rattle.base.specs.Limits.{offsetZero}
 use Rattle.base.specs.Pick.{pick}
-use Rattle.plan.specs.declared.Plan.{Plan}
+use Rattle.plan.specs.Plan.{Plan}
 use Rattle.plan.specs.Positions.{readingOf}
 use Rattle.level.specs.Level.{noOutput}
 use Rattle.board_calls.specs.declared.Answer.{Answer}
@@ -19,8 +20,8 @@ vertexOf p (negsuc x) = noOutput
 
 -- in offset binary, as the low reading is kept: z + 2^31 - low
 abbrev pub rangePosition : Plan → ℤ → ℕ
-rangePosition p (pos x) = pick (leb (p .low) (x + 2147483648)) (onPlan p (x + 2147483648 - p .low)) noOutput
-rangePosition p (negsuc x) = pick (leb (p .low + (x + 1)) 2147483648) (onPlan p (2147483648 - (x + 1) - p .low)) noOutput
+rangePosition p (pos x) = pick (leb (p .low) (x + offsetZero)) (onPlan p (x + offsetZero - p .low)) noOutput
+rangePosition p (negsuc x) = pick (leb (p .low + (x + 1)) offsetZero) (onPlan p (offsetZero - (x + 1) - p .low)) noOutput
 
 unfoldable pub positionOf : Plan → ℤ → ℕ
 positionOf p z = pick (eqb (p .kind) 1) (vertexOf p z) (rangePosition p z)

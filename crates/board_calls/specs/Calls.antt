@@ -10,21 +10,18 @@ use Rattle.base.specs.Put.{putAt}
 use Rattle.base.specs.Limits.{outgoingSize}
 use Rattle.base.specs.declared.Verdict.{Verdict}
 use Rattle.base.specs.Found.{Found, found, refused, ask}
-use Rattle.plan.specs.declared.Plan.{Plan}
+use Rattle.plan.specs.Plan.{Plan}
 use Rattle.plan.specs.Positions.{noPlan}
 use Rattle.plan.specs.Reading.{settledPlan}
 use Rattle.message.specs.declared.Exactly.{Exactly}
-use Rattle.message.specs.Message.{exactMessage}
+use Rattle.message.specs.Reading.{exactMessage}
 use Rattle.level.specs.Level.{noOutput}
 use Rattle.journal.specs.declared.Record.{Record}
 use Rattle.journal.specs.declared.Record.the-variants.{Start, Taken}
 use Rattle.journal.specs.Journal.{recordBytes}
-use Rattle.party.specs.declared.Party.{Party}
-use Rattle.party.specs.Party.{newParty, started, heldBy, outputOf}
+use Rattle.party.specs.Party.{Party, newParty, started, heldBy, outputOf}
 use Rattle.party.specs.Run.{Ran, starting, taking, bytesOf}
 use Rattle.party.specs.Valid.{partyValid}
-use Rattle.board_calls.specs.declared.SetUp.{SetUp}
-use Rattle.board_calls.specs.declared.Called.{Called}
 use Rattle.board_calls.specs.declared.Answered.{Answered}
 use Rattle.board_calls.specs.declared.Answer.{Answer}
 use Rattle.board_calls.specs.Answers.{positionOf, answerOf}
@@ -34,6 +31,11 @@ abbrev pub noParty : Party
 noParty = newParty 0 0 0 0 noPlan
 
 -- ---- set-up
+
+-- what a set-up gives
+pub record SetUp : Type 0 where
+  pub verdict : Verdict
+  pub party : Party
 
 abbrev pub setUpAnswer : ℕ → ℕ → ℕ → ℕ → Found Plan → SetUp
 setUpAnswer n t own agreement (found plan) = record { verdict = Verdict.Accepted; party = newParty n t own agreement plan }
@@ -79,6 +81,14 @@ takeQuestions p s bytes room used out =
     atDoor p room used out
     (ask (ltb s (p .n)) 14 0
     (takeMessage p s room used (exactMessage bytes)))
+
+-- what a start, take or restore gives: the verdict, the party, the journal's used length, how many outgoing bytes it wrote and how many rules it applied
+pub record Called : Type 0 where
+  pub verdict : Verdict
+  pub party : Party
+  pub used : ℕ
+  pub sent : ℕ
+  pub rules : ℕ
 
 -- what the call gives
 abbrev pub calledOf : Party → ℕ → Found Entry → Called

@@ -2,3 +2,4 @@ pub mod Answers
 pub mod Calls
 pub mod Restore
 pub mod Results
+pub mod Tie

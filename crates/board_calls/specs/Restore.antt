@@ -8,17 +8,15 @@ use Rattle.base.specs.Put.{putAt}
 use Rattle.base.specs.Limits.{outgoingSize}
 use Rattle.base.specs.declared.Verdict.{Verdict}
 use Rattle.base.specs.Found.{Found, found, refused, ask}
-use Rattle.plan.specs.declared.Plan.{Plan}
+use Rattle.plan.specs.Plan.{Plan}
 use Rattle.plan.specs.Reading.{settledPlan}
 use Rattle.journal.specs.declared.Record.{Record}
 use Rattle.journal.specs.declared.RecordRead.{RecordRead}
-use Rattle.journal.specs.Journal.{recordAt}
-use Rattle.party.specs.declared.Party.{Party}
-use Rattle.party.specs.Party.{newParty}
+use Rattle.journal.specs.Reading.{recordAt}
+use Rattle.party.specs.Party.{Party, newParty}
 use Rattle.party.specs.Run.{Ran, resting, bytesOf}
 use Rattle.party_life.specs.Life.{replayed, following, fault}
-use Rattle.board_calls.specs.declared.Called.{Called}
-use Rattle.board_calls.specs.Calls.{noParty}
+use Rattle.board_calls.specs.Calls.{Called, noParty}
 
 -- "Restore, each record: A whole record, or the torn last one? 21. Our number? 16. Sender below n? 14. Not a second start? 13. Position on the plan? 12."
 -- The place is the record's first byte.

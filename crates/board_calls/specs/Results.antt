@@ -3,9 +3,8 @@ use mathlib.Core.Path.{_≡_}
 use mathlib.Core.List.{List}
 use Prim.Native.Nat.{ℕ}
 use Rattle.base.specs.Found.{Found}
-use Rattle.party.specs.declared.Party.{Party}
-use Rattle.board_calls.specs.declared.Called.{Called}
-use Rattle.board_calls.specs.Calls.{Entry, calledOf, journalAfter, outgoingAfter}
+use Rattle.party.specs.Party.{Party}
+use Rattle.board_calls.specs.Calls.{Called, Entry, calledOf, journalAfter, outgoingAfter}
 use Rattle.board_calls.specs.Restore.{Replay, restoredOf, restoreOutgoing}
 
 -- a start or take on p whose questions find q: its result, and the journal and the outgoing buffer, which were j and out

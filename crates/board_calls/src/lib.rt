@@ -4,6 +4,8 @@ ghost use Rattle.base.specs.declared.Verdict.{Verdict};
 ghost use Rattle.base.specs.Found.{refused};
 ghost use Rattle.board_calls.specs.Calls.{noParty, calledOf};
 ghost use Rattle.board_calls.specs.Restore.{restoredOf};
+ghost use Rattle.party.specs.Tie.{asParty};
+ghost use Rattle.board_calls.specs.Tie.{asCalled};
 
 // A party, or a refusal and a record that fails question 19.
 pub struct SetUp {
@@ -34,7 +36,7 @@ pub struct Answered {
 
 // "a refused set-up or restore gives no party": a record that fails question 19.
 pub fn no_party() -> party::Party
-    ensures { λ r. ⌜ r ≡ noParty ⌝ }
+    ensures { λ r. ⌜ asParty r ≡ noParty ⌝ }
 {
     let plan = plan::no_plan();
     party::Party::new(0, 0, 0, 0, plan)
@@ -42,7 +44,7 @@ pub fn no_party() -> party::Party
 
 // A start or take refused by a question.
 pub fn refuse(p: party::Party, used: usize, number: u8) -> Called
-    ensures { λ r. ⌜ r ≡ calledOf p used (refused number 0) ⌝ }
+    ensures { λ r. ⌜ asCalled r ≡ calledOf (asParty p) used (refused number 0) ⌝ }
 {
     let v = base::Verdict::Refused(number, 0);
     Called {
@@ -56,7 +58,7 @@ pub fn refuse(p: party::Party, used: usize, number: u8) -> Called
 
 // A restore refused by a question.
 pub fn unrestored(number: u8, place: usize) -> Called
-    ensures { λ r. ⌜ r ≡ restoredOf (refused number place) ⌝ }
+    ensures { λ r. ⌜ asCalled r ≡ restoredOf (refused number place) ⌝ }
 {
     let v = base::Verdict::Refused(number, place);
     let p = no_party();
@@ -70,7 +72,7 @@ pub fn unrestored(number: u8, place: usize) -> Called
 }
 
 pub fn accept(p: party::Party, used: usize, sent: usize, rules: u32) -> Called
-    ensures { λ r. ⌜ r ≡ record { verdict = Verdict.Accepted; party = p; used = used; sent = sent; rules = rules } ⌝ }
+    ensures { λ r. ⌜ asCalled r ≡ record { verdict = Verdict.Accepted; party = asParty p; used = used; sent = sent; rules = rules } ⌝ }
 {
     let v = base::Verdict::Accepted;
     Called {

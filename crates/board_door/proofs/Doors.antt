@@ -11,26 +11,23 @@ use Rattle.base.specs.Limits.{maxBoards, outgoingSize}
 use Rattle.base.specs.declared.Verdict.{Verdict}
 use Rattle.base.proofs.Bools.{true→T}
 use Rattle.base.specs.Found.{Found, found, refused}
-use Rattle.plan.specs.declared.Plan.{Plan}
-use Rattle.plan.specs.declared.PlanRead.{PlanRead}
-use Rattle.plan.specs.Reading.{settledPlan, answered}
+use Rattle.plan.specs.Plan.{Plan}
+use Rattle.plan.specs.Reading.{settledPlan}
+use Rattle.plan.specs.Inner.{PlanRead, answered}
 use Rattle.journal.specs.declared.Record.{Record}
 use Rattle.journal.specs.Journal.{recordBytes}
-use Rattle.party.specs.declared.Party.{Party}
 use Rattle.party.specs.declared.Chart.{Chart}
-use Rattle.party.specs.Party.{newParty, outputOf}
+use Rattle.party.specs.Party.{Party, newParty, outputOf}
 use Rattle.party.specs.Run.{Ran}
 use Rattle.party.specs.Valid.{partyValid}
-use Rattle.party.specs.Chart.{Charts}
+use Rattle.party.specs.Inner.{Charts}
 use Rattle.party_laws.proofs.Valid.{valid→}
-use Rattle.board_calls.specs.declared.Called.{Called}
 use Rattle.board_calls.specs.declared.Answer.{Answer}
 use Rattle.board_calls.specs.Answers.{answerOf}
-use Rattle.board_calls.specs.Calls.{Entry, again, fresh, noParty, setUpAnswer, setUpOf, calledOf, journalAfter, outgoingAfter, answeredOf}
+use Rattle.board_calls.specs.Calls.{Called, Entry, again, fresh, noParty, setUpAnswer, setUpOf, calledOf, journalAfter, outgoingAfter, answeredOf}
 use Rattle.board_calls.specs.Results.{CallGives}
 use Rattle.board_door.specs.Inner.{AtDoor}
-use Rattle.party_run.specs.Inner.{Gives}
-use Rattle.party_run.specs.declared.Ran as Running
+use Rattle.party_run.specs.Inner.{Outcome, Gives}
 use Rattle.board_laws.proofs.Questions.{shut-19, shut-18, shut-20}
 
 -- ---- set-up
@@ -102,7 +99,7 @@ module _ {p : Party} {used : ℕ} {j out : List ℕ} {r : Called} {q : Found Ent
     outgoing = ap (outgoingAfter out) (sym e);
   }
 
-  pub fresh-gives : {rec : Record} {ran : Ran} {end : ℕ} {g : Running.Ran} {jThen outThen : List ℕ} → q ≡ found (fresh rec ran)
+  pub fresh-gives : {rec : Record} {ran : Ran} {end : ℕ} {g : Outcome} {jThen outThen : List ℕ} → q ≡ found (fresh rec ran)
       → r ≡ record { verdict = Verdict.Accepted; party = g .party; used = end; sent = g .sent; rules = g .rules }
       → end ≡ used + length (recordBytes rec) → jThen ≡ putAt j used (recordBytes rec) → Gives ran true out g outThen → CallGives q p used j out r jThen outThen
   fresh-gives e i n w g = record {

@@ -2,7 +2,7 @@
 use mathlib.Core.Path.{_≡_}
 use Prim.Native.Nat.{ℕ, _≤_}
 use Rattle.base.specs.Found.{Found, refused}
-use Rattle.party.specs.declared.Party.{Party}
+use Rattle.party.specs.Party.{Party}
 use Rattle.party_run.specs.Inner.{Ready}
 use Rattle.board_calls.specs.Calls.{Entry, atDoor}
 use Rattle.board_door.specs.declared.Door.{Door}

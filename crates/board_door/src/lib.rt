@@ -14,6 +14,8 @@ ghost use Rattle.party_run.specs.Inner.{Ready};
 ghost use Rattle.board_calls.specs.Calls.{setUpOf, fitting, startQuestions, takeQuestions, answeredOf};
 ghost use Rattle.board_calls.specs.Results.{CallGives};
 ghost use Rattle.board_door.specs.Inner.{AtDoor};
+ghost use Rattle.party.specs.Tie.{asParty};
+ghost use Rattle.board_calls.specs.Tie.{asSetUp, asCalled};
 
 // What the questions 19, 18 and 20 give: the number of the first that fails, or 0 and the party's chart.
 struct Door {
@@ -23,7 +25,7 @@ struct Door {
 
 // Questions 1 to 11, then a party that has not started.
 pub fn set_up(n: u32, t: u32, own: u32, agreement: u32, bytes: &[u8]) -> SetUp
-    ensures { λ r. ⌜ r ≡ setUpOf n t own agreement (now (bytes .entry)) ⌝ }
+    ensures { λ r. ⌜ asSetUp r ≡ setUpOf n t own agreement (now (bytes .entry)) ⌝ }
 {
     let r = plan_reader::settle(n, t, own, bytes);
     let v = r.verdict;
@@ -43,7 +45,7 @@ pub fn set_up(n: u32, t: u32, own: u32, agreement: u32, bytes: &[u8]) -> SetUp
 // "Every call on a party: .. 19. Start, take, restore: Has the outgoing buffer 2,640 bytes (15 × 22 × 8)? 18. Start, take: Is the used length within the lent
 // journal? 20."
 fn at_door(p: party::Party, room: usize, used: usize, out: usize) -> Door
-    ensures { λ r. ⌜ AtDoor p room used out r ⌝ }
+    ensures { λ r. ⌜ AtDoor (asParty p) room used out r ⌝ }
 {
     let i = party_inspect::inspect(p);
     let chart = i.chart;
@@ -80,8 +82,8 @@ fn carry_out(
     used: usize,
     out: &mut [u8],
 ) -> Called
-    requires { ⌜ Ready p c (length (now out)) × (used ≤ length (now journal)) × Fits p r ⌝ }
-    ensures { λ g. ⌜ CallGives (fitting (length (now (journal .entry))) used r (replayed p r)) p used (now (journal .entry)) (now (out .entry)) g (now (journal .exit)) (now (out .exit)) ⌝ }
+    requires { ⌜ Ready (asParty p) c (length (now out)) × (used ≤ length (now journal)) × Fits (asParty p) r ⌝ }
+    ensures { λ g. ⌜ CallGives (fitting (length (now (journal .entry))) used r (replayed (asParty p) r)) (asParty p) used (now (journal .entry)) (now (out .entry)) (asCalled g) (now (journal .exit)) (now (out .exit)) ⌝ }
 {
     if journal.len() - used < journal::size(r) {
         return refuse(p, used, 17);
@@ -93,7 +95,7 @@ fn carry_out(
 
 // "Start: Not yet started? 13. Input on the plan? 12. Record fits the journal? 17."
 pub fn start(p: party::Party, input: i64, journal: &mut [u8], used: usize, out: &mut [u8]) -> Called
-    ensures { λ r. ⌜ CallGives (startQuestions p input (length (now (journal .entry))) used (length (now (out .entry)))) p used (now (journal .entry)) (now (out .entry)) r (now (journal .exit)) (now (out .exit)) ⌝ }
+    ensures { λ r. ⌜ CallGives (startQuestions (asParty p) input (length (now (journal .entry))) used (length (now (out .entry)))) (asParty p) used (now (journal .entry)) (now (out .entry)) (asCalled r) (now (journal .exit)) (now (out .exit)) ⌝ }
 {
     let d = at_door(p, journal.len(), used, out.len());
     if d.number != 0 {
@@ -123,7 +125,7 @@ pub fn take(
     used: usize,
     out: &mut [u8],
 ) -> Called
-    ensures { λ r. ⌜ CallGives (takeQuestions p sender (now (bytes .entry)) (length (now (journal .entry))) used (length (now (out .entry)))) p used (now (journal .entry)) (now (out .entry)) r (now (journal .exit)) (now (out .exit)) ⌝ }
+    ensures { λ r. ⌜ CallGives (takeQuestions (asParty p) sender (now (bytes .entry)) (length (now (journal .entry))) used (length (now (out .entry)))) (asParty p) used (now (journal .entry)) (now (out .entry)) (asCalled r) (now (journal .exit)) (now (out .exit)) ⌝ }
 {
     let d = at_door(p, journal.len(), used, out.len());
     if d.number != 0 {
@@ -151,7 +153,7 @@ pub fn take(
 
 // The answer, or that there is none yet.
 pub fn read_answer(p: party::Party) -> Answered
-    ensures { λ r. ⌜ r ≡ answeredOf p ⌝ }
+    ensures { λ r. ⌜ r ≡ answeredOf (asParty p) ⌝ }
 {
     let i = party_inspect::inspect(p);
     if !i.ok {

@@ -8,9 +8,10 @@ use lib.IntN.{ℤ, pos, negsuc}
 use borrow.Author.Tests.{ltb-true, leb-true, leb-false, lt-ltb, le-ltb, le-leb, lt-leb, eq-eqb, ne-eqb}
 use mir.Syntax.{w64}
 use mir.Val.{SFits}
+use Rattle.base.specs.Limits.{offsetZero}
 use Rattle.base.specs.Pick.{pick}
 use Rattle.signed.specs.Signed.{fromOffset}
-use Rattle.plan.specs.declared.Plan.{Plan}
+use Rattle.plan.specs.Plan.{Plan}
 use Rattle.plan.specs.Positions.{readingOf}
 use Rattle.level.specs.Level.{noOutput}
 use Rattle.board_calls.specs.declared.Answer.{Answer}
@@ -31,17 +32,17 @@ module _ (p : Plan) (z : ℤ) (x : ℕ) where
   pub vertex-natural : z ≡ pos x → onPlan p x ≡ vertexOf p z
   vertex-natural e = ap (vertexOf p) (sym e)
 
-  pub range-below : z ≡ negsuc x → 2147483648 < p .low + (x + 1) → noOutput ≡ rangePosition p z
-  range-below e h = sym (ap (rangePosition p) e ∙ rw (lt-leb (p .low + (x + 1)) 2147483648 h))
+  pub range-below : z ≡ negsuc x → offsetZero < p .low + (x + 1) → noOutput ≡ rangePosition p z
+  range-below e h = sym (ap (rangePosition p) e ∙ rw (lt-leb (p .low + (x + 1)) offsetZero h))
 
-  pub range-negative : z ≡ negsuc x → p .low + (x + 1) ≤ 2147483648 → onPlan p (2147483648 - (x + 1) - p .low) ≡ rangePosition p z
-  range-negative e h = sym (ap (rangePosition p) e ∙ rw (le-leb (p .low + (x + 1)) 2147483648 h))
+  pub range-negative : z ≡ negsuc x → p .low + (x + 1) ≤ offsetZero → onPlan p (offsetZero - (x + 1) - p .low) ≡ rangePosition p z
+  range-negative e h = sym (ap (rangePosition p) e ∙ rw (le-leb (p .low + (x + 1)) offsetZero h))
 
-  pub range-under : z ≡ pos x → x + 2147483648 < p .low → noOutput ≡ rangePosition p z
-  range-under e h = sym (ap (rangePosition p) e ∙ rw (lt-leb (p .low) (x + 2147483648) h))
+  pub range-under : z ≡ pos x → x + offsetZero < p .low → noOutput ≡ rangePosition p z
+  range-under e h = sym (ap (rangePosition p) e ∙ rw (lt-leb (p .low) (x + offsetZero) h))
 
-  pub range-natural : z ≡ pos x → p .low ≤ x + 2147483648 → onPlan p (x + 2147483648 - p .low) ≡ rangePosition p z
-  range-natural e h = sym (ap (rangePosition p) e ∙ rw (le-leb (p .low) (x + 2147483648) h))
+  pub range-natural : z ≡ pos x → p .low ≤ x + offsetZero → onPlan p (x + offsetZero - p .low) ≡ rangePosition p z
+  range-natural e h = sym (ap (rangePosition p) e ∙ rw (le-leb (p .low) (x + offsetZero) h))
 
 module _ (p : Plan) (z : ℤ) where
   pub of-tree : p .kind ≡ 1 → vertexOf p z ≡ positionOf p z
@@ -73,9 +74,9 @@ module _ (p : Plan) where
   placed-vertex (negsuc x) = λ d. absurd (d refl)
 
   placed-range : (z : ℤ) → Placed (rangePosition p z)
-  placed-range (pos x) = placed-pick (leb (p .low) (x + 2147483648)) (onPlan p (x + 2147483648 - p .low)) (placed-on (x + 2147483648 - p .low))
+  placed-range (pos x) = placed-pick (leb (p .low) (x + offsetZero)) (onPlan p (x + offsetZero - p .low)) (placed-on (x + offsetZero - p .low))
   placed-range (negsuc x) =
-      placed-pick (leb (p .low + (x + 1)) 2147483648) (onPlan p (2147483648 - (x + 1) - p .low)) (placed-on (2147483648 - (x + 1) - p .low))
+      placed-pick (leb (p .low + (x + 1)) offsetZero) (onPlan p (offsetZero - (x + 1) - p .low)) (placed-on (offsetZero - (x + 1) - p .low))
 
   pub position-on : (z : ℤ) → (positionOf p z ≡ noOutput → ⊥) → positionOf p z < p .count
   unfolding positionOf
@@ -89,17 +90,17 @@ module _ (p : Plan) where
 
 -- the reading of a range whose offset binary is u
 offset-position : (p : Plan) (u x : ℕ) → u ≡ p .low + x → onPlan p x ≡ rangePosition p (fromOffset u)
-offset-position p u x e = go (leb 2147483648 u) refl
+offset-position p u x e = go (leb offsetZero u) refl
   where
-    go : (b : Bool) → leb 2147483648 u ≡ b → onPlan p x ≡ rangePosition p (pick b (pos (u - 2147483648)) (negsuc (2147483647 - u)))
+    go : (b : Bool) → leb offsetZero u ≡ b → onPlan p x ≡ rangePosition p (pick b (pos (u - offsetZero)) (negsuc (offsetZero - 1 - u)))
     go true i =
-        let y : ℕ = u - 2147483648 in
-        let l = leb-true 2147483648 u i in
-        ap (onPlan p) (let g : x ≡ y + 2147483648 - p .low = omega arith in g) ∙ range-natural p (pos y) y refl (omega arith)
+        let y : ℕ = u - offsetZero in
+        let l = leb-true offsetZero u i in
+        ap (onPlan p) (let g : x ≡ y + offsetZero - p .low = omega arith in g) ∙ range-natural p (pos y) y refl (omega arith)
     go false i =
-        let y : ℕ = 2147483647 - u in
-        let l = leb-false 2147483648 u i in
-        ap (onPlan p) (let g : x ≡ 2147483648 - (y + 1) - p .low = omega arith in g) ∙ range-negative p (negsuc y) y refl (omega arith)
+        let y : ℕ = offsetZero - 1 - u in
+        let l = leb-false offsetZero u i in
+        ap (onPlan p) (let g : x ≡ offsetZero - (y + 1) - p .low = omega arith in g) ∙ range-negative p (negsuc y) y refl (omega arith)
 
 -- The position of a position's reading is that position.
 pub reading-position : (p : Plan) (x : ℕ) → x < p .count → positionOf p (readingOf p x) ≡ x
@@ -112,17 +113,17 @@ reading-position p x h = go (eqb (p .kind) 1)
 
 -- ---- the answer at a position
 
-pub offset-natural : (u : ℕ) → 2147483648 ≤ u → pos (u - 2147483648) ≡ fromOffset u
-offset-natural u h = rw (le-leb 2147483648 u h)
+pub offset-natural : (u : ℕ) → offsetZero ≤ u → pos (u - offsetZero) ≡ fromOffset u
+offset-natural u h = rw (le-leb offsetZero u h)
 
-pub offset-negative : (u : ℕ) → u < 2147483648 → negsuc (2147483647 - u) ≡ fromOffset u
-offset-negative u h = rw (lt-leb 2147483648 u h)
+pub offset-negative : (u : ℕ) → u < offsetZero → negsuc (offsetZero - 1 - u) ≡ fromOffset u
+offset-negative u h = rw (lt-leb offsetZero u h)
 
 -- a reading fits 64 bits
 pub offset-fits : (u : ℕ) → u < 2 ^ 33 → SFits w64 (fromOffset u)
-offset-fits u h = go (leb 2147483648 u)
+offset-fits u h = go (leb offsetZero u)
   where
-    go : (b : Bool) → SFits w64 (pick b (pos (u - 2147483648)) (negsuc (2147483647 - u)))
+    go : (b : Bool) → SFits w64 (pick b (pos (u - offsetZero)) (negsuc (offsetZero - 1 - u)))
     go true = record { sfits = omega arith }
     go false = record { sfits = omega arith }
 

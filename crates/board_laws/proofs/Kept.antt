@@ -11,7 +11,7 @@ use Rattle.varint.specs.Varint.{AllBytes}
 use Rattle.plan.proofs.Listed.{asked}
 use Rattle.journal.specs.declared.Record.{Record}
 use Rattle.journal.specs.declared.RecordRead.{RecordRead}
-use Rattle.journal.specs.Journal.{recordAt}
+use Rattle.journal.specs.Reading.{recordAt}
 use Rattle.journal.proofs.RoundTrip.{record-was-written}
 use Rattle.party.specs.Run.{Ran}
 use Rattle.party_life.specs.Life.{replayed, following, fault, Fits}

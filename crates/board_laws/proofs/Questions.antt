@@ -15,13 +15,12 @@ use Rattle.plan.proofs.Listed.{ask-yes}
 use Rattle.plan.proofs.Answers.{ask-no}
 use Rattle.message.specs.declared.Message.{Message}
 use Rattle.message.specs.declared.Exactly.{Exactly}
-use Rattle.message.specs.Message.{exactMessage}
+use Rattle.message.specs.Reading.{exactMessage}
 use Rattle.level.specs.Level.{noOutput}
 use Rattle.journal.specs.declared.Record.{Record}
 use Rattle.journal.specs.declared.Record.the-variants.{Start, Taken}
 use Rattle.journal.specs.Journal.{recordBytes}
-use Rattle.party.specs.declared.Party.{Party}
-use Rattle.party.specs.Party.{started, heldBy}
+use Rattle.party.specs.Party.{Party, started, heldBy}
 use Rattle.party.specs.Run.{Ran, starting, taking}
 use Rattle.party.specs.Valid.{partyValid}
 use Rattle.party_life.specs.Life.{replayed}

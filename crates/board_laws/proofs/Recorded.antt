@@ -16,14 +16,14 @@ use Rattle.varint.specs.Varint.{AllBytes}
 use Rattle.plan.proofs.Listed.{asked}
 use Rattle.message.specs.declared.Message.{Message}
 use Rattle.message.specs.declared.Exactly.{Exactly}
-use Rattle.message.specs.Message.{inTable, exactMessage}
+use Rattle.message.specs.Message.{inTable}
+use Rattle.message.specs.Reading.{exactMessage}
 use Rattle.message.proofs.RoundTrip.{exact-message-written}
 use Rattle.level.specs.Level.{noOutput}
 use Rattle.journal.specs.declared.Record.{Record}
 use Rattle.journal.specs.declared.Record.the-variants.{Start, Taken}
 use Rattle.journal.specs.Journal.{recordBytes}
-use Rattle.party.specs.declared.Party.{Party}
-use Rattle.party.specs.Party.{started, heldBy}
+use Rattle.party.specs.Party.{Party, started, heldBy}
 use Rattle.party.specs.Run.{Ran, starting, taking}
 use Rattle.party.specs.Valid.{partyValid}
 use Rattle.party_life.specs.Life.{replayed, Fits}

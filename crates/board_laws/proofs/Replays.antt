@@ -11,16 +11,14 @@ use Rattle.base.specs.Pick.{pick}
 use Rattle.base.specs.Limits.{maxRules}
 use Rattle.base.specs.Found.{Found, found, refused, ask}
 use Rattle.message.specs.declared.Message.{Message}
-use Rattle.level.specs.declared.Level.{Level}
-use Rattle.level.specs.Level.{withHeard}
+use Rattle.level.specs.Level.{Level, withHeard}
 use Rattle.level_laws.proofs.Grows.{move-unmoved}
 use Rattle.journal.specs.declared.Record.{Record}
 use Rattle.journal.specs.declared.Record.the-variants.{Start, Taken}
 use Rattle.journal.specs.declared.RecordRead.{RecordRead}
-use Rattle.journal.specs.Journal.{recordAt}
+use Rattle.journal.specs.Reading.{recordAt}
 use Rattle.journal.proofs.Further.{record-place}
-use Rattle.party.specs.declared.Party.{Party}
-use Rattle.party.specs.Party.{newParty, levelAt, contextOf, started, entered, hearing}
+use Rattle.party.specs.Party.{Party, newParty, levelAt, contextOf, started, entered, hearing}
 use Rattle.party.specs.Run.{Ran, resting, openAt, stepAt}
 use Rattle.party_life.specs.Life.{replayed, following, lived, faultOf, fault, Fits, Life}
 use Rattle.party_life.proofs.Fits.{fits-start, fits-fault}

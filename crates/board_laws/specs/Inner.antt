@@ -11,8 +11,8 @@ use Rattle.level.specs.Level.{blankLevel}
 use Rattle.journal.specs.declared.Record.{Record}
 use Rattle.journal.specs.declared.Record.the-variants.{Start, Taken}
 use Rattle.journal.specs.declared.RecordRead.{RecordRead}
-use Rattle.journal.specs.Journal.{recordAt}
-use Rattle.party.specs.declared.Party.{Party}
+use Rattle.journal.specs.Reading.{recordAt}
+use Rattle.party.specs.Party.{Party}
 use Rattle.party.specs.Run.{Ran}
 use Rattle.party.specs.Valid.{settingsPass}
 use Rattle.party_life.specs.Life.{replayed, following, Fits}

@@ -5,6 +5,12 @@ ghost use Prim.Native.Nat.{_^_, _<_};
 ghost use lib.Signed.{mag};
 ghost use Rattle.signed.specs.Signed.{fromOffset};
 ghost use Rattle.board_calls.specs.Answers.{onPlan, vertexOf, rangePosition, positionOf, answerOf};
+ghost use Rattle.plan.specs.Tie.{asPlan};
+
+// Where the readings 0 and -1 stand in offset binary.
+const OFFSET_ZERO: u64 = base::OFFSET_ZERO as u64;
+
+const MINUS_ONE: u64 = OFFSET_ZERO - 1;
 
 // z, or -1 - z where it is negative.
 fn magnitude(z: i64) -> u64
@@ -17,17 +23,17 @@ fn magnitude(z: i64) -> u64
 }
 
 // The position x where it is on the plan, else level::NO_OUTPUT.
-fn on_plan(plan: plan::Plan, x: u64) -> u32
-    ensures { λ r. ⌜ r ≡ onPlan plan x ⌝ }
+fn on_plan(plan: plan::Plan, x: u64) -> base::Position
+    ensures { λ r. ⌜ r ≡ onPlan (asPlan plan) x ⌝ }
 {
     if x < plan.count as u64 {
-        return x as u32;
+        return x as base::Position;
     }
     level::NO_OUTPUT
 }
 
-fn vertex_position(plan: plan::Plan, input: i64) -> u32
-    ensures { λ r. ⌜ r ≡ vertexOf plan input ⌝ }
+fn vertex_position(plan: plan::Plan, input: i64) -> base::Position
+    ensures { λ r. ⌜ r ≡ vertexOf (asPlan plan) input ⌝ }
 {
     let x = magnitude(input);
     if input < 0 {
@@ -37,26 +43,26 @@ fn vertex_position(plan: plan::Plan, input: i64) -> u32
 }
 
 // In offset binary, z + 2^31 - low.
-fn range_position(plan: plan::Plan, input: i64) -> u32
-    ensures { λ r. ⌜ r ≡ rangePosition plan input ⌝ }
+fn range_position(plan: plan::Plan, input: i64) -> base::Position
+    ensures { λ r. ⌜ r ≡ rangePosition (asPlan plan) input ⌝ }
 {
     let x = magnitude(input);
     let low = plan.low as u64;
     if input < 0 {
-        if 2147483648 < low + (x + 1) {
+        if OFFSET_ZERO < low + (x + 1) {
             return level::NO_OUTPUT;
         }
-        return on_plan(plan, 2147483648 - (x + 1) - low);
+        return on_plan(plan, OFFSET_ZERO - (x + 1) - low);
     }
-    if x + 2147483648 < low {
+    if x + OFFSET_ZERO < low {
         return level::NO_OUTPUT;
     }
-    on_plan(plan, x + 2147483648 - low)
+    on_plan(plan, x + OFFSET_ZERO - low)
 }
 
 // The position of a vertex or a reading, or level::NO_OUTPUT where it is not on the plan.
-pub fn position_of(plan: plan::Plan, input: i64) -> u32
-    ensures { λ r. ⌜ r ≡ positionOf plan input ⌝ }
+pub fn position_of(plan: plan::Plan, input: i64) -> base::Position
+    ensures { λ r. ⌜ r ≡ positionOf (asPlan plan) input ⌝ }
 {
     if plan.kind == 1 {
         return vertex_position(plan, input);
@@ -69,15 +75,15 @@ fn reading(u: u64) -> i64
     requires { ⌜ u < 2 ^ 33 ⌝ }
     ensures { λ r. ⌜ r ≡ fromOffset u ⌝ }
 {
-    if 2147483648 <= u {
-        return (u - 2147483648) as i64;
+    if OFFSET_ZERO <= u {
+        return (u - OFFSET_ZERO) as i64;
     }
-    -1 - (2147483647 - u) as i64
+    -1 - (MINUS_ONE - u) as i64
 }
 
 // The answer at a position: a vertex or a reading.
-pub fn answer_at(plan: plan::Plan, x: u32) -> Answer
-    ensures { λ r. ⌜ r ≡ answerOf plan x ⌝ }
+pub fn answer_at(plan: plan::Plan, x: base::Position) -> Answer
+    ensures { λ r. ⌜ r ≡ answerOf (asPlan plan) x ⌝ }
 {
     if x == level::NO_OUTPUT {
         return Answer::None;

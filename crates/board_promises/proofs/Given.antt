@@ -11,12 +11,11 @@ use Rattle.base.specs.Limits.{levelCount, outgoingSize}
 use Rattle.base.specs.declared.Verdict.{Verdict}
 use Rattle.varint.specs.Varint.{AllBytes}
 use Rattle.base.specs.Found.{Found, found, refused}
-use Rattle.plan.specs.declared.Plan.{Plan}
+use Rattle.plan.specs.Plan.{Plan}
 use Rattle.plan.specs.Reading.{settledPlan}
 use Rattle.journal.specs.declared.Record.{Record}
 use Rattle.journal.specs.declared.Record.the-variants.{Start, Taken}
-use Rattle.party.specs.declared.Party.{Party}
-use Rattle.party.specs.Party.{newParty}
+use Rattle.party.specs.Party.{Party, newParty}
 use Rattle.party.specs.Run.{Ran, resting}
 use Rattle.party.specs.Valid.{partyValid}
 use Rattle.party_life.specs.Life.{replayed, Fits}

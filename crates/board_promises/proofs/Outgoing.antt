@@ -11,32 +11,33 @@ use lib.Seq.{take-at}
 use borrow.Author.Tests.{eq-eqb, ne-eqb}
 use mir.Val.{Val}
 use denote.Laws.{Is}
-use Rattle.base.specs.Limits.{lastLevel, outgoingSize}
+use Rattle.base.specs.Limits.{maxNumber, lastLevel, outgoingSize}
 use Rattle.base.specs.Put.{putAt}
 use Rattle.base.specs.Found.{Found, found, refused}
 use Rattle.base.proofs.Bools.{T→true}
 use Rattle.base.proofs.Puts.{put-zero}
 use Rattle.varint.specs.Varint.{AllBytes}
 use Rattle.varint.proofs.Laws.{pieces-pos}
-use Rattle.plan.specs.declared.Plan.{Plan}
+use Rattle.plan.specs.Plan.{Plan}
 use Rattle.plan.specs.Reading.{settledPlan}
 use Rattle.plan.proofs.Listed.{asked}
 use Rattle.message.specs.declared.Message.{Message}
 use Rattle.message.specs.declared.MessageRead.{MessageRead}
-use Rattle.message.specs.Message.{inTable, messageBytes, messageAt}
+use Rattle.message.specs.Message.{inTable, messageBytes}
+use Rattle.message.specs.Reading.{messageAt}
 use Rattle.message.proofs.Laws.{message-length}
 use Rattle.message.proofs.RoundTrip.{message-read}
 use Rattle.journal.specs.declared.Record.{Record}
-use Rattle.party.specs.declared.Party.{Party}
-use Rattle.party.specs.Party.{newParty}
+use Rattle.party.specs.Party.{Party, newParty}
 use Rattle.party.specs.Run.{Ran, resting, bytesOf}
 use Rattle.party.specs.Valid.{partyValid}
+use Rattle.party.specs.Tie.{asParty}
+use Rattle.party.specs.declared.Party as Code
 use Rattle.party.proofs.Party as PartyType
 use Rattle.party_step.proofs.Typed.{typed-sized}
 use Rattle.party_life.specs.Life.{replayed, following, Fits}
 use Rattle.party_bounds.proofs.Laws.{Sized, Within, replayed-within, sized-replayed}
-use Rattle.board_calls.specs.declared.Called.{Called}
-use Rattle.board_calls.specs.Calls.{Entry, fresh, startQuestions, takeQuestions, calledOf, outgoingAfter}
+use Rattle.board_calls.specs.Calls.{Called, Entry, fresh, startQuestions, takeQuestions, calledOf, outgoingAfter}
 use Rattle.board_calls.specs.Restore.{Replay, onPlanRead, restoreQuestions, restoredOf, restoreOutgoing}
 use Rattle.board_calls.specs.Results.{CallGives, RestoreGives}
 use Rattle.board_promises.specs.Outgoing.{withRest, messagesFrom, messagesOf, AllWritable, Typed}
@@ -91,7 +92,7 @@ read-after (m ∷ ms) (suc f) s p l e w =
     let e2 : s ≡ (p ++ b) ++ bytesOf ms = e1 ∙ sym (append-assoc p b (bytesOf ms)) in
     let n : length (p ++ b) ≡ length p + length b = length-append p b in
     let k : length s ≡ length (p ++ b) + length (bytesOf ms) = ap length e2 ∙ length-append (p ++ b) (bytesOf ms) in
-    let r : messageAt s (length p) ≡ MessageRead.Read m (length p + length b) = ap (λ (x : List ℕ). messageAt x (length p)) e1 ∙ message-read m p (bytesOf ms) (h .0) (h .1) in
+    let r : messageAt s (length p) ≡ MessageRead.Read m (length p + length b) = ap (λ (x : List ℕ). messageAt x (length p)) e1 ∙ message-read m p (bytesOf ms) (h .0) (omega (arith, h .1)) in
     messages-next f s (length p) m (length p + length b) (omega (arith, message-pos m)) r
     ∙ ap (λ (x : ℕ). withRest m (messagesFrom f s x)) (sym n)
     ∙ ap (withRest m) (read-after ms f s (p ++ b) (omega arith) e2 (λ x i. w x (List·Memᴰ·tail i)))
@@ -111,14 +112,14 @@ written-read out ms w = ap messagesOf (sent-bytes out (bytesOf ms)) ∙ messages
 -- ---- start and take
 
 -- every party that is passed to a call has its type's shape
-pub typed-party : (p : Party) (vs : List Val) → Is PartyType.the-row p vs → T (partyValid p) → Typed p
+pub typed-party : (p : Code.Party) (vs : List Val) → Is PartyType.the-row p vs → T (partyValid (asParty p)) → Typed (asParty p)
 typed-party p vs h v =
     let z = typed-sized p vs h v in
-    record { levels = z .formed .full; echoes = z .echoes; agreement = h .1 .1 .1 .1 .1 .0 .1 }
+    record { levels = z .formed .full; echoes = z .echoes; agreement = omega (arith, h .1 .1 .1 .1 .1 .0 .1) }
 
 -- the messages of a vote can be written
-proper-writable : (a : ℕ) → a < 2 ^ 32 → (ms : List Message) → ((m : Message) → List·Memᴰ m ms → T (inTable m) × (m .number ≡ a)) → AllWritable ms
-proper-writable a h ms w m i = (T→true (inTable m) (w m i .0), subst (λ (n : ℕ). n < 2 ^ 32) (sym (w m i .1)) h)
+proper-writable : (a : ℕ) → a ≤ maxNumber → (ms : List Message) → ((m : Message) → List·Memᴰ m ms → T (inTable m) × (m .number ≡ a)) → AllWritable ms
+proper-writable a h ms w m i = (T→true (inTable m) (w m i .0), subst (λ (n : ℕ). n ≤ maxNumber) (sym (w m i .1)) h)
 
 -- so can those of a call that makes a record
 recorded-writable : (p : Party) → Typed p → (r : Record) (ran : Ran) → Recorded p r ran → AllWritable (ran .made)
@@ -185,7 +186,7 @@ module _ (n t own a : ℕ) (bytes j : List ℕ) where
       go (refused number place) i e = let z : _≡_ {A = ℕ} 0 1 = cc in absurd (omega arith)
 
   -- The bytes that an accepted restore sends are the messages of the last whole record.
-  pub restore-outgoing : a < 2 ^ 32 → AllBytes j → {out : List ℕ} {c : Called} {outThen : List ℕ} (x : Replay)
+  pub restore-outgoing : a ≤ maxNumber → AllBytes j → {out : List ℕ} {c : Called} {outThen : List ℕ} (x : Replay)
       → RestoreGives (restoreQuestions n t own a bytes j (length out)) out c outThen → restoreQuestions n t own a bytes j (length out) ≡ found x
       → messagesOf (take (c .sent) outThen) ≡ some (x .ran .made)
   restore-outgoing h all {out} {c} {outThen} x g e =

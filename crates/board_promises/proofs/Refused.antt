@@ -5,11 +5,15 @@ use Prim.Native.Nat.{ℕ}
 use native.Mathlib.Omega.{arith}
 use Rattle.base.specs.declared.Verdict.{Verdict}
 use Rattle.base.specs.Found.{Found, found, refused}
-use Rattle.plan.specs.declared.Plan.{Plan}
+use Rattle.plan.specs.Plan.{Plan}
 use Rattle.plan.specs.Reading.{settledPlan}
-use Rattle.party.specs.declared.Party.{Party}
-use Rattle.board_calls.specs.declared.Called.{Called}
-use Rattle.board_calls.specs.Calls.{Entry, again, fresh, noParty, setUpAnswer, setUpOf}
+use Rattle.party.specs.declared.Party as Code
+use Rattle.party.specs.Party.{Party}
+use Rattle.party.specs.Tie.{asParty}
+use Rattle.party.proofs.Ties.{party-one}
+use Rattle.board_calls.specs.declared.Called as CodeCalled
+use Rattle.board_calls.specs.Tie.{asCalled}
+use Rattle.board_calls.specs.Calls.{Called, Entry, again, fresh, noParty, setUpAnswer, setUpOf}
 use Rattle.board_calls.specs.Restore.{Replay}
 use Rattle.board_calls.specs.Results.{CallGives, RestoreGives}
 use Rattle.board_promises.specs.Refused.{Untouched}
@@ -36,6 +40,11 @@ refused-untouched {q} {p} {used} {j} {out} {r} {jThen} {outThen} g number place 
       sent = ap (λ (c : Called). c .sent) (g .result);
       rules = ap (λ (c : Called). c .rules) (g .result);
     }
+
+-- The code's record is the very one that was given: it stands for one party only.
+pub refused-back : {q : Found Entry} {p : Code.Party} {used : ℕ} {j out : List ℕ} {r : CodeCalled.Called} {jThen outThen : List ℕ}
+    → CallGives q (asParty p) used j out (asCalled r) jThen outThen → (number place : ℕ) → r .verdict ≡ Verdict.Refused number place → r .party ≡ p
+refused-back {p = p} {r = r} g number place v = party-one (r .party) p (refused-untouched g number place v .party)
 
 -- ---- restore
 

@@ -14,15 +14,14 @@ use Rattle.base.specs.Limits.{outgoingSize}
 use Rattle.base.specs.Found.{found}
 use Rattle.base.proofs.Bools.{not-T→false}
 use Rattle.signed.specs.Signed.{fromOffset}
-use Rattle.plan.specs.declared.Plan.{Plan}
+use Rattle.plan.specs.Plan.{Plan}
 use Rattle.plan.specs.Positions.{readingOf}
 use Rattle.plan.specs.Valid.{planValid}
 use Rattle.plan_laws.proofs.Parts.{tree-parts, range-parts}
 use Rattle.plan_laws.proofs.Shape.{Kinds, tree, range, kinds, shape}
 use Rattle.journal.specs.declared.Record.the-variants.{Start}
 use Rattle.journal.specs.Journal.{recordBytes}
-use Rattle.party.specs.declared.Party.{Party}
-use Rattle.party.specs.Party.{started}
+use Rattle.party.specs.Party.{Party, started}
 use Rattle.party.specs.Run.{starting}
 use Rattle.party.specs.Valid.{partyValid}
 use Rattle.party_laws.proofs.Laws.{valid→}

@@ -7,7 +7,7 @@ use lib.ListN.{length}
 use Rattle.base.specs.Limits.{levelCount}
 use Rattle.base.specs.declared.Verdict.{Verdict}
 use Rattle.varint.specs.Varint.{AllBytes}
-use Rattle.party.specs.declared.Party.{Party}
+use Rattle.party.specs.Party.{Party}
 use Rattle.board_calls.specs.Calls.{setUpOf, startQuestions, takeQuestions, calledOf}
 use Rattle.board_calls.specs.Restore.{restoreQuestions, restoredOf}
 

@@ -3,17 +3,17 @@ use mathlib.Core.Path.{_≡_}
 use mathlib.Core.Bool.{true}
 use mathlib.Core.List.{List, [], _∷_, List·Memᴰ}
 use mathlib.Core.Option.{Option, none, some}
-use Prim.Native.Nat.{ℕ, zero, suc, _^_, _<_}
+use Prim.Native.Nat.{ℕ, zero, suc, _≤_, _<_}
 use lib.Dec.{eqb}
 use lib.ListN.{length}
 use Rattle.base.specs.Pick.{pick}
-use Rattle.base.specs.Limits.{levelCount}
+use Rattle.base.specs.Limits.{maxNumber, levelCount}
 use Rattle.message.specs.declared.Message.{Message}
 use Rattle.message.specs.declared.MessageRead.{MessageRead}
-use Rattle.message.specs.Message.{inTable, messageAt}
+use Rattle.message.specs.Message.{inTable}
+use Rattle.message.specs.Reading.{messageAt}
 use Rattle.level.specs.Level.{valueCount}
-use Rattle.party.specs.declared.Party.{Party}
-use Rattle.party.specs.Party.{levelAt}
+use Rattle.party.specs.Party.{Party, levelAt}
 
 -- a message, and then the rest if that is messages
 abbrev pub withRest : Message → Option (List Message) → Option (List Message)
@@ -35,12 +35,12 @@ messagesFrom (suc f) s at = pick (eqb at (length s)) (some []) (withNext (messag
 abbrev pub messagesOf : List ℕ → Option (List Message)
 messagesOf s = messagesFrom (length s) s 0
 
--- messages that can be written: of the table, with an agreement number of 32 bits
+-- messages that can be written: of the table, with an agreement number in its limits
 abbrev pub AllWritable : List Message → Type 0
-AllWritable ms = (m : Message) → List·Memᴰ m ms → (inTable m ≡ true) × (m .number < 2 ^ 32)
+AllWritable ms = (m : Message) → List·Memᴰ m ms → (inTable m ≡ true) × (m .number ≤ maxNumber)
 
--- what a party has by its type: all levels, in each a place for every second echo, and an agreement number of 32 bits
+-- what a party has by its type: all levels, in each a place for every second echo, and an agreement number in its limits
 pub record Typed (p : Party) : Type 0 where
   pub levels : length (p .levels) ≡ levelCount
   pub echoes : (i : ℕ) → i < levelCount → length (levelAt p i .echoed) ≡ valueCount
-  pub agreement : p .agreement < 2 ^ 32
+  pub agreement : p .agreement ≤ maxNumber

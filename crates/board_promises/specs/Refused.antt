@@ -2,8 +2,8 @@
 use mathlib.Core.Path.{_≡_}
 use mathlib.Core.List.{List}
 use Prim.Native.Nat.{ℕ}
-use Rattle.party.specs.declared.Party.{Party}
-use Rattle.board_calls.specs.declared.Called.{Called}
+use Rattle.party.specs.Party.{Party}
+use Rattle.board_calls.specs.Calls.{Called}
 
 -- a start or take changed nothing: the party, the used length, the journal and the outgoing buffer are those that were lent, and nothing was sent or applied
 pub record Untouched (p : Party) (used : ℕ) (j out : List ℕ) (r : Called) (jThen outThen : List ℕ) : Type 0 where

@@ -14,15 +14,14 @@ use Rattle.base.specs.Limits.{maxRules, outgoingSize}
 use Rattle.base.proofs.Puts.{put-none}
 use Rattle.journal.specs.declared.Record.{Record}
 use Rattle.journal.specs.declared.RecordRead.{RecordRead}
-use Rattle.journal.specs.Journal.{recordAt}
-use Rattle.party.specs.declared.Party.{Party}
+use Rattle.journal.specs.Reading.{recordAt}
+use Rattle.party.specs.Party.{Party}
 use Rattle.party.specs.declared.Chart.{Chart}
 use Rattle.party.specs.Run.{Ran, resting}
 use Rattle.party.specs.Valid.{partyValid}
-use Rattle.party.specs.Chart.{Charts}
+use Rattle.party.specs.Inner.{Charts}
 use Rattle.party_life.specs.Life.{replayed, following, Fits}
-use Rattle.party_run.specs.Inner.{Gives, Ready}
-use Rattle.party_run.specs.declared.Ran as Running
+use Rattle.party_run.specs.Inner.{Outcome, Gives, Ready}
 use Rattle.board_laws.specs.Inner.{New, One, Many, none}
 use Rattle.board_restore.specs.Inner.{Replays}
 use Rattle.board_laws.proofs.Replays.{new-sized, one-record, one-read, many-sized, many-le, many-first, many-then, many-rules}
@@ -82,7 +81,7 @@ module _ {p : Party} {j : List ℕ} {last : ℕ} {out : List ℕ} {q : Party} {d
           let o = subst (λ (o : List ℕ). outgoingSize ≤ length o) (sym (s .silent)) l in
           (record { valid = replaying-valid; charts = s .chart; room = o }, subst (λ (z : Party). Fits z x) (sym (s .party)) (here .1))
 
-      module _ {g : Running.Ran} {outThen : List ℕ} (k : Gives (replayed q x) false outNow g outThen) where
+      module _ {g : Outcome} {outThen : List ℕ} (k : Gives (replayed q x) false outNow g outThen) where
         same : replayed q x ≡ replayed (s .r .party) x
         same = ap (λ (z : Party). replayed z x) (s .party)
 

@@ -16,14 +16,13 @@ use Rattle.base.specs.Found.{Found, found, refused}
 use Rattle.message.specs.declared.Message.{Message}
 use Rattle.journal.specs.declared.Record.{Record}
 use Rattle.journal.specs.declared.RecordRead.{RecordRead}
-use Rattle.journal.specs.Journal.{recordAt}
-use Rattle.party.specs.declared.Party.{Party}
+use Rattle.journal.specs.Reading.{recordAt}
+use Rattle.party.specs.Party.{Party}
 use Rattle.party.specs.Run.{Ran, resting, bytesOf}
 use Rattle.party.specs.Valid.{partyValid}
 use Rattle.party_life.specs.Life.{replayed, following, Fits}
-use Rattle.party_run.specs.Inner.{Gives, Ready}
-use Rattle.party_run.specs.declared.Ran as Running
-use Rattle.board_calls.specs.declared.Called.{Called}
+use Rattle.party_run.specs.Inner.{Outcome, Gives, Ready}
+use Rattle.board_calls.specs.Calls.{Called}
 use Rattle.board_calls.specs.Restore.{Replay, replayFrom, restoredOf, restoreOutgoing}
 use Rattle.board_calls.specs.Results.{RestoreGives}
 use Rattle.board_laws.specs.Inner.{New, One, Many, none, more}
@@ -92,7 +91,7 @@ module _ {p : Party} {j : List ℕ} (w : New p) {last end : ℕ} {b q : Ran} (h 
     pub last-read : NoRecord (recordAt j last) → ⊥
     last-read n = no-record (recordAt j last) n (one-record newest .1)
 
-    module _ {out outNow : List ℕ} {g : Running.Ran} (k : Replays p j last out g outNow) {x : Record} {next : ℕ} (e : recordAt j last ≡ RecordRead.Read x next) where
+    module _ {out outNow : List ℕ} {g : Outcome} (k : Replays p j last out g outNow) {x : Record} {next : ℕ} (e : recordAt j last ≡ RecordRead.Read x next) where
       same : k .b ≡ b
       same = many-unique (k .before) (h .before)
 
@@ -109,7 +108,7 @@ module _ {p : Party} {j : List ℕ} (w : New p) {last end : ℕ} {b q : Ran} (h 
         subst (λ (z : Party). Fits z x) (sym party-is) (one-read newest e .1),
       )
 
-      module _ {f : Running.Ran} {outThen : List ℕ} (m : Gives (replayed (g .party) x) true outNow f outThen) where
+      module _ {f : Outcome} {outThen : List ℕ} (m : Gives (replayed (g .party) x) true outNow f outThen) where
         again : replayed (g .party) x ≡ replayed (b .party) x
         again = ap (λ (z : Party). replayed z x) party-is
 

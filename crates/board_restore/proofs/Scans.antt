@@ -10,10 +10,9 @@ use Rattle.base.specs.Found.{found}
 use Rattle.varint.specs.Varint.{AllBytes}
 use Rattle.journal.specs.declared.Record.{Record}
 use Rattle.journal.specs.declared.RecordRead.{RecordRead}
-use Rattle.journal.specs.Journal.{recordAt}
+use Rattle.journal.specs.Reading.{recordAt}
 use Rattle.journal.proofs.RoundTrip.{record-was-written}
-use Rattle.party.specs.declared.Party.{Party}
-use Rattle.party.specs.Party.{started}
+use Rattle.party.specs.Party.{Party, started}
 use Rattle.party.specs.Run.{Ran, resting}
 use Rattle.party_life.specs.Life.{replayed, following, faultOf, fault}
 use Rattle.party_life.proofs.Fits.{fault-fits}

@@ -6,11 +6,11 @@ use Prim.Native.Nat.{ℕ, _≤_}
 use lib.ListN.{length}
 use Rattle.base.specs.Limits.{outgoingSize}
 use Rattle.base.specs.Found.{found, refused}
-use Rattle.party.specs.declared.Party.{Party}
+use Rattle.party.specs.Party.{Party}
 use Rattle.party.specs.declared.Chart.{Chart}
 use Rattle.party.specs.Run.{Ran, resting}
-use Rattle.party.specs.Chart.{Charts}
-use Rattle.party_run.specs.declared.Ran as Running
+use Rattle.party.specs.Inner.{Charts}
+use Rattle.party_run.specs.Inner.{Outcome}
 use Rattle.board_calls.specs.Restore.{replayFrom}
 use Rattle.board_laws.specs.Inner.{New, One, Many}
 use Rattle.board_restore.specs.declared.Scan.{Scan}
@@ -35,7 +35,7 @@ pub record Replayable (p : Party) (c : Chart) (j : List ℕ) (last out : ℕ) : 
   pub before : Many j 0 (resting p) last b
 
 -- what it gives: no byte is written
-pub record Replays (p : Party) (j : List ℕ) (last : ℕ) (out : List ℕ) (g : Running.Ran) (outThen : List ℕ) : Type 0 where
+pub record Replays (p : Party) (j : List ℕ) (last : ℕ) (out : List ℕ) (g : Outcome) (outThen : List ℕ) : Type 0 where
   pub b : Ran
   pub before : Many j 0 (resting p) last b
   pub party : g .party ≡ b .party

@@ -13,6 +13,9 @@ ghost use Rattle.board_calls.specs.Restore.{replayFrom, restoreQuestions};
 ghost use Rattle.board_calls.specs.Results.{RestoreGives};
 ghost use Rattle.board_laws.specs.Inner.{New, startedBy};
 ghost use Rattle.board_restore.specs.Inner.{Scanned, Replayable, Replays};
+ghost use Rattle.party.specs.Tie.{asParty};
+ghost use Rattle.party_run.specs.Inner.{asOutcome};
+ghost use Rattle.board_calls.specs.Tie.{asCalled};
 
 // What reading the records finds: number 0, the place of the last whole record and the place past it; or a refusal's number and place.
 struct Scan {
@@ -23,7 +26,7 @@ struct Scan {
 
 // The number of the first question about a record that fails, or 0.
 fn fault(p: party::Party, r: journal::Record, started: bool) -> u8
-    ensures { λ k. ⌜ k ≡ faultOf p started r ⌝ }
+    ensures { λ k. ⌜ k ≡ faultOf (asParty p) started r ⌝ }
 {
     match r {
         journal::Record::Start {
@@ -72,8 +75,8 @@ fn started_by(r: journal::Record, started: bool) -> bool
 // "Restore, each record: A whole record, or the torn last one? 21. Our number? 16. Sender below n? 14. Not a second start? 13. Position on the
 // plan? 12."
 fn scan_journal(p: party::Party, journal: &[u8]) -> Scan
-    requires { ⌜ New p ⌝ }
-    ensures { λ s. ⌜ Scanned p (now (journal .entry)) s ⌝ }
+    requires { ⌜ New (asParty p) ⌝ }
+    ensures { λ s. ⌜ Scanned (asParty p) (now (journal .entry)) s ⌝ }
 {
     let mut started = false;
     let mut last: usize = 0;
@@ -124,8 +127,8 @@ fn replay_before(
     last: usize,
     out: &mut [u8],
 ) -> Ran
-    requires { ⌜ Replayable p c (now journal) last (length (now out)) ⌝ }
-    ensures { λ g. ⌜ Replays p (now (journal .entry)) last (now (out .entry)) g (now (out .exit)) ⌝ }
+    requires { ⌜ Replayable (asParty p) c (now journal) last (length (now out)) ⌝ }
+    ensures { λ g. ⌜ Replays (asParty p) (now (journal .entry)) last (now (out .entry)) (asOutcome g) (now (out .exit)) ⌝ }
 {
     let mut q = p;
     let mut d = c;
@@ -156,8 +159,8 @@ fn replay_before(
 
 // The party of the journal's whole records, from p on, with the messages of the last.
 fn restore_on(p: party::Party, journal: &[u8], out: &mut [u8]) -> Called
-    requires { ⌜ New p × (outgoingSize ≤ length (now out)) ⌝ }
-    ensures { λ r. ⌜ RestoreGives (replayFrom (length (now (journal .entry))) (now (journal .entry)) 0 (resting p)) (now (out .entry)) r (now (out .exit)) ⌝ }
+    requires { ⌜ New (asParty p) × (outgoingSize ≤ length (now out)) ⌝ }
+    ensures { λ r. ⌜ RestoreGives (replayFrom (length (now (journal .entry))) (now (journal .entry)) 0 (resting (asParty p))) (now (out .entry)) (asCalled r) (now (out .exit)) ⌝ }
 {
     let s = scan_journal(p, journal);
     if s.number != 0 {
@@ -189,7 +192,7 @@ pub fn restore(
     journal: &[u8],
     out: &mut [u8],
 ) -> Called
-    ensures { λ r. ⌜ RestoreGives (restoreQuestions n t own agreement (now (bytes .entry)) (now (journal .entry)) (length (now (out .entry)))) (now (out .entry)) r (now (out .exit)) ⌝ }
+    ensures { λ r. ⌜ RestoreGives (restoreQuestions n t own agreement (now (bytes .entry)) (now (journal .entry)) (length (now (out .entry)))) (now (out .entry)) (asCalled r) (now (out .exit)) ⌝ }
 {
     if out.len() < base::OUTGOING {
         return unrestored(18, 0);

@@ -12,12 +12,12 @@ use Rattle.base.specs.Sets.{Set, count}
 use Rattle.base.proofs.Counts.{count-le}
 use Rattle.base.proofs.Smallest.{sought}
 use Rattle.tree.specs.Walk.{Walk}
-use Rattle.tree.specs.Edges.{Edges, Adjacent, In}
+use Rattle.tree.specs.Edges.{Edges, Adjacent}
+use Rattle.tree.specs.Inner.{In, interval}
 use Rattle.tree.specs.Component.{upto, centre, degree, port, neighbours, rank, neighbour}
-use Rattle.tree.specs.Path.{interval}
 use Rattle.tree.proofs.PathInterval.{upto-interval}
 use Rattle.edges.specs.Rows.{rows}
-use Rattle.plan.specs.declared.Plan.{Plan}
+use Rattle.plan.specs.Plan.{Plan}
 use Rattle.plan.specs.Positions.{edgesOf}
 use Rattle.plan.specs.Valid.{planValid}
 use Rattle.plan_laws.proofs.Parts.{tree-parts}
@@ -26,8 +26,8 @@ use Rattle.marks.specs.Marks.{marked}
 use Rattle.marks.proofs.Marks.{blank}
 use Rattle.tree_pass.specs.Inner.{Rows}
 use Rattle.component_tree.specs.Inner.{OfTree}
-use Rattle.component.specs.Component.{members, OfPlan, sizeOf, surveyOf}
-use Rattle.component.specs.Inner.{surveyIn}
+use Rattle.component.specs.Component.{sizeOf}
+use Rattle.component.specs.Inner.{members, OfPlan, surveyOf, surveyIn}
 use Rattle.component.specs.declared.Component.{Component}
 use Rattle.component.specs.declared.Survey.{Survey}
 

@@ -9,17 +9,18 @@ use Rattle.base.specs.Limits.{maxWidth}
 use Rattle.base.specs.Sets.{Set, count}
 use Rattle.base.proofs.Counts.{member}
 use Rattle.tree.specs.Component.{centre, degree, port}
-use Rattle.tree.specs.Path.{pathEdges, interval, middle}
+use Rattle.tree.specs.Path.{pathEdges}
+use Rattle.tree.specs.Inner.{interval, middle}
 use Rattle.tree.proofs.PathEdges.{Along, path-along}
 use Rattle.tree.proofs.PathInterval.{to-interval, from-interval, interval-size}
 use Rattle.tree.proofs.PathCentre.{interval-centre}
 use Rattle.tree.proofs.PathSides.{interval-degree, interval-neighbour-one, interval-neighbour-two, interval-side-one, interval-side-two, interval-port-below, interval-port-middle, interval-port-above}
-use Rattle.plan.specs.declared.Plan.{Plan}
+use Rattle.plan.specs.Plan.{Plan}
 use Rattle.plan.specs.Positions.{edgesOf}
 use Rattle.plan.specs.Valid.{planValid}
 use Rattle.plan_laws.proofs.Shape.{Kinds, tree, range, kinds, shape, edges-range}
-use Rattle.component.specs.Component.{members, OfPlan, sizeOf, centreOf, degreeOf, neighbourOf, sideOf, surveyOf}
-use Rattle.component.specs.Inner.{portAt}
+use Rattle.component.specs.Component.{sizeOf, centreOf, degreeOf, neighbourOf, sideOf}
+use Rattle.component.specs.Inner.{members, OfPlan, surveyOf, portAt}
 use Rattle.component.specs.declared.Component.{Component}
 use Rattle.component.specs.declared.Survey.{Survey}
 use Rattle.component.proofs.Members.{members-range, survey-parts}

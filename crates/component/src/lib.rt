@@ -3,33 +3,34 @@ ghost use mathlib.Core.Path.{_≡_};
 ghost use Prim.Native.Nat.{_≤_};
 ghost use lib.Dec.{T};
 ghost use Rattle.tree.specs.Component.{upto};
-ghost use Rattle.tree.specs.Path.{middle};
+ghost use Rattle.tree.specs.Inner.{middle};
 ghost use Rattle.plan.specs.Valid.{planValid};
 ghost use Rattle.marks.specs.Marks.{marked};
 ghost use Rattle.component_tree.specs.Inner.{tree, OfTree};
-ghost use Rattle.component.specs.Component.{members, OfPlan, sizeOf, centreOf, degreeOf, neighbourOf, sideOf, surveyOf};
-ghost use Rattle.component.specs.Inner.{surveyIn, portAt};
+ghost use Rattle.component.specs.Component.{sizeOf, centreOf, degreeOf, neighbourOf, sideOf};
+ghost use Rattle.component.specs.Inner.{members, OfPlan, surveyOf, surveyIn, portAt};
+ghost use Rattle.plan.specs.Tie.{asPlan};
 
 // Some positions of a plan.
 pub struct Component {
     // the first and the last position, for a range
-    pub low: u32,
-    pub high: u32,
+    pub low: base::Position,
+    pub high: base::Position,
     // 1 for each position in it, for a tree
     pub inside: [u8; base::MAX_VERTICES],
 }
 
 // What the rules ask of a component of three or more positions, and of the board's position in it.
 pub struct Survey {
-    pub centre: u32,
+    pub centre: base::Position,
     pub degree: u32,
     pub port: u8,
 }
 
 // All positions of a plan.
 pub fn whole(p: plan::Plan) -> Component
-    requires { ⌜ T (planValid p) ⌝ }
-    ensures { λ r. ⌜ members p r ≡ upto (p .count) ⌝ }
+    requires { ⌜ T (planValid (asPlan p)) ⌝ }
+    ensures { λ r. ⌜ members (asPlan p) r ≡ upto (p .count) ⌝ }
 {
     let mut inside = [0u8; base::MAX_VERTICES];
     if p.kind == 1 {
@@ -48,8 +49,8 @@ pub fn whole(p: plan::Plan) -> Component
 }
 
 // Is x a position of the component?
-pub fn contains(p: plan::Plan, c: Component, x: u32) -> bool
-    ensures { λ r. ⌜ r ≡ members p c x ⌝ }
+pub fn contains(p: plan::Plan, c: Component, x: base::Position) -> bool
+    ensures { λ r. ⌜ r ≡ members (asPlan p) c x ⌝ }
 {
     if p.kind == 1 {
         let at = x as usize;
@@ -64,8 +65,8 @@ pub fn contains(p: plan::Plan, c: Component, x: u32) -> bool
 
 // How many positions it has.
 pub fn size(p: plan::Plan, c: Component) -> u32
-    requires { ⌜ OfPlan p (members p c) ⌝ }
-    ensures { λ r. ⌜ r ≡ sizeOf p (members p c) ⌝ }
+    requires { ⌜ OfPlan (asPlan p) (members (asPlan p) c) ⌝ }
+    ensures { λ r. ⌜ r ≡ sizeOf (asPlan p) (members (asPlan p) c) ⌝ }
 {
     if p.kind == 1 {
         let inside = c.inside;
@@ -75,7 +76,7 @@ pub fn size(p: plan::Plan, c: Component) -> u32
 }
 
 // The centre of a component of a range.
-fn midpoint(low: u32, high: u32) -> u32
+fn midpoint(low: base::Position, high: base::Position) -> base::Position
     requires { ⌜ low ≤ high ⌝ }
     ensures { λ r. ⌜ r ≡ middle low high ⌝ }
 {
@@ -83,7 +84,7 @@ fn midpoint(low: u32, high: u32) -> u32
 }
 
 // The port of x in a component of a range whose centre is m.
-fn range_port(m: u32, x: u32) -> u8
+fn range_port(m: base::Position, x: base::Position) -> u8
     ensures { λ r. ⌜ r ≡ portAt m x ⌝ }
 {
     if x < m {
@@ -112,16 +113,16 @@ fn tree_survey(
     let d = marks::count(&near, n);
     let k = component_tree::tree_port(ps, cs, inside, &near, n, c, x);
     Survey {
-        centre: c as u32,
+        centre: c as base::Position,
         degree: d as u32,
         port: k as u8,
     }
 }
 
 // The survey with the board at x.
-pub fn survey_at(p: plan::Plan, c: Component, x: u32) -> Survey
-    requires { ⌜ OfPlan p (members p c) × (3 ≤ sizeOf p (members p c)) × T (members p c x) ⌝ }
-    ensures { λ r. ⌜ r ≡ surveyOf p (members p c) x ⌝ }
+pub fn survey_at(p: plan::Plan, c: Component, x: base::Position) -> Survey
+    requires { ⌜ OfPlan (asPlan p) (members (asPlan p) c) × (3 ≤ sizeOf (asPlan p) (members (asPlan p) c)) × T (members (asPlan p) c x) ⌝ }
+    ensures { λ r. ⌜ r ≡ surveyOf (asPlan p) (members (asPlan p) c) x ⌝ }
 {
     if p.kind == 1 {
         let parent = p.parent;
@@ -139,9 +140,9 @@ pub fn survey_at(p: plan::Plan, c: Component, x: u32) -> Survey
 }
 
 // Neighbour k of the centre.
-pub fn neighbour(p: plan::Plan, c: Component, centre: u32, k: u32) -> u32
-    requires { ⌜ OfPlan p (members p c) × (3 ≤ sizeOf p (members p c)) × (centre ≡ centreOf p (members p c)) × (1 ≤ k) × (k ≤ degreeOf p (members p c)) ⌝ }
-    ensures { λ r. ⌜ r ≡ neighbourOf p (members p c) k ⌝ }
+pub fn neighbour(p: plan::Plan, c: Component, centre: base::Position, k: u32) -> base::Position
+    requires { ⌜ OfPlan (asPlan p) (members (asPlan p) c) × (3 ≤ sizeOf (asPlan p) (members (asPlan p) c)) × (centre ≡ centreOf (asPlan p) (members (asPlan p) c)) × (1 ≤ k) × (k ≤ degreeOf (asPlan p) (members (asPlan p) c)) ⌝ }
+    ensures { λ r. ⌜ r ≡ neighbourOf (asPlan p) (members (asPlan p) c) k ⌝ }
 {
     if p.kind == 1 {
         let parent = p.parent;
@@ -154,7 +155,7 @@ pub fn neighbour(p: plan::Plan, c: Component, centre: u32, k: u32) -> u32
             p.count as usize,
             centre as usize,
             k as usize,
-        ) as u32;
+        ) as base::Position;
     }
     if k == 1 {
         return centre - 1;
@@ -163,9 +164,9 @@ pub fn neighbour(p: plan::Plan, c: Component, centre: u32, k: u32) -> u32
 }
 
 // Side k.
-pub fn side(p: plan::Plan, c: Component, centre: u32, k: u32) -> Component
-    requires { ⌜ OfPlan p (members p c) × (3 ≤ sizeOf p (members p c)) × (centre ≡ centreOf p (members p c)) × (1 ≤ k) × (k ≤ degreeOf p (members p c)) ⌝ }
-    ensures { λ r. ⌜ members p r ≡ sideOf p (members p c) k ⌝ }
+pub fn side(p: plan::Plan, c: Component, centre: base::Position, k: u32) -> Component
+    requires { ⌜ OfPlan (asPlan p) (members (asPlan p) c) × (3 ≤ sizeOf (asPlan p) (members (asPlan p) c)) × (centre ≡ centreOf (asPlan p) (members (asPlan p) c)) × (1 ≤ k) × (k ≤ degreeOf (asPlan p) (members (asPlan p) c)) ⌝ }
+    ensures { λ r. ⌜ members (asPlan p) r ≡ sideOf (asPlan p) (members (asPlan p) c) k ⌝ }
 {
     if p.kind == 1 {
         let parent = p.parent;

@@ -9,14 +9,15 @@ use lib.ListN.{length}
 use Rattle.base.specs.Sets.{Set, count}
 use Rattle.base.specs.Limits.{maxDegree, levelCount}
 use Rattle.base.proofs.Counts.{member, count-pos, count-one}
-use Rattle.tree.specs.Edges.{Acyclic}
+use Rattle.tree.specs.Inner.{Acyclic}
 use Rattle.tree.specs.Component.{upto}
 use Rattle.tree.proofs.Laws as tree
-use Rattle.plan.specs.declared.Plan.{Plan}
+use Rattle.plan.specs.Plan.{Plan}
 use Rattle.plan.specs.Positions.{edgesOf}
 use Rattle.plan.specs.Valid.{planValid}
 use Rattle.plan_laws.proofs.Shape.{shape}
-use Rattle.component.specs.Component.{OfPlan, wholeOf, sizeOf, centreOf, degreeOf, portOf, neighbourOf, sideOf}
+use Rattle.component.specs.Component.{wholeOf, sizeOf, centreOf, degreeOf, portOf, neighbourOf, sideOf}
+use Rattle.component.specs.Inner.{OfPlan}
 
 -- ---- a component of a plan is one of its edges
 

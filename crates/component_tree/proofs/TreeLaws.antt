@@ -14,9 +14,9 @@ use Rattle.base.specs.Sets.{Set, count}
 use Rattle.base.proofs.Bools.{T-and, T-ext, T→true, not-T→false}
 use Rattle.base.proofs.Counts.{member, count-le}
 use Rattle.base.proofs.Smallest.{found, smallest-same}
-use Rattle.tree.specs.Edges.{Edges, Acyclic, label, joined, adjacent}
+use Rattle.tree.specs.Edges.{Edges, label, joined, adjacent}
+use Rattle.tree.specs.Inner.{Acyclic, unshown}
 use Rattle.tree.specs.Component.{without, part, centre, neighbours, degree, rank, neighbour, side, gateway, port}
-use Rattle.tree.specs.Passes.{unshown}
 use Rattle.tree.proofs.Edges.{adjacent←}
 use Rattle.tree.proofs.Without.{to-without, without-in}
 use Rattle.tree.proofs.Parts.{beside, part-without}

@@ -5,7 +5,8 @@ use lib.Dec.{T}
 use Rattle.base.specs.Sets.{Set, count}
 use Rattle.base.specs.Limits.{maxVertices}
 use Rattle.tree.specs.Walk.{Walk}
-use Rattle.tree.specs.Edges.{Edges, Adjacent, In}
+use Rattle.tree.specs.Edges.{Edges, Adjacent}
+use Rattle.tree.specs.Inner.{In}
 use Rattle.edges.specs.Rows.{rows}
 use Rattle.tree_pass.specs.Inner.{Rows}
 

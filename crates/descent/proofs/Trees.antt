@@ -5,7 +5,8 @@ use Prim.Native.Nat.{ℕ, _*_, _≤_, _<_}
 use native.Mathlib.Omega.{arith}
 use lib.Dec.{T}
 use Rattle.base.specs.Sets.{Set, count, Sound}
-use Rattle.tree.specs.Edges.{Edges, Adjacent, Acyclic}
+use Rattle.tree.specs.Edges.{Edges, Adjacent}
+use Rattle.tree.specs.Inner.{Acyclic}
 use Rattle.tree.specs.Component.{centre, degree, port, neighbour, side}
 use Rattle.tree.proofs.Laws.{flip, small, Component, port-high, port-zero, port-side, side-component, side-halves, neighbour-side, neighbour-adjacent, ports-path, neighbour-path, Hull, hull-member, hull-path}
 use Rattle.descent.specs.Inner.{Shape, OnSide, Laws, Convex, Levels, Facts, Input, Reached, Answered, Quiet}

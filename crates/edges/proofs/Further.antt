@@ -11,7 +11,8 @@ use lib.Seq.{getD-set-same, getD-set-other}
 use borrow.Author.Tests.{eqb-true}
 use Rattle.base.specs.Sets.{bit}
 use Rattle.base.specs.Limits.{maxDegree, maxVertices, maxRows}
-use Rattle.tree.specs.Edges.{Edge, Edges, Below, edgesAt}
+use Rattle.tree.specs.Edges.{Edge, Edges, edgesAt}
+use Rattle.tree.specs.Inner.{Below}
 use Rattle.union_find.specs.Inner.{Unions}
 use Rattle.edges.specs.declared.EdgeList.{EdgeList}
 use Rattle.edges.specs.Rows.{rows}

@@ -1,16 +1,18 @@
 -- The edges read so far, with the sets of a forest and the numbers of edges at hand: for the functions of this crate and of plan_groups.
 use mathlib.Core.Path.{_≡_}
 use mathlib.Core.Bool.{Bool, not, _&&_}
-use mathlib.Core.List.{List}
-use Prim.Native.Nat.{ℕ, _≤_, _<_}
+use mathlib.Core.List.{List, []}
+use Prim.Native.Nat.{ℕ, _-_, _≤_, _<_}
 use lib.Dec.{ltb}
 use lib.ListN.{length, getD}
 use Rattle.base.specs.Pick.{pick}
+use Rattle.base.specs.Found.{Found, found}
 use Rattle.base.specs.Limits.{maxDegree, maxVertices, maxRows}
-use Rattle.tree.specs.Edges.{Edges, Below, edgesAt}
+use Rattle.tree.specs.Edges.{Edges, edgesAt}
+use Rattle.tree.specs.Inner.{Below}
 use Rattle.union_find.specs.Inner.{together, Unions}
 use Rattle.edges.specs.declared.EdgeList.{EdgeList}
-use Rattle.edges.specs.Reading.{endsApart, notJoined, roomAtEnds}
+use Rattle.edges.specs.Reading.{endsApart, notJoined, roomAtEnds, edgesFrom}
 use Rattle.edges.specs.Rows.{rows}
 
 -- the number of the first question that is answered by no, or 0
@@ -50,3 +52,12 @@ pub record Listing (l : EdgeList) : Type 0 where
   pub below : Below (l .vertices) (edgesIn l)
   pub unions : Unions (l .vertices) (edgesIn l) (l .up) (l .weight)
   pub degrees : Degrees (l .vertices) (edgesIn l) (l .degree)
+
+-- the edges read and the place past them
+pub record Listed : Type 0 where
+  pub edges : Edges
+  pub past : ℕ
+
+-- the v - 1 edges of a tree of v vertices
+abbrev pub edgesOfTree : ℕ → List ℕ → ℕ → Found Listed
+edgesOfTree v s at = edgesFrom v (v - 1) s at [] (λ E end. found (record { edges = E; past = end }))

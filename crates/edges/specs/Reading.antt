@@ -1,13 +1,12 @@
 -- Document 01, "Questions at the door", 4 and 7 to 9: the edges of a plan, left to right, "both groups of an edge .. read before 7 .. is asked".
 use mathlib.Core.Bool.{Bool, not, _&&_}
-use mathlib.Core.List.{List, [], _∷_}
-use Prim.Native.Nat.{ℕ, zero, suc, _-_}
+use mathlib.Core.List.{List, _∷_}
+use Prim.Native.Nat.{ℕ, zero, suc}
 use lib.Dec.{ltb, eqb}
-use Rattle.base.specs.Pick.{pick}
-use Rattle.base.specs.Found.{Found, found, refused, ask}
+use Rattle.base.specs.Found.{Found, refused, ask}
 use Rattle.base.specs.Limits.{maxDegree}
 use Rattle.varint.specs.declared.VarintRead.{VarintRead}
-use Rattle.varint.specs.Varint.{varintAt}
+use Rattle.varint.specs.Reading.{varintAt}
 use Rattle.tree.specs.Edges.{Edge, Edges, all, joined, edgesAt}
 
 -- "Is each group whole and well formed? 4": what is read at `at`, and then what follows it
@@ -40,12 +39,3 @@ edgesFrom v (suc k) s at E done =
     (ask (notJoined E a b) 8 second
     (ask (roomAtEnds E a b) 9 second
     (edgesFrom v k s next (record { one = a; two = b } ∷ E) done)))))
-
--- the edges read and the place past them
-pub record Listed : Type 0 where
-  pub edges : Edges
-  pub past : ℕ
-
--- the v - 1 edges of a tree of v vertices
-abbrev pub edgesOfTree : ℕ → List ℕ → ℕ → Found Listed
-edgesOfTree v s at = edgesFrom v (v - 1) s at [] (λ E end. found (record { edges = E; past = end }))

@@ -5,7 +5,8 @@ use mathlib.Core.Logic.{_⊎_}
 use mathlib.Core.Bool.{Bool, true, false, not, _&&_, _||_}
 use Prim.Native.Nat.{ℕ, suc, _-_, _*_, _/_, _%_, _^_, _≤_, _<_}
 use lib.Dec.{T, eqb}
-use Rattle.base.specs.Sets.{Set, count, anyBelow}
+use Rattle.base.specs.Sets.{Set, count}
+use Rattle.base.specs.Inner.{anyBelow}
 use Rattle.base.specs.Sets as sets
 use Rattle.message.specs.declared.Body.{Body}
 use Rattle.message.specs.declared.Body.the-variants.{FirstEcho, FirstProposal, SecondEcho, SecondProposal}

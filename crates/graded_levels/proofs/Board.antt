@@ -12,9 +12,8 @@ use Rattle.base.proofs.Bools.{true→T}
 use Rattle.message.specs.Message.{noneValue}
 use Rattle.message.specs.declared.Body.{Body}
 use Rattle.message.specs.declared.Body.the-variants.{FirstEcho, FirstProposal, SecondEcho, SecondProposal}
-use Rattle.level.specs.declared.Level.{Level}
 use Rattle.level.specs.declared.Context.{Context}
-use Rattle.level.specs.Level.{notYet}
+use Rattle.level.specs.Level.{Level, notYet}
 use Rattle.level.specs.Counts.{weak, strong, mayPropose, echoedBy}
 use Rattle.graded_consensus.specs.Inner.{Setting, Sound, View, Justified, Settled, Origin}
 use Rattle.level_laws.specs.Inner.{Present, Candidate, Law, FirstBy, ResultBy, SentIn, heardFrom}
@@ -136,7 +135,7 @@ module _ (c : Context) (l : Level) (d : Valued c) (h : Law c l) where
     rule4′ = λ k i p q. r .first-none (split-reached c l d (h .heard) .1 (k, i, p, q));
     rule5 = r .own-echo;
     rule6 = λ w f k p. r .relay w f k (weak-reached c l d (h .heard) w (candidate-low c w d k) .1 p);
-    rule7 = λ w f k p. (l .«second_proposal», (r .second-proposal w f k (strong-reached c l d (h .heard) w (candidate-low c w d k) .1 p), refl));
+    rule7 = λ w f k p. (l .secondProposal, (r .second-proposal w f k (strong-reached c l d (h .heard) w (candidate-low c w d k) .1 p), refl));
     rule8 = λ w f k p. r .result-proposals w f k (second-reached c l d (h .heard) w (candidate-low c w d k) .1 p);
     rule8′ = λ v f k p q u. r .result-echoes v f k
         (weak-reached c l d (h .heard) noneValue (le-refl noneValue) .1 p) (weak-reached c l d (h .heard) v (value-low v k) .1 q)
@@ -201,7 +200,7 @@ pub proposes-dec : (c : Context) (l : Level) (v : ℕ) → Dec (SentIn c l (Firs
 proposes-dec c l v = and-dec (Present v) (l .proposal ≡ v) (present-dec v) (ℕ-discrete (l .proposal) v)
 
 pub second-proposes-dec : (c : Context) (l : Level) (w : ℕ) → Dec (SentIn c l (SecondProposal w))
-second-proposes-dec c l w = and-dec (Present w) (l .«second_proposal» ≡ w) (present-dec w) (ℕ-discrete (l .«second_proposal») w)
+second-proposes-dec c l w = and-dec (Present w) (l .secondProposal ≡ w) (present-dec w) (ℕ-discrete (l .secondProposal) w)
 
 -- ---- all boards of a view
 

@@ -4,13 +4,13 @@ use mathlib.Core.Logic.{_⊎_}
 use mathlib.Core.Bool.{Bool, true, false, not, _&&_, _||_}
 use Prim.Native.Nat.{ℕ, suc, _-_, _*_, _/_, _%_, _^_, _≤_, _<_}
 use lib.Dec.{eqb}
-use Rattle.base.specs.Sets.{Set, count, anyBelow}
+use Rattle.base.specs.Sets.{Set, count}
+use Rattle.base.specs.Inner.{anyBelow}
 use Rattle.message.specs.Message.{noneValue}
 use Rattle.message.specs.declared.Body.{Body}
 use Rattle.message.specs.declared.Body.the-variants.{FirstEcho, FirstProposal, SecondEcho, SecondProposal}
-use Rattle.level.specs.declared.Level.{Level}
 use Rattle.level.specs.declared.Context.{Context}
-use Rattle.level.specs.Level.{notYet}
+use Rattle.level.specs.Level.{Level, notYet}
 use Rattle.level.specs.Counts.{bitPlaces}
 use Rattle.graded_consensus.specs.Inner.{Setting, View}
 use Rattle.level_laws.specs.Inner.{SentIn, heardFrom}

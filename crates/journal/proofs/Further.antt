@@ -13,20 +13,22 @@ use Rattle.base.specs.Pick.{pick}
 use Rattle.base.specs.Limits.{maxPosition, maxSender}
 use Rattle.varint.specs.declared.VarintRead.{VarintRead}
 use Rattle.varint.specs.declared.VarintRead.the-variants.{Value, Short, Malformed}
-use Rattle.varint.specs.Varint.{AllBytes, varintAt, varintWithin}
+use Rattle.varint.specs.Varint.{AllBytes}
+use Rattle.varint.specs.Reading.{varintAt, varintWithin}
 use Rattle.varint.proofs.Laws.{value-within, varint-at-end, varint-within-at-end, all-bytes-append}
 use Rattle.varint.proofs.RoundTrip.{value-place}
 use Rattle.varint.proofs.Further.{Extends, varint-extends, varint-within-extends, value-stays, stays, varint-complete, varint-within-complete}
 use Rattle.message.specs.declared.Message.{Message}
 use Rattle.message.specs.declared.MessageRead.{MessageRead}
-use Rattle.message.specs.Message.{messageAt}
+use Rattle.message.specs.Reading.{messageAt}
 use Rattle.message.proofs.Laws.{read-message}
 use Rattle.message.proofs.RoundTrip.{message-parts, message-places}
 use Rattle.message.proofs.Further.{message-stays, message-complete}
 use Rattle.journal.specs.declared.Record.{Record}
 use Rattle.journal.specs.declared.Record.the-variants.{Start, Taken}
 use Rattle.journal.specs.declared.RecordRead.{RecordRead}
-use Rattle.journal.specs.Journal.{recordBytes, withPosition, withAgreement, withMessage, withSender, withTag, recordAt}
+use Rattle.journal.specs.Journal.{recordBytes}
+use Rattle.journal.specs.Reading.{withPosition, withAgreement, withMessage, withSender, withTag, recordAt}
 use Rattle.journal.specs.Records.{InLimits, ProperBeginning}
 use Rattle.journal.proofs.RoundTrip.{record-read, record-was-written}
 

@@ -10,13 +10,15 @@ use Rattle.base.specs.Put.{putAt}
 use Rattle.base.proofs.Puts.{then-put}
 use Rattle.varint.specs.declared.VarintRead.{VarintRead}
 use Rattle.varint.specs.declared.VarintRead.the-variants.{Value}
-use Rattle.varint.specs.Varint.{varintAt, varintWithin, varintBytes}
+use Rattle.varint.specs.Varint.{varintBytes}
+use Rattle.varint.specs.Reading.{varintAt, varintWithin}
 use Rattle.varint.proofs.Laws.{length-last, pieces-most}
 use Rattle.message.specs.declared.Message.{Message}
 use Rattle.message.specs.Message.{kindOf, messageBytes}
 use Rattle.message.proofs.Laws.{message-length, value-most}
 use Rattle.journal.specs.declared.Record.the-variants.{Start, Taken}
-use Rattle.journal.specs.Journal.{recordBytes, withAgreement, withSender, withTag, recordAt}
+use Rattle.journal.specs.Journal.{recordBytes}
+use Rattle.journal.specs.Reading.{withAgreement, withSender, withTag, recordAt}
 
 -- a record whose tag is read as r
 pub read-record : (s : List ℕ) (at : ℕ) {r : VarintRead} → varintWithin 1 2 s at ≡ r → withTag s r ≡ recordAt s at

@@ -2,3 +2,4 @@ pub mod Laws
 pub mod RoundTrip
 pub mod Further
 pub mod Records
+pub mod Theorem

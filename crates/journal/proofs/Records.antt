@@ -12,8 +12,10 @@ use Rattle.varint.specs.Varint.{AllBytes}
 use Rattle.journal.specs.declared.Record.{Record}
 use Rattle.journal.specs.declared.Record.the-variants.{Start, Taken}
 use Rattle.journal.specs.declared.RecordRead.{RecordRead}
-use Rattle.journal.specs.Journal.{recordBytes, recordAt}
-use Rattle.journal.specs.Records.{InLimits, AllInLimits, ProperBeginning, journalBytes, withRecord, recordsFrom}
+use Rattle.journal.specs.Journal.{recordBytes}
+use Rattle.journal.specs.Reading.{recordAt, withRecord, recordsFrom}
+use Rattle.journal.specs.Records.{InLimits, AllInLimits, ProperBeginning, journalBytes}
+use Rattle.journal.specs.Statement.{Begins}
 use Rattle.journal.proofs.Laws.{start-length, taken-length}
 use Rattle.journal.proofs.RoundTrip.{record-read, record-was-written}
 use Rattle.journal.proofs.Further.{record-at-end, torn-beginning}
@@ -305,19 +307,13 @@ journal-append l used r rs h e =
 
 -- ---- any bytes
 
--- The records that are read of any bytes are those of a beginning of them, and what stands after it is torn or bad.
-pub record Reads (j : List ℕ) (rs : List Record) : Type 0 where
-  pub limits : AllInLimits rs
-  pub inside : length (journalBytes rs) ≤ length j
-  pub bytes : take (length (journalBytes rs)) j ≡ journalBytes rs
-  pub end : (recordAt j (length (journalBytes rs)) ≡ RecordRead.Torn) ⊎ (recordAt j (length (journalBytes rs)) ≡ RecordRead.Bad)
-
-pub bytes-read : (j : List ℕ) → AllBytes j → Reads j (recordsFrom (length j) j 0 [])
+-- the records that are read of any bytes are those of a beginning of them
+pub bytes-begin : (j : List ℕ) → AllBytes j → Begins j (recordsFrom (length j) j 0 [])
 unfolding recordsFrom
-bytes-read j h = from (length j) 0 [] tt (omega arith) (sym journal-none) (omega arith)
+bytes-begin j h = from (length j) 0 [] tt (omega arith) (sym journal-none) (omega arith)
   where
     here : (at : ℕ) (acc : List Record) → AllInLimits acc → at ≤ length j → take at j ≡ journalBytes acc
-        → (recordAt j at ≡ RecordRead.Torn) ⊎ (recordAt j at ≡ RecordRead.Bad) → Reads j acc
+        → (recordAt j at ≡ RecordRead.Torn) ⊎ (recordAt j at ≡ RecordRead.Bad) → Begins j acc
     here at acc a l e o =
         let n : at ≡ length (journalBytes acc) = omega (arith, ap length e, length-take at j) in
         record {
@@ -327,13 +323,13 @@ bytes-read j h = from (length j) 0 [] tt (omega arith) (sym journal-none) (omega
           end = subst (λ (x : ℕ). (recordAt j x ≡ RecordRead.Torn) ⊎ (recordAt j x ≡ RecordRead.Bad)) n o;
         }
 
-    from : (f at : ℕ) (acc : List Record) → AllInLimits acc → at ≤ length j → take at j ≡ journalBytes acc → length j ≤ at + f → Reads j (recordsFrom f j at acc)
+    from : (f at : ℕ) (acc : List Record) → AllInLimits acc → at ≤ length j → take at j ≡ journalBytes acc → length j ≤ at + f → Begins j (recordsFrom f j at acc)
     from zero at acc a l e g = here at acc a l e (inl (ap (recordAt j) (omega arith) ∙ record-at-end j))
     from (suc f) at acc a l e g = go (recordAt j at) refl (λ next r. from f next (r ∷ acc))
       where
         go : (x : RecordRead) → recordAt j at ≡ x
-            → ((next : ℕ) (r : Record) → AllInLimits (r ∷ acc) → next ≤ length j → take next j ≡ journalBytes (r ∷ acc) → length j ≤ next + f → Reads j (recordsFrom f j next (r ∷ acc)))
-            → Reads j (withRecord x acc (λ r next. recordsFrom f j next (r ∷ acc)))
+            → ((next : ℕ) (r : Record) → AllInLimits (r ∷ acc) → next ≤ length j → take next j ≡ journalBytes (r ∷ acc) → length j ≤ next + f → Begins j (recordsFrom f j next (r ∷ acc)))
+            → Begins j (withRecord x acc (λ r next. recordsFrom f j next (r ∷ acc)))
         go (RecordRead.Read r next) i rec =
             let w = record-was-written j at r next h i in
             let n : next ≡ at + (next - at) = omega (arith, w .longer) in

@@ -9,17 +9,20 @@ use Rattle.base.specs.Limits.{maxPosition, maxSender}
 use Rattle.base.proofs.Parts.{part-join}
 use Rattle.varint.specs.declared.VarintRead.{VarintRead}
 use Rattle.varint.specs.declared.VarintRead.the-variants.{Value, Short, Malformed}
-use Rattle.varint.specs.Varint.{AllBytes, varintAt, varintWithin, varintBytes}
+use Rattle.varint.specs.Varint.{AllBytes, varintBytes}
+use Rattle.varint.specs.Reading.{varintAt, varintWithin}
 use Rattle.varint.proofs.Laws.{length-last, value-within}
 use Rattle.varint.proofs.RoundTrip.{varint-read-at, varint-within-read-at, varint-was-written}
 use Rattle.message.specs.declared.Message.{Message}
 use Rattle.message.specs.declared.MessageRead.{MessageRead}
-use Rattle.message.specs.Message.{messageAt, messageBytes}
+use Rattle.message.specs.Message.{messageBytes}
+use Rattle.message.specs.Reading.{messageAt}
 use Rattle.message.proofs.RoundTrip.{message-read, message-was-written}
 use Rattle.journal.specs.declared.Record.{Record}
 use Rattle.journal.specs.declared.Record.the-variants.{Start, Taken}
 use Rattle.journal.specs.declared.RecordRead.{RecordRead}
-use Rattle.journal.specs.Journal.{recordBytes, withPosition, withAgreement, withMessage, withSender, withTag, recordAt}
+use Rattle.journal.specs.Journal.{recordBytes}
+use Rattle.journal.specs.Reading.{withPosition, withAgreement, withMessage, withSender, withTag, recordAt}
 use Rattle.journal.specs.Records.{InLimits}
 use Rattle.journal.proofs.Laws.{read-record, tag-start, tag-taken, start-length, taken-length}
 
@@ -40,7 +43,7 @@ record-read (Start agreement x) p q (ha, hx) =
     let a1 : ℕ = length p + length k in
     let a2 : ℕ = a1 + length b in
     let r1 = varint-within-read-at 1 2 1 s p (b ++ (c ++ q)) (length p) (omega arith) (omega arith) (omega arith) e1 refl in
-    let r2 = varint-read-at agreement s (p ++ k) (c ++ q) a1 ha e2 (omega arith) in
+    let r2 = varint-read-at agreement s (p ++ k) (c ++ q) a1 (omega arith) e2 (omega arith) in
     let r3 = varint-within-read-at 0 maxPosition x s ((p ++ k) ++ b) q a2 (omega arith) hx (omega arith) e3 (omega arith) in
     sym (read-record s (length p) r1)
     ∙ tag-start s 1 a1 refl
@@ -62,7 +65,7 @@ record-read (Taken sender m) p q (hs, ht, hn) =
     let a3 : a2 ≡ length ((p ++ k) ++ b) = omega arith in
     let r1 = varint-within-read-at 1 2 2 s p (b ++ (c ++ q)) (length p) (omega arith) (omega arith) (omega arith) e1 refl in
     let r2 = varint-within-read-at 0 maxSender sender s (p ++ k) (c ++ q) a1 (omega arith) hs (omega arith) e2 (omega arith) in
-    let r3 = ap₂ messageAt e3 a3 ∙ message-read m ((p ++ k) ++ b) q ht hn in
+    let r3 = ap₂ messageAt e3 a3 ∙ message-read m ((p ++ k) ++ b) q ht (omega arith) in
     sym (read-record s (length p) r1)
     ∙ tag-taken s 2 a1 (λ z. omega arith)
     ∙ ap (withSender s) r2
@@ -87,7 +90,7 @@ module _ (s : List ℕ) (h : AllBytes s) (at a k : ℕ) (e : varintAt s at ≡ V
       let v = varint-was-written s a n b h f in
       let w = varint-was-written s b x c h (l .2) in
       record {
-        limits = (v .0, l .1);
+        limits = (omega (arith, v .0), l .1);
         longer = omega (arith, u .1, v .1, w .1);
         inside = w .2;
         bytes = part-join s at b c (omega (arith, u .1, v .1)) (omega (arith, w .1))
@@ -102,7 +105,7 @@ module _ (s : List ℕ) (h : AllBytes s) (at a k : ℕ) (e : varintAt s at ≡ V
       let v = varint-was-written s a b n h (l .2) in
       let w = message-was-written s n m c h g in
       record {
-        limits = (l .1, w .0, w .1);
+        limits = (l .1, w .0, omega (arith, w .1));
         longer = omega (arith, u .1, v .1, w .2);
         inside = w .3;
         bytes = part-join s at n c (omega (arith, u .1, v .1)) (omega (arith, w .2))

@@ -1,2 +1,4 @@
 pub mod Journal
 pub mod Records
+pub mod Reading
+pub mod Statement

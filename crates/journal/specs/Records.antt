@@ -2,19 +2,18 @@
 use mathlib.Core.Path.{_≡_}
 use mathlib.Core.Bool.{true}
 use mathlib.Core.List.{List, [], _∷_, _++_}
-use Prim.Native.Nat.{ℕ, zero, suc, _^_, _<_, _≤_}
+use Prim.Native.Nat.{ℕ, _<_, _≤_}
 use lib.ListN.{length}
-use Rattle.base.specs.Limits.{maxPosition, maxSender}
+use Rattle.base.specs.Limits.{maxNumber, maxPosition, maxSender}
 use Rattle.message.specs.Message.{inTable}
 use Rattle.journal.specs.declared.Record.{Record}
 use Rattle.journal.specs.declared.Record.the-variants.{Start, Taken}
-use Rattle.journal.specs.declared.RecordRead.{RecordRead}
-use Rattle.journal.specs.Journal.{recordBytes, recordAt}
+use Rattle.journal.specs.Journal.{recordBytes}
 
 -- "A whole record has every value in the limits just given and in the message table."
 abbrev pub InLimits : Record → Type 0
-InLimits (Start agreement x) = (agreement < 2 ^ 32) × (x ≤ maxPosition)
-InLimits (Taken sender m) = (sender ≤ maxSender) × (inTable m ≡ true) × (m .number < 2 ^ 32)
+InLimits (Start agreement x) = (agreement ≤ maxNumber) × (x ≤ maxPosition)
+InLimits (Taken sender m) = (sender ≤ maxSender) × (inTable m ≡ true) × (m .number ≤ maxNumber)
 
 abbrev pub AllInLimits : List Record → Type 0
 AllInLimits [] = Unit
@@ -28,13 +27,3 @@ ProperBeginning r tail = (rest : List ℕ) × (0 < length rest) × (tail ++ rest
 unfoldable pub journalBytes : List Record → List ℕ
 journalBytes [] = []
 journalBytes (r ∷ rs) = journalBytes rs ++ recordBytes r
-
-abbrev pub withRecord : RecordRead → List Record → (Record → ℕ → List Record) → List Record
-withRecord (RecordRead.Read r next) rs more = more r next
-withRecord RecordRead.Torn rs more = rs
-withRecord RecordRead.Bad rs more = rs
-
--- the whole records from `at` on, at most f, after rs; the latest first
-unfoldable pub recordsFrom : ℕ → List ℕ → ℕ → List Record → List Record
-recordsFrom zero j at rs = rs
-recordsFrom (suc f) j at rs = withRecord (recordAt j at) rs (λ r next. recordsFrom f j next (r ∷ rs))

@@ -5,14 +5,16 @@ ghost use Prim.Native.Nat.{_+_, _≤_};
 ghost use lib.ListN.{length};
 ghost use Rattle.base.specs.Put.{putAt};
 ghost use Rattle.base.specs.Limits.{maxPosition, maxSender};
-ghost use Rattle.varint.specs.Varint.{varintAt, varintWithin, varintBytes};
-ghost use Rattle.message.specs.Message.{messageAt};
-ghost use Rattle.journal.specs.Journal.{recordBytes, recordAt, withPosition, withAgreement, withMessage, withSender};
+ghost use Rattle.varint.specs.Varint.{varintBytes};
+ghost use Rattle.varint.specs.Reading.{varintAt, varintWithin};
+ghost use Rattle.message.specs.Reading.{messageAt};
+ghost use Rattle.journal.specs.Journal.{recordBytes};
+ghost use Rattle.journal.specs.Reading.{recordAt, withPosition, withAgreement, withMessage, withSender};
 
 pub enum Record {
     Start {
         agreement: u32,
-        position: u32,
+        position: base::Position,
     },
     Taken {
         sender: u8,

@@ -1,20 +1,17 @@
 -- What the rules count at a level. c is the level's context: the settings n and t, the degree d, the port.
 -- "Values above d at that level, none excepted, are kept and never counted": every count below goes over the values 0 to d, and none where it says so.
-use mathlib.Core.Bool.{Bool, true, false, not, _&&_, _||_}
-use Prim.Native.Nat.{ℕ, zero, suc, _+_, _-_, _*_, _/_, _%_, _^_, _≤_, _<_}
+use mathlib.Core.Bool.{Bool, not, _&&_}
+use Prim.Native.Nat.{ℕ, _+_, _-_, _*_, _/_, _%_, _^_}
 use lib.Dec.{leb, ltb, eqb}
-use lib.ListN.{getD}
 use Rattle.base.specs.Pick.{pick, smallest}
-use Rattle.base.specs.Limits.{maxBoards, maxDegree}
 use Rattle.base.specs.Sets.{count}
 use Rattle.message.specs.Message.{noneValue}
-use Rattle.message.specs.declared.Body.the-variants.{FirstEcho, FirstProposal, SecondEcho, SecondProposal, Side, Centre}
+use Rattle.message.specs.declared.Body.the-variants.{FirstEcho, FirstProposal, SecondEcho, SecondProposal, Side}
 use Rattle.senders.specs.Senders.{union, unionOver}
 pub use Rattle.senders.specs.Senders.{atLeast}
 pub use Rattle.level_counts.specs.Places.{bitPlaces}
-use Rattle.level.specs.declared.Level.{Level}
 use Rattle.level.specs.declared.Context.{Context}
-use Rattle.level.specs.Level.{senders, notYet}
+use Rattle.level.specs.Level.{Level, senders}
 
 -- the three thresholds: t + 1, 2t + 1, n - t
 abbrev pub weak : Context → ℕ
@@ -77,10 +74,3 @@ echoedValues c l = count (c .degree + 1) (echoedBy (weak c) l)
 -- rule 12: t+1 side k
 unfoldable pub sided : Context → Level → ℕ → Bool
 sided c l k = atLeast (weak c) (senders l (Side k))
-
--- what the code asks of a level and its context: a record that passes question 19 has it
-pub record InLimits (c : Context) (l : Level) : Type 0 where
-  pub degree : c .degree ≤ maxDegree
-  pub faults : c .t < c .n
-  pub boards : c .n ≤ maxBoards
-  pub first : l .first ≤ notYet

@@ -8,7 +8,33 @@ use Rattle.message.specs.declared.Body.{Body}
 use Rattle.senders.specs.Senders.{isIn, withSender}
 pub use Rattle.level_counts.specs.Places.{notYet, valueCount, slotCount}
 unfoldable pub use Rattle.level_counts.specs.Places.{slot}
-use Rattle.level.specs.declared.Level.{Level}
+
+-- a level's record in the definitions' own words; the code's stands for it by `asLevel` (Tie.antt)
+pub record Level : Type 0 where
+  -- the senders of each message of this level, by its slot
+  pub sets : List ℕ
+  -- has the board entered the level, by which side of the level above (0 at level 0), and at which position?
+  pub entered : Bool
+  pub side : ℕ
+  pub position : ℕ
+  -- first echoes made: of the port, of none
+  pub echoedPort : Bool
+  pub echoedNone : Bool
+  -- the first proposal made, or notYet
+  pub proposal : ℕ
+  -- the first result, none, or notYet
+  pub first : ℕ
+  -- second echoes made, by value
+  pub echoed : List Bool
+  -- the second proposal made, or notYet
+  pub secondProposal : ℕ
+  -- the (second) result's value, none, or notYet; a value's grade is 2 if sure, else 1
+  pub result : ℕ
+  pub sure : Bool
+  -- has rule 11 been applied?
+  pub toldCentre : Bool
+  -- the output, or noOutput
+  pub output : ℕ
 
 -- an output that is not there yet: one more than the largest position
 abbrev pub noOutput : ℕ
@@ -22,43 +48,32 @@ senders l b = getD (l .sets) (slot b) 0
 unfoldable pub held : Level → Body → ℕ → Bool
 held l b s = isIn (senders l b) s
 
--- a level that was not entered and at which nothing was heard
-abbrev pub blankLevel : Level
-blankLevel = record {
-  sets = replicate slotCount 0;
+-- a level that was not entered, with these sets of senders and second echoes, with v for a value and x for an output that is not there
+abbrev pub notEntered : List ℕ → List Bool → ℕ → ℕ → Level
+notEntered heard ws v x = record {
+  sets = heard;
   entered = false;
   side = 0;
   position = 0;
-  «echoed_port» = false;
-  «echoed_none» = false;
-  proposal = notYet;
-  first = notYet;
-  echoed = replicate valueCount false;
-  «second_proposal» = notYet;
-  result = notYet;
+  echoedPort = false;
+  echoedNone = false;
+  proposal = v;
+  first = v;
+  echoed = ws;
+  secondProposal = v;
+  result = v;
   sure = false;
-  «told_centre» = false;
-  output = noOutput;
+  toldCentre = false;
+  output = x;
 }
+
+-- a level that was not entered and at which nothing was heard
+abbrev pub blankLevel : Level
+blankLevel = notEntered (replicate slotCount 0) (replicate valueCount false) notYet noOutput
 
 -- what reading past the last level gives
 abbrev pub noLevel : Level
-noLevel = record {
-  sets = [];
-  entered = false;
-  side = 0;
-  position = 0;
-  «echoed_port» = false;
-  «echoed_none» = false;
-  proposal = 0;
-  first = 0;
-  echoed = [];
-  «second_proposal» = 0;
-  result = 0;
-  sure = false;
-  «told_centre» = false;
-  output = 0;
-}
+noLevel = notEntered [] [] 0 0
 
 -- ---- the record with fields changed: what was heard and where it was entered; what was made; what resulted
 
@@ -68,15 +83,15 @@ placed l sets′ entered′ k x = record {
   entered = entered′;
   side = k;
   position = x;
-  «echoed_port» = l .«echoed_port»;
-  «echoed_none» = l .«echoed_none»;
+  echoedPort = l .echoedPort;
+  echoedNone = l .echoedNone;
   proposal = l .proposal;
   first = l .first;
   echoed = l .echoed;
-  «second_proposal» = l .«second_proposal»;
+  secondProposal = l .secondProposal;
   result = l .result;
   sure = l .sure;
-  «told_centre» = l .«told_centre»;
+  toldCentre = l .toldCentre;
   output = l .output;
 }
 
@@ -86,15 +101,15 @@ made l port none′ v ws w told = record {
   entered = l .entered;
   side = l .side;
   position = l .position;
-  «echoed_port» = port;
-  «echoed_none» = none′;
+  echoedPort = port;
+  echoedNone = none′;
   proposal = v;
   first = l .first;
   echoed = ws;
-  «second_proposal» = w;
+  secondProposal = w;
   result = l .result;
   sure = l .sure;
-  «told_centre» = told;
+  toldCentre = told;
   output = l .output;
 }
 
@@ -104,15 +119,15 @@ resulted l v w two x = record {
   entered = l .entered;
   side = l .side;
   position = l .position;
-  «echoed_port» = l .«echoed_port»;
-  «echoed_none» = l .«echoed_none»;
+  echoedPort = l .echoedPort;
+  echoedNone = l .echoedNone;
   proposal = l .proposal;
   first = v;
   echoed = l .echoed;
-  «second_proposal» = l .«second_proposal»;
+  secondProposal = l .secondProposal;
   result = w;
   sure = two;
-  «told_centre» = l .«told_centre»;
+  toldCentre = l .toldCentre;
   output = x;
 }
 
@@ -124,24 +139,24 @@ withHeard l b s = placed l (set (l .sets) (slot b) (withSender (senders l b) s))
 
 -- first echoes of the port and of none
 abbrev pub withPortEcho : Level → Level
-withPortEcho l = made l true (l .«echoed_none») (l .proposal) (l .echoed) (l .«second_proposal») (l .«told_centre»)
+withPortEcho l = made l true (l .echoedNone) (l .proposal) (l .echoed) (l .secondProposal) (l .toldCentre)
 
 abbrev pub withNoneEcho : Level → Level
-withNoneEcho l = made l (l .«echoed_port») true (l .proposal) (l .echoed) (l .«second_proposal») (l .«told_centre»)
+withNoneEcho l = made l (l .echoedPort) true (l .proposal) (l .echoed) (l .secondProposal) (l .toldCentre)
 
 -- the first proposal and the first result
 abbrev pub withProposal : Level → ℕ → Level
-withProposal l v = made l (l .«echoed_port») (l .«echoed_none») v (l .echoed) (l .«second_proposal») (l .«told_centre»)
+withProposal l v = made l (l .echoedPort) (l .echoedNone) v (l .echoed) (l .secondProposal) (l .toldCentre)
 
 abbrev pub withFirst : Level → ℕ → Level
 withFirst l v = resulted l v (l .result) (l .sure) (l .output)
 
 -- a second echo, the second proposal and the result
 abbrev pub withSecondEcho : Level → ℕ → Level
-withSecondEcho l w = made l (l .«echoed_port») (l .«echoed_none») (l .proposal) (set (l .echoed) w true) (l .«second_proposal») (l .«told_centre»)
+withSecondEcho l w = made l (l .echoedPort) (l .echoedNone) (l .proposal) (set (l .echoed) w true) (l .secondProposal) (l .toldCentre)
 
 abbrev pub withSecondProposal : Level → ℕ → Level
-withSecondProposal l w = made l (l .«echoed_port») (l .«echoed_none») (l .proposal) (l .echoed) w (l .«told_centre»)
+withSecondProposal l w = made l (l .echoedPort) (l .echoedNone) (l .proposal) (l .echoed) w (l .toldCentre)
 
 abbrev pub withResult : Level → ℕ → Bool → Level
 withResult l w two = resulted l (l .first) w two (l .output)
@@ -152,7 +167,7 @@ withOutput l x = resulted l (l .first) (l .result) (l .sure) x
 
 abbrev pub withCentreTold : Level → ℕ → Level
 withCentreTold l x =
-    made (withOutput l x) (l .«echoed_port») (l .«echoed_none») (l .proposal) (l .echoed) (l .«second_proposal») true
+    made (withOutput l x) (l .echoedPort) (l .echoedNone) (l .proposal) (l .echoed) (l .secondProposal) true
 
 abbrev pub withEntry : Level → ℕ → ℕ → ℕ → Level
 withEntry l k x out = placed (withOutput l out) (l .sets) true k x

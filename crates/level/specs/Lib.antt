@@ -1,3 +1,5 @@
 pub mod Level
 pub mod Counts
 pub mod Rules
+pub mod Tie
+pub mod Inner

@@ -1,18 +1,21 @@
 -- Document 01, "The fourteen rules", each with its sentence. A rule that does not apply has the effect Nothing and leaves the record as it is.
-use mathlib.Core.Bool.{Bool, true, false, not, _&&_, _||_}
-use Prim.Native.Nat.{ℕ, zero, suc, _+_, _-_}
+use mathlib.Core.Bool.{Bool, true, false, not, _&&_}
+use Prim.Native.Nat.{ℕ, _+_}
 use lib.Dec.{leb, ltb, eqb}
 use lib.ListN.{getD}
 use Rattle.base.specs.Pick.{pick, smallest}
 use Rattle.message.specs.Message.{noneValue}
-use Rattle.message.specs.declared.Body.the-variants.{FirstEcho, FirstProposal, SecondEcho, SecondProposal, Side, Centre}
-use Rattle.level.specs.declared.Level.{Level}
+use Rattle.message.specs.declared.Body.the-variants.{FirstEcho, FirstProposal, SecondEcho, SecondProposal, Centre}
 use Rattle.level.specs.declared.Context.{Context}
-use Rattle.level.specs.declared.Applied.{Applied}
 use Rattle.level.specs.declared.Effect.{Effect}
 use Rattle.level.specs.declared.Effect.the-variants.{Nothing, Quiet, Send, Enter, SendEnter}
-use Rattle.level.specs.Level.{senders, notYet, noOutput, withPortEcho, withNoneEcho, withProposal, withFirst, withSecondEcho, withSecondProposal, withResult, withOutput, withCentreTold}
+use Rattle.level.specs.Level.{Level, senders, notYet, noOutput, withPortEcho, withNoneEcho, withProposal, withFirst, withSecondEcho, withSecondProposal, withResult, withOutput, withCentreTold}
 use Rattle.level.specs.Counts.{weak, strong, candidate, candidates, otherEchoes, atLeast, mayPropose, proposed, split, echoedBy, secondProposed, echoedValues, sided}
+
+-- the level after a rule, and what the rule does besides
+pub record Applied : Type 0 where
+  pub level : Level
+  pub effect : Effect
 
 -- the rule does not apply
 abbrev pub idle : Level → Applied
@@ -51,11 +54,11 @@ isCandidate c i = ltb i (candidates c)
 
 -- "1. First echo of the port, once."
 unfoldable pub rule1 : Context → Level → Applied
-rule1 c l = when (not (l .«echoed_port»)) l (does (withPortEcho l) (Send (FirstEcho (c .port))))
+rule1 c l = when (not (l .echoedPort)) l (does (withPortEcho l) (Send (FirstEcho (c .port))))
 
 -- "2. t+1 senders each first-echoed a value other than the port, not needfully the same one (none isn't counted): first echo of none, once."
 unfoldable pub rule2 : Context → Level → Applied
-rule2 c l = when (not (l .«echoed_none») && atLeast (weak c) (otherEchoes c l)) l (does (withNoneEcho l) (Send (FirstEcho noneValue)))
+rule2 c l = when (not (l .echoedNone) && atLeast (weak c) (otherEchoes c l)) l (does (withNoneEcho l) (Send (FirstEcho noneValue)))
 
 -- "3. No first proposal yet, and for the smallest such v, t+1 senders first-echoed v and 2t+1 first-echoed v or none: propose v."
 unfoldable pub rule3 : Context → Level → Applied
@@ -91,7 +94,7 @@ rule7 c l = go (firstCandidate c (echoedBy (strong c) l))
   where
     go : ℕ → Applied
     go i =
-        when (present (l .first) && (missing (l .«second_proposal») && isCandidate c i)) l
+        when (present (l .first) && (missing (l .secondProposal) && isCandidate c i)) l
         (does (withSecondProposal l (candidate c i)) (Send (SecondProposal (candidate c i))))
 
 -- "8. First result there, no second result: w with n-t second proposals (smallest, none last) gives (w, 2), or (none, 0). Else, if t+1 second
@@ -127,7 +130,7 @@ rule10 c l =
 -- "11. Result none, once: output the centre if no output here, send centre."
 unfoldable pub rule11 : Context → Level → Applied
 rule11 c l =
-    when (resultNone l && not (l .«told_centre»)) l
+    when (resultNone l && not (l .toldCentre)) l
     (does (withCentreTold l (pick (unanswered l) (c .centre) (l .output))) (Send Centre))
 
 -- "12. Result none, next level not entered, t+1 side k (smallest): enter side k at neighbour k."

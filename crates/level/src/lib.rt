@@ -6,6 +6,7 @@ ghost use Rattle.base.specs.Limits.{maxBoards};
 ghost use Rattle.message.specs.Message.{bodyInTable};
 ghost use Rattle.level.specs.Level.{blankLevel, withHeard, held};
 ghost use Rattle.level.specs.Rules;
+ghost use Rattle.level.specs.Tie.{asLevel};
 
 mod rules;
 
@@ -14,7 +15,7 @@ const NONE: u8 = level_counts::NONE;
 
 pub const NOT_YET: u8 = level_counts::NOT_YET;
 // An output that is not there yet: one more than the largest position.
-pub const NO_OUTPUT: u32 = base::MAX_POSITION + 1;
+pub const NO_OUTPUT: base::Position = base::MAX_POSITION + 1;
 
 pub struct Level {
     // the senders of each message of this level, by its slot
@@ -22,7 +23,7 @@ pub struct Level {
     // has the board entered the level, by which side of the level above (0 at level 0), and at which position?
     pub entered: bool,
     pub side: u8,
-    pub position: u32,
+    pub position: base::Position,
     // first echoes made: of the port, of none
     pub echoed_port: bool,
     pub echoed_none: bool,
@@ -40,7 +41,7 @@ pub struct Level {
     // has rule 11 been applied?
     pub told_centre: bool,
     // the output, or NO_OUTPUT
-    pub output: u32,
+    pub output: base::Position,
 }
 
 // What the rules at a level ask of the settings, the plan and the level below.
@@ -50,9 +51,9 @@ pub struct Context {
     // d, the number of the centre's neighbours
     pub degree: u32,
     pub port: u8,
-    pub centre: u32,
+    pub centre: base::Position,
     pub next_entered: bool,
-    pub next_output: u32,
+    pub next_output: base::Position,
 }
 
 // What a rule does besides changing its level's record.
@@ -90,7 +91,7 @@ pub fn applies(e: Effect) -> bool
 impl Level {
     // A level that was not entered and at which nothing was heard.
     pub fn blank() -> Level
-        ensures { λ r. ⌜ r ≡ blankLevel ⌝ }
+        ensures { λ r. ⌜ asLevel r ≡ blankLevel ⌝ }
     {
         Level {
             sets: [0; level_counts::SLOTS],
@@ -113,7 +114,7 @@ impl Level {
     // The senders of a message.
     pub fn senders(self, b: message::Body) -> senders::Mask
         requires { ⌜ bodyInTable b ≡ true ⌝ }
-        ensures { λ r. ⌜ r ≡ Rattle.level.specs.Level.senders self b ⌝ }
+        ensures { λ r. ⌜ r ≡ Rattle.level.specs.Level.senders (asLevel self) b ⌝ }
     {
         let i = level_counts::slot(b);
         self.sets[i]
@@ -122,7 +123,7 @@ impl Level {
     // The level with a message taken from sender s.
     pub fn hear(self, b: message::Body, s: u8) -> Level
         requires { ⌜ (bodyInTable b ≡ true) × (s < maxBoards) ⌝ }
-        ensures { λ r. ⌜ r ≡ withHeard self b s ⌝ }
+        ensures { λ r. ⌜ asLevel r ≡ withHeard (asLevel self) b s ⌝ }
     {
         let i = level_counts::slot(b);
         let mut l = self;
@@ -134,7 +135,7 @@ impl Level {
     // Was the message taken from s already?
     pub fn holds(self, b: message::Body, s: u8) -> bool
         requires { ⌜ (bodyInTable b ≡ true) × (s < maxBoards) ⌝ }
-        ensures { λ r. ⌜ r ≡ held self b s ⌝ }
+        ensures { λ r. ⌜ r ≡ held (asLevel self) b s ⌝ }
     {
         senders::contains(self.senders(b), s)
     }

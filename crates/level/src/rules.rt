@@ -10,13 +10,14 @@ use message::Body;
 ghost use mathlib.Core.Path.{_≡_};
 ghost use Rattle.level.specs.declared.Effect.the-variants.{Quiet};
 ghost use Rattle.level.specs.Level.{withOutput};
-ghost use Rattle.level.specs.Counts.{InLimits};
+ghost use Rattle.level.specs.Inner.{InLimits};
 ghost use Rattle.level.specs.Rules;
+ghost use Rattle.level.specs.Tie.{asLevel, asApplied};
 
 impl Level {
     // The rule does not apply.
     fn idle(self) -> Applied
-        ensures { λ r. ⌜ r ≡ Rules.idle self ⌝ }
+        ensures { λ r. ⌜ asApplied r ≡ Rules.idle (asLevel self) ⌝ }
     {
         Applied {
             level: self,
@@ -26,7 +27,7 @@ impl Level {
 
     // First echo of the port.
     pub fn rule1(self, c: Context) -> Applied
-        ensures { λ r. ⌜ r ≡ Rules.rule1 c self ⌝ }
+        ensures { λ r. ⌜ asApplied r ≡ Rules.rule1 c (asLevel self) ⌝ }
     {
         if self.echoed_port {
             return self.idle();
@@ -42,8 +43,8 @@ impl Level {
 
     // First echo of none.
     pub fn rule2(self, c: Context) -> Applied
-        requires { ⌜ InLimits c self ⌝ }
-        ensures { λ r. ⌜ r ≡ Rules.rule2 c self ⌝ }
+        requires { ⌜ InLimits c (asLevel self) ⌝ }
+        ensures { λ r. ⌜ asApplied r ≡ Rules.rule2 c (asLevel self) ⌝ }
     {
         if self.echoed_none {
             return self.idle();
@@ -62,8 +63,8 @@ impl Level {
 
     // First proposal.
     pub fn rule3(self, c: Context) -> Applied
-        requires { ⌜ InLimits c self ⌝ }
-        ensures { λ r. ⌜ r ≡ Rules.rule3 c self ⌝ }
+        requires { ⌜ InLimits c (asLevel self) ⌝ }
+        ensures { λ r. ⌜ asApplied r ≡ Rules.rule3 c (asLevel self) ⌝ }
     {
         if self.proposal != NOT_YET {
             return self.idle();
@@ -83,8 +84,8 @@ impl Level {
 
     // First result.
     pub fn rule4(self, c: Context) -> Applied
-        requires { ⌜ InLimits c self ⌝ }
-        ensures { λ r. ⌜ r ≡ Rules.rule4 c self ⌝ }
+        requires { ⌜ InLimits c (asLevel self) ⌝ }
+        ensures { λ r. ⌜ asApplied r ≡ Rules.rule4 c (asLevel self) ⌝ }
     {
         if self.first != NOT_YET {
             return self.idle();
@@ -103,8 +104,8 @@ impl Level {
 
     // Second echo of the first result.
     pub fn rule5(self, c: Context) -> Applied
-        requires { ⌜ InLimits c self ⌝ }
-        ensures { λ r. ⌜ r ≡ Rules.rule5 c self ⌝ }
+        requires { ⌜ InLimits c (asLevel self) ⌝ }
+        ensures { λ r. ⌜ asApplied r ≡ Rules.rule5 c (asLevel self) ⌝ }
     {
         let w = self.first;
         if w == NOT_YET {
@@ -125,8 +126,8 @@ impl Level {
 
     // Second echo of what t+1 boards echoed.
     pub fn rule6(self, c: Context) -> Applied
-        requires { ⌜ InLimits c self ⌝ }
-        ensures { λ r. ⌜ r ≡ Rules.rule6 c self ⌝ }
+        requires { ⌜ InLimits c (asLevel self) ⌝ }
+        ensures { λ r. ⌜ asApplied r ≡ Rules.rule6 c (asLevel self) ⌝ }
     {
         if self.first == NOT_YET {
             return self.idle();
@@ -148,8 +149,8 @@ impl Level {
 
     // Second proposal.
     pub fn rule7(self, c: Context) -> Applied
-        requires { ⌜ InLimits c self ⌝ }
-        ensures { λ r. ⌜ r ≡ Rules.rule7 c self ⌝ }
+        requires { ⌜ InLimits c (asLevel self) ⌝ }
+        ensures { λ r. ⌜ asApplied r ≡ Rules.rule7 c (asLevel self) ⌝ }
     {
         let first = self.first;
         if first == NOT_YET {
@@ -173,8 +174,8 @@ impl Level {
 
     // The result.
     pub fn rule8(self, c: Context) -> Applied
-        requires { ⌜ InLimits c self ⌝ }
-        ensures { λ r. ⌜ r ≡ Rules.rule8 c self ⌝ }
+        requires { ⌜ InLimits c (asLevel self) ⌝ }
+        ensures { λ r. ⌜ asApplied r ≡ Rules.rule8 c (asLevel self) ⌝ }
     {
         if self.first == NOT_YET {
             return self.idle();
@@ -196,8 +197,8 @@ impl Level {
     }
 
     // The output x, if there is none yet.
-    fn answer(self, x: u32) -> Applied
-        ensures { λ r. ⌜ r ≡ Rules.when (Rules.unanswered self) self (Rules.does (withOutput self x) Quiet) ⌝ }
+    fn answer(self, x: base::Position) -> Applied
+        ensures { λ r. ⌜ asApplied r ≡ Rules.when (Rules.unanswered (asLevel self)) (asLevel self) (Rules.does (withOutput (asLevel self) x) Quiet) ⌝ }
     {
         if self.output != NO_OUTPUT {
             return self.idle();
@@ -212,7 +213,7 @@ impl Level {
 
     // The centre as output, after result 0.
     pub fn rule9(self, c: Context) -> Applied
-        ensures { λ r. ⌜ r ≡ Rules.rule9 c self ⌝ }
+        ensures { λ r. ⌜ asApplied r ≡ Rules.rule9 c (asLevel self) ⌝ }
     {
         if self.result != 0 {
             return self.idle();
@@ -222,7 +223,7 @@ impl Level {
 
     // The next level entered, after a result of 1 or more.
     pub fn rule10(self, c: Context) -> Applied
-        ensures { λ r. ⌜ r ≡ Rules.rule10 c self ⌝ }
+        ensures { λ r. ⌜ asApplied r ≡ Rules.rule10 c (asLevel self) ⌝ }
     {
         let k = self.result;
         if k < 1 {
@@ -251,7 +252,7 @@ impl Level {
 
     // The centre as output and told, after result none.
     pub fn rule11(self, c: Context) -> Applied
-        ensures { λ r. ⌜ r ≡ Rules.rule11 c self ⌝ }
+        ensures { λ r. ⌜ asApplied r ≡ Rules.rule11 c (asLevel self) ⌝ }
     {
         if self.result != NONE {
             return self.idle();
@@ -273,8 +274,8 @@ impl Level {
 
     // The next level entered, by t+1 side messages.
     pub fn rule12(self, c: Context) -> Applied
-        requires { ⌜ InLimits c self ⌝ }
-        ensures { λ r. ⌜ r ≡ Rules.rule12 c self ⌝ }
+        requires { ⌜ InLimits c (asLevel self) ⌝ }
+        ensures { λ r. ⌜ asApplied r ≡ Rules.rule12 c (asLevel self) ⌝ }
     {
         if self.result != NONE {
             return self.idle();
@@ -297,8 +298,8 @@ impl Level {
 
     // The centre as output, by t+1 centre messages.
     pub fn rule13(self, c: Context) -> Applied
-        requires { ⌜ InLimits c self ⌝ }
-        ensures { λ r. ⌜ r ≡ Rules.rule13 c self ⌝ }
+        requires { ⌜ InLimits c (asLevel self) ⌝ }
+        ensures { λ r. ⌜ asApplied r ≡ Rules.rule13 c (asLevel self) ⌝ }
     {
         if !level_counts_second::centre_due(&self.sets, c.t) {
             return self.idle();
@@ -308,7 +309,7 @@ impl Level {
 
     // The next level's output.
     pub fn rule14(self, c: Context) -> Applied
-        ensures { λ r. ⌜ r ≡ Rules.rule14 c self ⌝ }
+        ensures { λ r. ⌜ asApplied r ≡ Rules.rule14 c (asLevel self) ⌝ }
     {
         let value = self.result;
         if value < 1 {

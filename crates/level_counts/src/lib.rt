@@ -11,7 +11,7 @@ ghost use Rattle.level_counts.specs.Places.{slotCount};
 ghost use Rattle.level_counts.specs.Inner.{placesOf};
 
 // None, as a value of a level; the values before it are 0 to base::MAX_DEGREE.
-pub const NONE: u8 = base::MAX_DEGREE + 1;
+pub const NONE: u8 = base::NONE;
 // A value that is not there yet.
 pub const NOT_YET: u8 = NONE + 1;
 // The place of none among the values of an echo, and how many these are.

@@ -20,14 +20,12 @@ use Rattle.base.proofs.Counts.{count-lt, count-le}
 use Rattle.message.specs.Message.{noneValue}
 use Rattle.message.specs.declared.Body.{Body}
 use Rattle.message.specs.declared.Body.the-variants.{SecondEcho}
-use Rattle.level.specs.declared.Level.{Level}
 use Rattle.level.specs.declared.Context.{Context}
-use Rattle.level.specs.declared.Applied.{Applied}
 use Rattle.level.specs.declared.Effect.{Effect}
 use Rattle.level.specs.declared.Effect.the-variants.{Nothing, Quiet, Send, Enter, SendEnter}
-use Rattle.level.specs.Level.{notYet, noOutput, valueCount, withHeard, withEntry, withSecondEcho, withResult, withOutput, withCentreTold}
-use Rattle.level.specs.Counts.{InLimits}
-use Rattle.level.specs.Rules.{applies, does, missing, unanswered, aside, resultNone, lowestRule}
+use Rattle.level.specs.Level.{Level, notYet, noOutput, valueCount, withHeard, withEntry, withSecondEcho, withResult, withOutput, withCentreTold}
+use Rattle.level.specs.Inner.{InLimits}
+use Rattle.level.specs.Rules.{Applied, applies, does, missing, unanswered, aside, resultNone, lowestRule}
 use Rattle.level_laws.proofs.Searches.{eq→eqb, candidate-small}
 use Rattle.level_laws.proofs.Moves.{Aside, Move, →aside, told-cases, lowest-all}
 use Rattle.level_laws.proofs.Moves.{port-echo, none-echo, first-proposal, first-value, first-none, own-echo, relay, second-proposal, sure-result, none-result, unsure-result, centre-output, sure-entry, unsure-entry, centre-message, sided-entry, told-output, next-output}
@@ -40,18 +38,18 @@ unechoed l = count valueCount (λ w. not (getD l w false))
 -- the rules that can still be applied at a level; next says whether the next level is entered
 unfoldable pub rulesLeft : Bool → Level → ℕ
 rulesLeft next l =
-    bit (not (l .«echoed_port»)) + bit (not (l .«echoed_none»)) + bit (missing (l .proposal)) + bit (missing (l .first)) + unechoed (l .echoed)
-    + bit (missing (l .«second_proposal»)) + bit (missing (l .result)) + bit (not (l .«told_centre»)) + bit (unanswered l) + bit (not next)
+    bit (not (l .echoedPort)) + bit (not (l .echoedNone)) + bit (missing (l .proposal)) + bit (missing (l .first)) + unechoed (l .echoed)
+    + bit (missing (l .secondProposal)) + bit (missing (l .result)) + bit (not (l .toldCentre)) + bit (unanswered l) + bit (not next)
 
 -- the one message of rules 10 and 11, as the result calls for it
 unfoldable pub lastMessage : Bool → Level → ℕ
-lastMessage next l = pick (missing (l .result)) 1 (pick (aside l) (bit (not next)) (pick (resultNone l) (bit (not (l .«told_centre»))) 0))
+lastMessage next l = pick (missing (l .result)) 1 (pick (aside l) (bit (not next)) (pick (resultNone l) (bit (not (l .toldCentre))) 0))
 
 -- the messages that can still be made at a level
 unfoldable pub messagesLeft : Bool → Level → ℕ
 messagesLeft next l =
-    bit (not (l .«echoed_port»)) + bit (not (l .«echoed_none»)) + bit (missing (l .proposal)) + unechoed (l .echoed)
-    + bit (missing (l .«second_proposal»)) + lastMessage next l
+    bit (not (l .echoedPort)) + bit (not (l .echoedNone)) + bit (missing (l .proposal)) + unechoed (l .echoed)
+    + bit (missing (l .secondProposal)) + lastMessage next l
 
 -- a rule with this effect makes a message
 abbrev pub sends : Effect → Bool
@@ -105,14 +103,14 @@ unfolding rulesLeft unechoed
 rules-most next l =
     omega (
       arith,
-      bit-le (not (l .«echoed_port»)),
-      bit-le (not (l .«echoed_none»)),
+      bit-le (not (l .echoedPort)),
+      bit-le (not (l .echoedNone)),
       bit-le (missing (l .proposal)),
       bit-le (missing (l .first)),
       count-le valueCount (λ w. not (getD (l .echoed) w false)),
-      bit-le (missing (l .«second_proposal»)),
+      bit-le (missing (l .secondProposal)),
       bit-le (missing (l .result)),
-      bit-le (not (l .«told_centre»)),
+      bit-le (not (l .toldCentre)),
       bit-le (unanswered l),
       bit-le (not next),
     )
@@ -121,10 +119,10 @@ last-most : (next : Bool) (l : Level) → lastMessage next l ≤ 1
 unfolding lastMessage
 last-most next l = go (missing (l .result)) (aside l) (resultNone l)
   where
-    go : (x y z : Bool) → pick x 1 (pick y (bit (not next)) (pick z (bit (not (l .«told_centre»))) 0)) ≤ 1
+    go : (x y z : Bool) → pick x 1 (pick y (bit (not next)) (pick z (bit (not (l .toldCentre))) 0)) ≤ 1
     go true y z = omega arith
     go false true z = bit-le (not next)
-    go false false true = bit-le (not (l .«told_centre»))
+    go false false true = bit-le (not (l .toldCentre))
     go false false false = omega arith
 
 pub messages-most : (next : Bool) (l : Level) → messagesLeft next l ≤ levelMessages
@@ -132,11 +130,11 @@ unfolding messagesLeft unechoed
 messages-most next l =
     omega (
       arith,
-      bit-le (not (l .«echoed_port»)),
-      bit-le (not (l .«echoed_none»)),
+      bit-le (not (l .echoedPort)),
+      bit-le (not (l .echoedNone)),
       bit-le (missing (l .proposal)),
       count-le valueCount (λ w. not (getD (l .echoed) w false)),
-      bit-le (missing (l .«second_proposal»)),
+      bit-le (missing (l .secondProposal)),
       last-most next l,
     )
 
@@ -183,7 +181,7 @@ last-aside : (next : Bool) (l : Level) → Aside l → lastMessage next l ≡ bi
 unfolding lastMessage
 last-aside next l p = rw (ne-eqb (l .result) notYet (λ e. omega (arith, p .1)), T→true (aside l) (→aside l p))
 
-last-none : (next : Bool) (l : Level) → l .result ≡ noneValue → lastMessage next l ≡ bit (not (l .«told_centre»))
+last-none : (next : Bool) (l : Level) → l .result ≡ noneValue → lastMessage next l ≡ bit (not (l .toldCentre))
 unfolding lastMessage
 last-none next l e = rw e
 
@@ -221,8 +219,8 @@ module _ (c : Context) (l : Level) (h : Bounded c l) where
   -- every move
   pub paid-move : (m : Level) (e : Effect) → Move c l m e → Paid c l (does m e)
   unfolding rulesLeft messagesLeft lastMessage
-  paid-move m e (port-echo p) = let u = bit-on (not (l .«echoed_port»)) p in record { rules = omega arith; messages = omega arith }
-  paid-move m e (none-echo p _) = let u = bit-on (not (l .«echoed_none»)) p in record { rules = omega arith; messages = omega arith }
+  paid-move m e (port-echo p) = let u = bit-on (not (l .echoedPort)) p in record { rules = omega arith; messages = omega arith }
+  paid-move m e (none-echo p _) = let u = bit-on (not (l .echoedNone)) p in record { rules = omega arith; messages = omega arith }
   paid-move m e (first-proposal v p k _) =
       let u = bit-equal (l .proposal) notYet p in
       let w = value-there v k in
@@ -237,7 +235,7 @@ module _ (c : Context) (l : Level) (h : Bounded c l) where
       echo-paid (l .first) k q
   paid-move m e (relay w _ k _ q) = echo-paid w (candidate-small c w (omega (arith, h .limits .degree)) k) q
   paid-move m e (second-proposal w _ p k _) =
-      let u = bit-equal (l .«second_proposal») notYet p in
+      let u = bit-equal (l .secondProposal) notYet p in
       let v = there w (candidate-small c w (omega (arith, h .limits .degree)) k) in
       record { rules = omega arith; messages = omega arith }
   paid-move m e (sure-result v _ r k _) = result-paid v true r (omega (arith, h .limits .degree))
@@ -251,7 +249,7 @@ module _ (c : Context) (l : Level) (h : Bounded c l) where
       let n = bit-on (not (c .«next_entered»)) t in
       record { rules = omega arith; messages = omega (arith, last-aside true l r, last-aside (c .«next_entered») l r) }
   paid-move m e (centre-message r t) =
-      let n = bit-on (not (l .«told_centre»)) t in
+      let n = bit-on (not (l .toldCentre)) t in
       let o = told-cases l (c .centre) (λ x. bit (eqb x noOutput) ≤ bit (unanswered l)) (λ _. omega (arith, centre-there)) (λ _. le-refl (bit (unanswered l))) in
       record {
         rules = omega arith;

@@ -8,7 +8,8 @@ use native.Mathlib.Numerals.{add-one}
 use native.Mathlib.Omega.{arith}
 use lib.Dec.{T, leb, eqb, leb→le, le→leb, ltb→lt, lt→ltb}
 use Rattle.base.specs.Pick.{pick, smallest}
-use Rattle.base.specs.Sets.{Set, count, anyBelow}
+use Rattle.base.specs.Sets.{Set, count}
+use Rattle.base.specs.Inner.{anyBelow}
 use Rattle.base.proofs.Any.{any-same}
 use Rattle.base.proofs.Bools.{T-and, T-left, T-right}
 use Rattle.base.proofs.Counts.{count-same}
@@ -18,9 +19,8 @@ use Rattle.message.specs.declared.Body.{Body}
 use Rattle.message.specs.declared.Body.the-variants.{FirstEcho, FirstProposal, SecondEcho, SecondProposal, Side, Centre}
 use Rattle.senders.specs.Senders.{isIn, union, size, unionOver}
 use Rattle.senders.proofs.Laws.{in-empty, in-union, union-lt, size-count}
-use Rattle.level.specs.declared.Level.{Level}
 use Rattle.level.specs.declared.Context.{Context}
-use Rattle.level.specs.Level.{senders}
+use Rattle.level.specs.Level.{Level, senders}
 use Rattle.level.specs.Counts.{bitPlaces, weak, strong, quorum, otherEchoes, atLeast, mayPropose, proposed, digit, digitEchoes, splitAt, split, echoedBy, secondProposed, sided}
 use Rattle.level_laws.specs.Inner.{Heard, heardFrom}
 use Rattle.level_laws.proofs.Messages.{Valued}

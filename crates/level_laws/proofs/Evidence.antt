@@ -14,9 +14,8 @@ use Rattle.message.specs.declared.Body.{Body}
 use Rattle.message.specs.declared.Body.the-variants.{FirstEcho, FirstProposal, SecondEcho, SecondProposal, Side}
 use Rattle.senders.specs.Senders.{isIn, withSender, union, size, unionOver}
 use Rattle.senders.proofs.Laws.{in-union, with-lt, union-lt, over-lt, over-in, in-over, size-mono}
-use Rattle.level.specs.declared.Level.{Level}
 use Rattle.level.specs.declared.Context.{Context}
-use Rattle.level.specs.Level.{senders, slot, withHeard}
+use Rattle.level.specs.Level.{Level, senders, slot, withHeard}
 use Rattle.level.specs.Counts.{weak, strong, quorum, otherEchoes, atLeast, mayPropose, proposed, digitEchoes, splitAt, split, echoedBy, secondProposed, sided}
 use Rattle.level_laws.specs.Inner.{Heard, FirstBy, ResultBy, Law, Untouched}
 use Rattle.level_laws.proofs.Grows.{store-cases, grows-heard}
@@ -149,7 +148,7 @@ law-heard c l b s k h =
       proposal = λ e. let x = h .proposal e in (x .0, more-mayPropose c l m p q g (l .proposal) (x .1));
       first = λ e. more-first c l m p q g (l .first) (h .first e);
       echoed = λ w e. let x = h .echoed w e in (x .0, x .1, more-echoed c l m p q g w (l .first) (x .2));
-      second-proposal = λ e. let x = h .second-proposal e in (x .0, x .1, more-echoedBy c l m p q g (strong c) (l .«second_proposal») (x .2));
+      second-proposal = λ e. let x = h .second-proposal e in (x .0, x .1, more-echoedBy c l m p q g (strong c) (l .secondProposal) (x .2));
       result = λ e. let x = h .result e in (x .0, more-result c l m p q g (l .result) (l .sure) (x .1));
       told = h .told;
     }

@@ -12,10 +12,9 @@ use lib.Seq.{getD-set-same, getD-set-other, set-out}
 use Rattle.message.specs.declared.Body.{Body}
 use Rattle.senders.specs.Senders.{isIn, withSender}
 use Rattle.senders.proofs.Laws.{with-keeps}
-use Rattle.level.specs.declared.Level.{Level}
 use Rattle.level.specs.declared.Context.{Context}
 use Rattle.level.specs.declared.Effect.{Effect}
-use Rattle.level.specs.Level.{senders, slot, notYet, noOutput, withHeard, withEntry}
+use Rattle.level.specs.Level.{Level, senders, slot, notYet, noOutput, withHeard, withEntry}
 use Rattle.level.specs.Rules.{lowestRule}
 use Rattle.level_laws.specs.Inner.{Present, Answered, Echoed, Grows}
 use Rattle.level_laws.proofs.Moves.{Move, told-cases, lowest-all}
@@ -48,7 +47,7 @@ grows-trans l m k f g = record {
   proposal = λ p. g .proposal (kept (l .proposal) (m .proposal) notYet p (f .proposal p)) ∙ f .proposal p;
   first = λ p. g .first (kept (l .first) (m .first) notYet p (f .first p)) ∙ f .first p;
   echoed = λ w h. g .echoed w (f .echoed w h);
-  second-proposal = λ p. g .second-proposal (kept (l .«second_proposal») (m .«second_proposal») notYet p (f .second-proposal p)) ∙ f .second-proposal p;
+  second-proposal = λ p. g .second-proposal (kept (l .secondProposal) (m .secondProposal) notYet p (f .second-proposal p)) ∙ f .second-proposal p;
   result = λ p. let q : Present (m .result) = kept (l .result) (m .result) notYet p (f .result p .0) in (g .result q .0 ∙ f .result p .0, g .result q .1 ∙ f .result p .1);
   told = λ h. g .told (f .told h);
   output = λ p. g .output (kept (l .output) (m .output) noOutput p (f .output p)) ∙ f .output p;
@@ -146,14 +145,14 @@ move-unmoved c l m e (next-output r o x) = record { sets = refl; entered = refl;
 
 -- what a rule can change, clause by clause
 grows-by : (l m : Level)
-    → (T (l .«echoed_port») → T (m .«echoed_port»))
-    → (T (l .«echoed_none») → T (m .«echoed_none»))
+    → (T (l .echoedPort) → T (m .echoedPort))
+    → (T (l .echoedNone) → T (m .echoedNone))
     → (Present (l .proposal) → m .proposal ≡ l .proposal)
     → (Present (l .first) → m .first ≡ l .first)
     → ((w : ℕ) → Echoed l w → Echoed m w)
-    → (Present (l .«second_proposal») → m .«second_proposal» ≡ l .«second_proposal»)
+    → (Present (l .secondProposal) → m .secondProposal ≡ l .secondProposal)
     → (Present (l .result) → (m .result ≡ l .result) × (m .sure ≡ l .sure))
-    → (T (l .«told_centre») → T (m .«told_centre»))
+    → (T (l .toldCentre) → T (m .toldCentre))
     → (Answered l → m .output ≡ l .output)
     → Unmoved l m → Grows l m
 unfolding senders

@@ -10,10 +10,9 @@ use lib.Pow.{pow-pos}
 use lib.ListN.{length, getD, replicate, length-set}
 use Rattle.base.specs.Pick.{pick}
 use Rattle.message.specs.Message.{noneValue}
-use Rattle.level.specs.declared.Level.{Level}
 use Rattle.level.specs.declared.Context.{Context}
 use Rattle.level.specs.declared.Effect.{Effect}
-use Rattle.level.specs.Level.{senders, notYet, noOutput, valueCount, slotCount, blankLevel, withEntry, withPortEcho, withNoneEcho, withProposal, withFirst, withSecondEcho, withSecondProposal, withResult, withOutput, withCentreTold}
+use Rattle.level.specs.Level.{Level, senders, notYet, noOutput, valueCount, slotCount, blankLevel, withEntry, withPortEcho, withNoneEcho, withProposal, withFirst, withSecondEcho, withSecondProposal, withResult, withOutput, withCentreTold}
 use Rattle.level.specs.Counts.{weak, strong, otherEchoes, atLeast, mayPropose, proposed, split, splitAt, digitEchoes, echoedBy, secondProposed}
 use Rattle.level.specs.Rules.{unanswered, lowestRule}
 use Rattle.level_laws.specs.Inner.{Present, Candidate, Echoed, Heard, FirstBy, ResultBy, Law, Untouched}
@@ -47,13 +46,13 @@ blank-untouched = record {
 pub untouched-law : (c : Context) (l : Level) → Heard (c .n) l → Untouched l → Law c l
 untouched-law c l h u = record {
   heard = h;
-  echoed-none = λ e. absurd (T-not (l .«echoed_none») (u .echoed-none) e);
+  echoed-none = λ e. absurd (T-not (l .echoedNone) (u .echoed-none) e);
   proposal = λ p. absurd (p (u .proposal));
   first = λ p. absurd (p (u .first));
   echoed = λ w e. absurd (u .echoed w e);
   second-proposal = λ p. absurd (p (u .second-proposal));
   result = λ p. absurd (p (u .result));
-  told = λ e. absurd (T-not (l .«told_centre») (u .told) e);
+  told = λ e. absurd (T-not (l .toldCentre) (u .told) e);
 }
 
 -- it is so at entry
@@ -226,7 +225,7 @@ module _ (c : Context) (l : Level) (h : Law c l) where
     told = λ e. let q = h .told e .0 in absurd (omega arith);
   }
 
-  law-output : (x : ℕ) → (T (l .«told_centre») → x ≡ noOutput → ⊥) → Law c (withOutput l x)
+  law-output : (x : ℕ) → (T (l .toldCentre) → x ≡ noOutput → ⊥) → Law c (withOutput l x)
   unfolding senders otherEchoes mayPropose proposed split splitAt digitEchoes echoedBy secondProposed
   law-output x p = record {
     heard = heard-as (c .n) l (withOutput l x) refl (h .heard .values) (h .heard);
@@ -253,7 +252,7 @@ module _ (c : Context) (l : Level) (h : Law c l) where
   }
 
   -- a level is entered
-  pub law-entry : (k x out : ℕ) → (T (l .«told_centre») → out ≡ noOutput → ⊥) → Law c (withEntry l k x out)
+  pub law-entry : (k x out : ℕ) → (T (l .toldCentre) → out ≡ noOutput → ⊥) → Law c (withEntry l k x out)
   unfolding senders otherEchoes mayPropose proposed split splitAt digitEchoes echoedBy secondProposed
   law-entry k x out p = record {
     heard = heard-as (c .n) l (withEntry l k x out) refl (h .heard .values) (h .heard);

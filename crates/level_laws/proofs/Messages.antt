@@ -11,11 +11,10 @@ use Rattle.base.proofs.Bools.{T-and, or-split, or-left, or-right}
 use Rattle.message.specs.Message.{noneValue, maxValue, bodyInTable}
 use Rattle.message.specs.declared.Body.{Body}
 use Rattle.message.specs.declared.Body.the-variants.{FirstEcho, FirstProposal, SecondEcho, SecondProposal, Side, Centre}
-use Rattle.level.specs.declared.Level.{Level}
 use Rattle.level.specs.declared.Context.{Context}
 use Rattle.level.specs.declared.Effect.{Effect}
 use Rattle.level.specs.declared.Effect.the-variants.{Nothing, Quiet, Send, Enter, SendEnter}
-use Rattle.level.specs.Level.{valueCount, withHeard}
+use Rattle.level.specs.Level.{Level, valueCount, withHeard}
 use Rattle.level.specs.Counts.{sided}
 use Rattle.level.specs.Rules.{lowestRule}
 use Rattle.level_laws.proofs.Searches.{candidate-small}
@@ -49,14 +48,14 @@ pub record Valued (c : Context) : Type 0 where
 -- ---- every message that the new record tells of was told of by the old one, or is made by the effect
 
 record Traced (c : Context) (l m : Level) (e : Effect) : Type 0 where
-  port-echoed : T (m .«echoed_port») → T (l .«echoed_port») ⊎ (e ≡ Send (FirstEcho (c .port)))
-  none-echoed : T (m .«echoed_none») → T (l .«echoed_none») ⊎ (e ≡ Send (FirstEcho noneValue))
+  port-echoed : T (m .echoedPort) → T (l .echoedPort) ⊎ (e ≡ Send (FirstEcho (c .port)))
+  none-echoed : T (m .echoedNone) → T (l .echoedNone) ⊎ (e ≡ Send (FirstEcho noneValue))
   proposed : (m .proposal ≡ l .proposal) ⊎ (e ≡ Send (FirstProposal (m .proposal)))
   echoed : (w : ℕ) → Echoed m w → Echoed l w ⊎ (e ≡ Send (SecondEcho w))
-  second-proposed : (m .«second_proposal» ≡ l .«second_proposal») ⊎ (e ≡ Send (SecondProposal (m .«second_proposal»)))
+  second-proposed : (m .secondProposal ≡ l .secondProposal) ⊎ (e ≡ Send (SecondProposal (m .secondProposal)))
   side : T (c .«next_entered» || enters e) → m .result < noneValue → T (not (m .sure))
       → (T (c .«next_entered») × (m .result ≡ l .result) × (m .sure ≡ l .sure)) ⊎ (e ≡ SendEnter (m .result))
-  told : T (m .«told_centre») → T (l .«told_centre») ⊎ (e ≡ Send Centre)
+  told : T (m .toldCentre) → T (l .toldCentre) ⊎ (e ≡ Send Centre)
 
 or-false : (a : Bool) → T (a || false) → T a
 or-false true h = tt
@@ -111,12 +110,12 @@ sent-traced c c′ l m e a t (FirstEcho v) (inl h) = go (t .port-echoed (h .1))
     i : v ≡ c .port
     i = h .0 ∙ sym (a .same .port)
 
-    go : T (l .«echoed_port») ⊎ (e ≡ Send (FirstEcho (c .port))) → SentIn c l (FirstEcho v) ⊎ Makes e (FirstEcho v)
+    go : T (l .echoedPort) ⊎ (e ≡ Send (FirstEcho (c .port))) → SentIn c l (FirstEcho v) ⊎ Makes e (FirstEcho v)
     go (inl x) = inl (inl (i, x))
     go (inr x) = inr (subst (λ (z : Effect). Makes z (FirstEcho v)) (sym x) (ap FirstEcho (sym i)))
 sent-traced c c′ l m e a t (FirstEcho v) (inr h) = go (t .none-echoed (h .1))
   where
-    go : T (l .«echoed_none») ⊎ (e ≡ Send (FirstEcho noneValue)) → SentIn c l (FirstEcho v) ⊎ Makes e (FirstEcho v)
+    go : T (l .echoedNone) ⊎ (e ≡ Send (FirstEcho noneValue)) → SentIn c l (FirstEcho v) ⊎ Makes e (FirstEcho v)
     go (inl x) = inl (inr (h .0, x))
     go (inr x) = inr (subst (λ (z : Effect). Makes z (FirstEcho v)) (sym x) (ap FirstEcho (sym (h .0))))
 sent-traced c c′ l m e a t (FirstProposal v) h = go (t .proposed)
@@ -131,7 +130,7 @@ sent-traced c c′ l m e a t (SecondEcho w) h = go (t .echoed w h)
     go (inr x) = inr (subst (λ (z : Effect). Makes z (SecondEcho w)) (sym x) refl)
 sent-traced c c′ l m e a t (SecondProposal w) h = go (t .second-proposed)
   where
-    go : (m .«second_proposal» ≡ l .«second_proposal») ⊎ (e ≡ Send (SecondProposal (m .«second_proposal»))) → SentIn c l (SecondProposal w) ⊎ Makes e (SecondProposal w)
+    go : (m .secondProposal ≡ l .secondProposal) ⊎ (e ≡ Send (SecondProposal (m .secondProposal))) → SentIn c l (SecondProposal w) ⊎ Makes e (SecondProposal w)
     go (inl x) = inl (h .0, sym x ∙ h .1)
     go (inr x) = inr (subst (λ (z : Effect). Makes z (SecondProposal w)) (sym x) (ap SecondProposal (h .1)))
 sent-traced c c′ l m e a t (Side k) h = go (t .side (subst T (a .entered) (h .2)) (subst (λ (x : ℕ). x < noneValue) (sym (h .0)) (h .4)) (h .1))
@@ -141,7 +140,7 @@ sent-traced c c′ l m e a t (Side k) h = go (t .side (subst T (a .entered) (h .
     go (inr x) = inr (subst (λ (z : Effect). Makes z (Side k)) (sym x) (ap Side (h .0)))
 sent-traced c c′ l m e a t Centre h = go (t .told h)
   where
-    go : T (l .«told_centre») ⊎ (e ≡ Send Centre) → T (l .«told_centre») ⊎ Makes e Centre
+    go : T (l .toldCentre) ⊎ (e ≡ Send Centre) → T (l .toldCentre) ⊎ Makes e Centre
     go (inl x) = inl x
     go (inr x) = inr (subst (λ (z : Effect). Makes z Centre) (sym x) refl)
 
@@ -193,13 +192,13 @@ makes-new : (c : Context) (l m : Level) (e : Effect) → Valued c → Move c l m
 makes-new c l m e d (port-echo p) b i = subst (λ (x : Body). SentIn c l x → ⊥) i go
   where
     go : SentIn c l (FirstEcho (c .port)) → ⊥
-    go (inl s) = T-not (l .«echoed_port») p (s .1)
+    go (inl s) = T-not (l .echoedPort) p (s .1)
     go (inr s) = let x = s .0 in let y = d .port in let z = d .degree in omega arith
 makes-new c l m e d (none-echo p q) b i = subst (λ (x : Body). SentIn c l x → ⊥) i go
   where
     go : SentIn c l (FirstEcho noneValue) → ⊥
     go (inl s) = let x = s .0 in let y = d .port in let z = d .degree in omega arith
-    go (inr s) = T-not (l .«echoed_none») p (s .1)
+    go (inr s) = T-not (l .echoedNone) p (s .1)
 makes-new c l m e d (first-proposal v p k q) b i = subst (λ (x : Body). SentIn c l x → ⊥) i (λ s. s .0 (sym (s .1) ∙ p))
 makes-new c l m e d (first-value v p k q) b i = absurd i
 makes-new c l m e d (first-none p q) b i = absurd i
@@ -212,7 +211,7 @@ makes-new c l m e d (unsure-result v p r k q q′) b i = absurd i
 makes-new c l m e d (centre-output r o) b i = absurd i
 makes-new c l m e d (sure-entry r n s) b i = absurd i
 makes-new c l m e d (unsure-entry r n s) b i = subst (λ (x : Body). SentIn c l x → ⊥) i (λ t. T-not (c .«next_entered») n (t .2))
-makes-new c l m e d (centre-message r t) b i = subst (λ (x : Body). SentIn c l x → ⊥) i (T-not (l .«told_centre») t)
+makes-new c l m e d (centre-message r t) b i = subst (λ (x : Body). SentIn c l x → ⊥) i (T-not (l .toldCentre) t)
 makes-new c l m e d (sided-entry k r n x y q) b i = absurd i
 makes-new c l m e d (told-output q o) b i = absurd i
 makes-new c l m e d (next-output r o x) b i = absurd i
@@ -322,13 +321,13 @@ sent-heard c l b s Centre = ((λ h. h), (λ h. h))
 
 -- nothing is told of where nothing was made
 pub untouched-sent : (c : Context) (l : Level) → Untouched l → (b : Body) → SentIn c l b → ⊥
-untouched-sent c l u (FirstEcho v) (inl h) = T-not (l .«echoed_port») (u .echoed-port) (h .1)
-untouched-sent c l u (FirstEcho v) (inr h) = T-not (l .«echoed_none») (u .echoed-none) (h .1)
+untouched-sent c l u (FirstEcho v) (inl h) = T-not (l .echoedPort) (u .echoed-port) (h .1)
+untouched-sent c l u (FirstEcho v) (inr h) = T-not (l .echoedNone) (u .echoed-none) (h .1)
 untouched-sent c l u (FirstProposal v) h = h .0 (sym (h .1) ∙ u .proposal)
 untouched-sent c l u (SecondEcho w) h = u .echoed w h
 untouched-sent c l u (SecondProposal w) h = h .0 (sym (h .1) ∙ u .second-proposal)
 untouched-sent c l u (Side k) h = let i = h .0 in let j = h .4 in let r = u .result in omega arith
-untouched-sent c l u Centre h = T-not (l .«told_centre») (u .told) h
+untouched-sent c l u Centre h = T-not (l .toldCentre) (u .told) h
 
 -- a context that says the same of this level and of the next one's entry
 pub sent-context : (c c′ : Context) (l : Level) → Same c c′ → c .«next_entered» ≡ c′ .«next_entered» → (b : Body) → SentIn c l b → SentIn c′ l b

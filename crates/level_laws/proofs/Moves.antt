@@ -12,14 +12,12 @@ use Rattle.base.proofs.Counts.{member}
 use Rattle.base.proofs.Smallest.{sought, found}
 use Rattle.message.specs.Message.{noneValue}
 use Rattle.message.specs.declared.Body.the-variants.{FirstEcho, FirstProposal, SecondEcho, SecondProposal, Centre}
-use Rattle.level.specs.declared.Level.{Level}
 use Rattle.level.specs.declared.Context.{Context}
-use Rattle.level.specs.declared.Applied.{Applied}
 use Rattle.level.specs.declared.Effect.{Effect}
 use Rattle.level.specs.declared.Effect.the-variants.{Nothing, Quiet, Send, Enter, SendEnter}
-use Rattle.level.specs.Level.{senders, notYet, noOutput, withPortEcho, withNoneEcho, withProposal, withFirst, withSecondEcho, withSecondProposal, withResult, withOutput, withCentreTold}
+use Rattle.level.specs.Level.{Level, senders, notYet, noOutput, withPortEcho, withNoneEcho, withProposal, withFirst, withSecondEcho, withSecondProposal, withResult, withOutput, withCentreTold}
 use Rattle.level.specs.Counts.{weak, strong, candidate, otherEchoes, atLeast, mayPropose, proposed, split, echoedBy, secondProposed, echoedValues, sided}
-use Rattle.level.specs.Rules.{idle, does, when, missing, present, unanswered, aside, resultNone, smallestValue, isValue, firstCandidate, isCandidate, applies, orElse, rule1, rule2, rule3, rule4, rule5, rule6, rule7, rule8, rule9, rule10, rule11, rule12, rule13, rule14, lowestRule}
+use Rattle.level.specs.Rules.{Applied, idle, does, when, missing, present, unanswered, aside, resultNone, smallestValue, isValue, firstCandidate, isCandidate, applies, orElse, rule1, rule2, rule3, rule4, rule5, rule6, rule7, rule8, rule9, rule10, rule11, rule12, rule13, rule14, lowestRule}
 use Rattle.level_laws.proofs.Searches.{eq→eqb, ne→neqb, neqb→ne, not-not, candidate-is, candidate-hit, candidate-found, value-hit, value-found, count-alone}
 pub use Rattle.level_laws.specs.Inner.{Present, Answered, Aside, Echoed, Candidate}
 
@@ -38,9 +36,9 @@ enters (SendEnter k) = true
 -- a rule applied to the record l in context c: the record and the effect that it comes to, and what it asked
 pub data Move (c : Context) (l : Level) : Level → Effect → Type 0 where
   -- rule 1
-  port-echo : T (not (l .«echoed_port»)) → Move c l (withPortEcho l) (Send (FirstEcho (c .port)))
+  port-echo : T (not (l .echoedPort)) → Move c l (withPortEcho l) (Send (FirstEcho (c .port)))
   -- rule 2
-  none-echo : T (not (l .«echoed_none»)) → T (atLeast (weak c) (otherEchoes c l)) → Move c l (withNoneEcho l) (Send (FirstEcho noneValue))
+  none-echo : T (not (l .echoedNone)) → T (atLeast (weak c) (otherEchoes c l)) → Move c l (withNoneEcho l) (Send (FirstEcho noneValue))
   -- rule 3
   first-proposal : (v : ℕ) → l .proposal ≡ notYet → v ≤ c .degree → T (mayPropose c l v) → Move c l (withProposal l v) (Send (FirstProposal v))
   -- rule 4, by first proposals
@@ -53,7 +51,7 @@ pub data Move (c : Context) (l : Level) : Level → Effect → Type 0 where
   relay : (w : ℕ) → Present (l .first) → Candidate c w → T (echoedBy (weak c) l w) → T (not (getD (l .echoed) w false))
       → Move c l (withSecondEcho l w) (Send (SecondEcho w))
   -- rule 7
-  second-proposal : (w : ℕ) → Present (l .first) → l .«second_proposal» ≡ notYet → Candidate c w → T (echoedBy (strong c) l w)
+  second-proposal : (w : ℕ) → Present (l .first) → l .secondProposal ≡ notYet → Candidate c w → T (echoedBy (strong c) l w)
       → Move c l (withSecondProposal l w) (Send (SecondProposal w))
   -- rule 8, by second proposals of a value
   sure-result : (v : ℕ) → Present (l .first) → l .result ≡ notYet → v ≤ c .degree → T (secondProposed c l v) → Move c l (withResult l v true) Quiet
@@ -69,7 +67,7 @@ pub data Move (c : Context) (l : Level) : Level → Effect → Type 0 where
   -- rule 10 at grade 1
   unsure-entry : Aside l → T (not (c .«next_entered»)) → T (not (l .sure)) → Move c l l (SendEnter (l .result))
   -- rule 11
-  centre-message : l .result ≡ noneValue → T (not (l .«told_centre»))
+  centre-message : l .result ≡ noneValue → T (not (l .toldCentre))
       → Move c l (withCentreTold l (pick (unanswered l) (c .centre) (l .output))) (Send Centre)
   -- rule 12
   sided-entry : (k : ℕ) → l .result ≡ noneValue → T (not (c .«next_entered»)) → 1 ≤ k → k ≤ c .degree → T (sided c l k) → Move c l l (Enter k false)
@@ -80,20 +78,20 @@ pub data Move (c : Context) (l : Level) : Level → Effect → Type 0 where
 
 -- no rule applies to the record l in context c: a clause for each case, result-proposals and result-echoes for rule 8 and entry for rule 10
 pub record AtRest (c : Context) (l : Level) : Type 0 where
-  pub port-echo : T (l .«echoed_port»)
-  pub none-echo : T (atLeast (weak c) (otherEchoes c l)) → T (l .«echoed_none»)
+  pub port-echo : T (l .echoedPort)
+  pub none-echo : T (atLeast (weak c) (otherEchoes c l)) → T (l .echoedNone)
   pub first-proposal : (v : ℕ) → v ≤ c .degree → T (mayPropose c l v) → Present (l .proposal)
   pub first-value : (v : ℕ) → v ≤ c .degree → T (proposed c l v) → Present (l .first)
   pub first-none : T (split c l) → Present (l .first)
   pub own-echo : Present (l .first) → Echoed l (l .first)
   pub relay : (w : ℕ) → Present (l .first) → Candidate c w → T (echoedBy (weak c) l w) → Echoed l w
-  pub second-proposal : (w : ℕ) → Present (l .first) → Candidate c w → T (echoedBy (strong c) l w) → Present (l .«second_proposal»)
+  pub second-proposal : (w : ℕ) → Present (l .first) → Candidate c w → T (echoedBy (strong c) l w) → Present (l .secondProposal)
   pub result-proposals : (w : ℕ) → Present (l .first) → Candidate c w → T (secondProposed c l w) → Present (l .result)
   pub result-echoes : (v : ℕ) → Present (l .first) → v ≤ c .degree → T (echoedBy (weak c) l noneValue) → T (echoedBy (weak c) l v)
       → ((w : ℕ) → w ≤ c .degree → T (echoedBy (weak c) l w) → w ≡ v) → Present (l .result)
   pub centre-output : l .result ≡ 0 → Answered l
   pub entry : Aside l → T (c .«next_entered»)
-  pub centre-message : l .result ≡ noneValue → T (l .«told_centre»)
+  pub centre-message : l .result ≡ noneValue → T (l .toldCentre)
   pub sided-entry : (k : ℕ) → l .result ≡ noneValue → 1 ≤ k → k ≤ c .degree → T (sided c l k) → T (c .«next_entered»)
   pub told-output : T (atLeast (weak c) (senders l Centre)) → Answered l
   pub next-output : Aside l → (c .«next_output» ≡ noOutput → ⊥) → Answered l
@@ -163,16 +161,16 @@ module _ {c : Context} {l : Level} where
 -- ---- each rule: what is so where it does not apply
 
 module _ (c : Context) (l : Level) where
-  tried1 : Tried c l (T (l .«echoed_port»)) (rule1 c l)
+  tried1 : Tried c l (T (l .echoedPort)) (rule1 c l)
   unfolding rule1
-  tried1 = tried-when (not (l .«echoed_port»)) _ (λ p. moves tt (port-echo p)) (not-not (l .«echoed_port»))
+  tried1 = tried-when (not (l .echoedPort)) _ (λ p. moves tt (port-echo p)) (not-not (l .echoedPort))
 
-  tried2 : Tried c l (T (atLeast (weak c) (otherEchoes c l)) → T (l .«echoed_none»)) (rule2 c l)
+  tried2 : Tried c l (T (atLeast (weak c) (otherEchoes c l)) → T (l .echoedNone)) (rule2 c l)
   unfolding rule2
   tried2 =
-      tried-and (not (l .«echoed_none»)) (atLeast (weak c) (otherEchoes c l)) _
+      tried-and (not (l .echoedNone)) (atLeast (weak c) (otherEchoes c l)) _
       (λ p q. moves tt (none-echo p q))
-      (λ d q. not-not (l .«echoed_none») (λ p. d p q))
+      (λ d q. not-not (l .echoedNone) (λ p. d p q))
 
   tried3 : Tried c l ((v : ℕ) → v ≤ c .degree → T (mayPropose c l v) → Present (l .proposal)) (rule3 c l)
   unfolding rule3
@@ -212,13 +210,13 @@ module _ (c : Context) (l : Level) where
       due : ℕ → Bool
       due w = echoedBy (weak c) l w && not (getD (l .echoed) w false)
 
-  tried7 : Tried c l ((w : ℕ) → Present (l .first) → Candidate c w → T (echoedBy (strong c) l w) → Present (l .«second_proposal»)) (rule7 c l)
+  tried7 : Tried c l ((w : ℕ) → Present (l .first) → Candidate c w → T (echoedBy (strong c) l w) → Present (l .secondProposal)) (rule7 c l)
   unfolding rule7
   tried7 =
       let p : ℕ → Bool = echoedBy (strong c) l in
-      tried-three (present (l .first)) (missing (l .«second_proposal»)) (isCandidate c (firstCandidate c p)) _
-      (λ f m q. moves tt (second-proposal _ (neqb→ne (l .first) notYet f) (eqb→eq (l .«second_proposal») notYet m) (candidate-is c (firstCandidate c p)) (candidate-hit c p q)))
-      (λ d w f k q e. d (ne→neqb (l .first) notYet f) (eq→eqb (l .«second_proposal») notYet e) (candidate-found c p w k q))
+      tried-three (present (l .first)) (missing (l .secondProposal)) (isCandidate c (firstCandidate c p)) _
+      (λ f m q. moves tt (second-proposal _ (neqb→ne (l .first) notYet f) (eqb→eq (l .secondProposal) notYet m) (candidate-is c (firstCandidate c p)) (candidate-hit c p q)))
+      (λ d w f k q e. d (ne→neqb (l .first) notYet f) (eq→eqb (l .secondProposal) notYet e) (candidate-found c p w k q))
 
   tried8 : Tried c l
       (((w : ℕ) → Present (l .first) → Candidate c w → T (secondProposed c l w) → Present (l .result))
@@ -276,12 +274,12 @@ module _ (c : Context) (l : Level) where
       by true h r n = moves tt (sure-entry r n (true→T h))
       by false h r n = moves tt (unsure-entry r n (subst (λ (b : Bool). T (not b)) (sym h) tt))
 
-  tried11 : Tried c l (l .result ≡ noneValue → T (l .«told_centre»)) (rule11 c l)
+  tried11 : Tried c l (l .result ≡ noneValue → T (l .toldCentre)) (rule11 c l)
   unfolding rule11
   tried11 =
-      tried-and (resultNone l) (not (l .«told_centre»)) _
+      tried-and (resultNone l) (not (l .toldCentre)) _
       (λ p q. moves tt (centre-message (eqb→eq (l .result) noneValue p) q))
-      (λ d r. not-not (l .«told_centre») (d (eq→eqb (l .result) noneValue r)))
+      (λ d r. not-not (l .toldCentre) (d (eq→eqb (l .result) noneValue r)))
 
   tried12 : Tried c l ((k : ℕ) → l .result ≡ noneValue → 1 ≤ k → k ≤ c .degree → T (sided c l k) → T (c .«next_entered»)) (rule12 c l)
   unfolding rule12

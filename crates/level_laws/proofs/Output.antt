@@ -11,10 +11,9 @@ use Rattle.base.specs.Pick.{pick}
 use Rattle.message.specs.Message.{noneValue}
 use Rattle.message.specs.declared.Body.{Body}
 use Rattle.message.specs.declared.Body.the-variants.{Centre}
-use Rattle.level.specs.declared.Level.{Level}
 use Rattle.level.specs.declared.Context.{Context}
 use Rattle.level.specs.declared.Effect.{Effect}
-use Rattle.level.specs.Level.{senders, slot, notYet, noOutput, withHeard, withResult}
+use Rattle.level.specs.Level.{Level, senders, slot, notYet, noOutput, withHeard, withResult}
 use Rattle.level.specs.Counts.{weak, atLeast}
 use Rattle.level.specs.Rules.{unanswered, lowestRule}
 use Rattle.level_laws.specs.Inner.{Answered, Heard, Law, CentreBy, by-zero, by-none, by-messages, OutputFrom, OutputBy}

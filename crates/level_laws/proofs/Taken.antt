@@ -13,8 +13,7 @@ use Rattle.message.specs.Message.{bodyInTable}
 use Rattle.message.specs.declared.Body.{Body}
 use Rattle.senders.specs.Senders.{isIn, withSender}
 use Rattle.senders.proofs.Laws.{in-with, with-new}
-use Rattle.level.specs.declared.Level.{Level}
-use Rattle.level.specs.Level.{senders, slot, withHeard}
+use Rattle.level.specs.Level.{Level, senders, slot, withHeard}
 use Rattle.level_counts.proofs.Slots.{slot-lt}
 use Rattle.level_counts.proofs.Slots.{slot-one}
 use Rattle.level_laws.specs.Inner.{Heard, heardFrom}

@@ -10,9 +10,8 @@ use Rattle.message.specs.Message.{noneValue, bodyInTable}
 use Rattle.message.specs.declared.Body.{Body}
 use Rattle.message.specs.declared.Body.the-variants.{FirstEcho, FirstProposal, SecondEcho, SecondProposal, Side, Centre}
 use Rattle.senders.specs.Senders.{isIn}
-use Rattle.level.specs.declared.Level.{Level}
 use Rattle.level.specs.declared.Context.{Context}
-use Rattle.level.specs.Level.{senders, notYet, noOutput, valueCount, slotCount}
+use Rattle.level.specs.Level.{Level, senders, notYet, noOutput, valueCount, slotCount}
 use Rattle.level.specs.Counts.{weak, strong, otherEchoes, atLeast, mayPropose, proposed, split, echoedBy, secondProposed}
 
 -- ---- words
@@ -43,12 +42,12 @@ heardFrom l b s = bodyInTable b && isIn (senders l b) s
 
 -- the level has made message b; "at grade 1 send side k" goes with the entry of the next level
 abbrev pub SentIn : Context → Level → Body → Type 0
-SentIn c l (FirstEcho v) = ((v ≡ c .port) × T (l .«echoed_port»)) ⊎ ((v ≡ noneValue) × T (l .«echoed_none»))
+SentIn c l (FirstEcho v) = ((v ≡ c .port) × T (l .echoedPort)) ⊎ ((v ≡ noneValue) × T (l .echoedNone))
 SentIn c l (FirstProposal v) = Present v × (l .proposal ≡ v)
 SentIn c l (SecondEcho w) = Echoed l w
-SentIn c l (SecondProposal w) = Present w × (l .«second_proposal» ≡ w)
+SentIn c l (SecondProposal w) = Present w × (l .secondProposal ≡ w)
 SentIn c l (Side k) = (l .result ≡ k) × T (not (l .sure)) × T (c .«next_entered») × (1 ≤ k) × (k < noneValue)
-SentIn c l Centre = T (l .«told_centre»)
+SentIn c l Centre = T (l .toldCentre)
 
 -- ---- what a record rests on
 
@@ -72,14 +71,14 @@ ResultBy c l w sure =
 -- what a level's record rests on
 pub record Law (c : Context) (l : Level) : Type 0 where
   pub heard : Heard (c .n) l
-  pub echoed-none : T (l .«echoed_none») → T (atLeast (weak c) (otherEchoes c l))
+  pub echoed-none : T (l .echoedNone) → T (atLeast (weak c) (otherEchoes c l))
   pub proposal : Present (l .proposal) → (l .proposal ≤ c .degree) × T (mayPropose c l (l .proposal))
   pub first : Present (l .first) → FirstBy c l (l .first)
   pub echoed : (w : ℕ) → Echoed l w → Present (l .first) × Candidate c w × ((w ≡ l .first) ⊎ T (echoedBy (weak c) l w))
-  pub second-proposal : Present (l .«second_proposal»)
-      → Present (l .first) × Candidate c (l .«second_proposal») × T (echoedBy (strong c) l (l .«second_proposal»))
+  pub second-proposal : Present (l .secondProposal)
+      → Present (l .first) × Candidate c (l .secondProposal) × T (echoedBy (strong c) l (l .secondProposal))
   pub result : Present (l .result) → Present (l .first) × ResultBy c l (l .result) (l .sure)
-  pub told : T (l .«told_centre») → (l .result ≡ noneValue) × Answered l
+  pub told : T (l .toldCentre) → (l .result ≡ noneValue) × Answered l
 
 -- the next level is entered only with a result
 abbrev pub Descends : Context → Level → Type 0
@@ -100,27 +99,27 @@ OutputBy c l = Answered l → OutputFrom c l
 
 -- nothing was made at the level, whether it was entered or not
 pub record Untouched (l : Level) : Type 0 where
-  pub echoed-port : T (not (l .«echoed_port»))
-  pub echoed-none : T (not (l .«echoed_none»))
+  pub echoed-port : T (not (l .echoedPort))
+  pub echoed-none : T (not (l .echoedNone))
   pub proposal : l .proposal ≡ notYet
   pub first : l .first ≡ notYet
   pub echoed : (w : ℕ) → Echoed l w → ⊥
-  pub second-proposal : l .«second_proposal» ≡ notYet
+  pub second-proposal : l .secondProposal ≡ notYet
   pub result : l .result ≡ notYet
-  pub told : T (not (l .«told_centre»))
+  pub told : T (not (l .toldCentre))
 
 -- ---- a record later
 
 -- what is there in the record l is so in m
 pub record Grows (l m : Level) : Type 0 where
   pub entered : T (l .entered) → T (m .entered) × (m .side ≡ l .side) × (m .position ≡ l .position)
-  pub echoed-port : T (l .«echoed_port») → T (m .«echoed_port»)
-  pub echoed-none : T (l .«echoed_none») → T (m .«echoed_none»)
+  pub echoed-port : T (l .echoedPort) → T (m .echoedPort)
+  pub echoed-none : T (l .echoedNone) → T (m .echoedNone)
   pub proposal : Present (l .proposal) → m .proposal ≡ l .proposal
   pub first : Present (l .first) → m .first ≡ l .first
   pub echoed : (w : ℕ) → Echoed l w → Echoed m w
-  pub second-proposal : Present (l .«second_proposal») → m .«second_proposal» ≡ l .«second_proposal»
+  pub second-proposal : Present (l .secondProposal) → m .secondProposal ≡ l .secondProposal
   pub result : Present (l .result) → (m .result ≡ l .result) × (m .sure ≡ l .sure)
-  pub told : T (l .«told_centre») → T (m .«told_centre»)
+  pub told : T (l .toldCentre) → T (m .toldCentre)
   pub output : Answered l → m .output ≡ l .output
   pub heard : (b : Body) (s : ℕ) → T (isIn (senders l b) s) → T (isIn (senders m b) s)

@@ -3,10 +3,9 @@ use mathlib.Core.Path.{_≡_, refl, sym, ap, _∙_}
 use mathlib.Core.Bool.{Bool, true, false}
 use Prim.Native.Nat.{ℕ, suc, _+_, _-_}
 use Rattle.base.specs.Pick.{pick}
-use Rattle.level.specs.declared.Level.{Level}
+use Rattle.level.specs.Level.{Level}
 use Rattle.level.specs.declared.Context.{Context}
-use Rattle.level.specs.declared.Applied.{Applied}
-use Rattle.level.specs.Rules.{applies, lowestRule}
+use Rattle.level.specs.Rules.{Applied, applies, lowestRule}
 use Rattle.level_lowest.specs.Inner.{ruleCount, ruleOf, lowestFrom}
 
 module _ (c : Context) (l : Level) where

@@ -2,10 +2,9 @@
 use Prim.Native.Nat.{ℕ, zero, suc, _+_}
 use lib.Dec.{eqb}
 use Rattle.base.specs.Pick.{pick}
-use Rattle.level.specs.declared.Level.{Level}
+use Rattle.level.specs.Level.{Level}
 use Rattle.level.specs.declared.Context.{Context}
-use Rattle.level.specs.declared.Applied.{Applied}
-use Rattle.level.specs.Rules.{orElse, rule1, rule2, rule3, rule4, rule5, rule6, rule7, rule8, rule9, rule10, rule11, rule12, rule13, rule14}
+use Rattle.level.specs.Rules.{Applied, orElse, rule1, rule2, rule3, rule4, rule5, rule6, rule7, rule8, rule9, rule10, rule11, rule12, rule13, rule14}
 
 abbrev pub ruleCount : ℕ
 ruleCount = 14

@@ -1,15 +1,16 @@
 // Which rule of a level is applied: the lowest of the fourteen that applies.
 ghost use mathlib.Core.Path.{_≡_};
-ghost use Rattle.level.specs.Counts.{InLimits};
+ghost use Rattle.level.specs.Inner.{InLimits};
 ghost use Rattle.level.specs.Rules.{lowestRule};
 ghost use Rattle.level_lowest.specs.Inner.{ruleOf};
+ghost use Rattle.level.specs.Tie.{asLevel, asApplied};
 
 const RULES: u32 = 14;
 
 // Rule i of 1 to RULES.
 fn rule(l: level::Level, c: level::Context, i: u32) -> level::Applied
-    requires { ⌜ InLimits c l ⌝ }
-    ensures { λ r. ⌜ r ≡ ruleOf c l i ⌝ }
+    requires { ⌜ InLimits c (asLevel l) ⌝ }
+    ensures { λ r. ⌜ asApplied r ≡ ruleOf c (asLevel l) i ⌝ }
 {
     match i {
         1 => l.rule1(c),
@@ -31,8 +32,8 @@ fn rule(l: level::Level, c: level::Context, i: u32) -> level::Applied
 
 // The lowest rule that applies.
 pub fn lowest_rule(l: level::Level, c: level::Context) -> level::Applied
-    requires { ⌜ InLimits c l ⌝ }
-    ensures { λ r. ⌜ r ≡ lowestRule c l ⌝ }
+    requires { ⌜ InLimits c (asLevel l) ⌝ }
+    ensures { λ r. ⌜ asApplied r ≡ lowestRule c (asLevel l) ⌝ }
 {
     let mut i: u32 = 1;
     while i < RULES {

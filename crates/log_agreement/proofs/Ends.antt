@@ -8,7 +8,7 @@ use lib.Dec.{T, not-T}
 use Rattle.base.specs.Sets.{Set, count, Sound}
 use Rattle.base.proofs.Bools.{false→not-T}
 use Rattle.base.proofs.Counts.{count-mono}
-use Rattle.plan.specs.declared.Plan.{Plan}
+use Rattle.plan.specs.Plan.{Plan}
 use Rattle.component.specs.Component.{sizeOf, degreeOf}
 use Rattle.component_laws.proofs.Laws.{of-plan, port-most}
 use Rattle.message.specs.declared.Body.{Body}
@@ -18,8 +18,7 @@ use Rattle.level_laws.specs.Inner.{Answered, Aside, heardFrom}
 use Rattle.level_laws.proofs.Moves.{AtRest}
 use Rattle.level_laws.proofs.Counted.{sided-reached, centre-reached}
 use Rattle.level_laws.proofs.Output.{rest-none}
-use Rattle.party.specs.declared.Party.{Party}
-use Rattle.party.specs.Party.{levelAt, componentOf, sending, contextOf}
+use Rattle.party.specs.Party.{Party, levelAt, componentOf, sending, contextOf}
 use Rattle.party_laws.proofs.Laws.{entered-level, sending-level, position-output}
 use Rattle.vote_machine.specs.Machine.{Heard, Sent}
 use Rattle.vote_machine.proofs.Laws.{valued, at-rest}

@@ -6,13 +6,12 @@ use Prim.Native.Nat.{ℕ, _≤_, _<_}
 use lib.Dec.{T}
 use Rattle.base.specs.Sets.{Set, count, Sound}
 use Rattle.base.proofs.Counts.{sound-member}
-use Rattle.plan.specs.declared.Plan.{Plan}
+use Rattle.plan.specs.Plan.{Plan}
 use Rattle.message.specs.declared.Body.the-variants.{SecondEcho}
 use Rattle.message.specs.declared.Message.{Message}
 use Rattle.level_laws.specs.Inner.{Present, Echoed, SentIn, heardFrom}
 use Rattle.graded_levels.proofs.Board.{law-own}
-use Rattle.party.specs.declared.Party.{Party}
-use Rattle.party.specs.Party.{levelAt, sending, contextOf}
+use Rattle.party.specs.Party.{Party, levelAt, sending, contextOf}
 use Rattle.party_laws.proofs.Laws.{sending-entered}
 use Rattle.execution.specs.Machine.{Event, Machine}
 use Rattle.execution.specs.History.{HStep, log, after}

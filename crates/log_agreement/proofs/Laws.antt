@@ -8,15 +8,15 @@ use lib.Dec.{T}
 use Rattle.base.specs.Sets.{Set, count, Sound}
 use Rattle.base.proofs.Bools.{T-dec}
 use Rattle.tree.specs.Walk.{Walk, OnPath}
-use Rattle.tree.specs.Edges.{Edges, Adjacent, Acyclic}
+use Rattle.tree.specs.Edges.{Edges, Adjacent}
+use Rattle.tree.specs.Inner.{Acyclic}
 use Rattle.tree.proofs.Laws.{Component}
 use Rattle.tree.proofs.Walks.{mono}
-use Rattle.plan.specs.declared.Plan.{Plan}
+use Rattle.plan.specs.Plan.{Plan}
 use Rattle.plan.specs.Positions.{edgesOf}
 use Rattle.message.specs.declared.Message.{Message}
 use Rattle.level.specs.Level.{noOutput}
-use Rattle.party.specs.declared.Party.{Party}
-use Rattle.party.specs.Party.{levelAt, componentOf}
+use Rattle.party.specs.Party.{Party, levelAt, componentOf}
 use Rattle.component.specs.Component.{wholeOf}
 use Rattle.component_laws.proofs.Laws.{plan-component, whole-plan}
 use Rattle.party_laws.proofs.Laws.{shape}

@@ -6,13 +6,12 @@ use Prim.Native.Nat.{ℕ}
 use lib.Dec.{T, leb}
 use Rattle.base.specs.Sets.{Set}
 use Rattle.base.proofs.Bools.{T-and, T-right}
-use Rattle.plan.specs.declared.Plan.{Plan}
+use Rattle.plan.specs.Plan.{Plan}
 use Rattle.message.specs.declared.Message.{Message}
 use Rattle.message.specs.Message.{bodyInTable, lastLevel}
 use Rattle.senders.specs.Senders.{isIn}
 use Rattle.level.specs.Level.{noOutput, senders, held}
-use Rattle.party.specs.declared.Party.{Party}
-use Rattle.party.specs.Party.{levelAt, heldBy, outputOf}
+use Rattle.party.specs.Party.{Party, levelAt, heldBy, outputOf}
 use Rattle.party_laws.proofs.Laws.{output-stays}
 use Rattle.execution.specs.Machine.{Event, Machine}
 use Rattle.execution.specs.History.{act, hand, mark, cut, log, after}

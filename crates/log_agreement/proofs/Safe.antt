@@ -10,7 +10,7 @@ use Rattle.base.specs.Sets.{Set, count, Sound}
 use Rattle.base.specs.Limits.{levelCount}
 use Rattle.base.proofs.Bools.{T-dec, T→true, not-T→false}
 use Rattle.base.proofs.Counts.{sound-member}
-use Rattle.plan.specs.declared.Plan.{Plan}
+use Rattle.plan.specs.Plan.{Plan}
 use Rattle.component.specs.Component.{wholeOf, sizeOf, centreOf, portOf, sideOf}
 use Rattle.message.specs.declared.Body.{Body}
 use Rattle.message.specs.declared.Body.the-variants.{Side, Centre}
@@ -18,11 +18,9 @@ use Rattle.message.specs.Message.{noneValue}
 use Rattle.level_laws.specs.Inner.{Aside, heardFrom, CentreBy}
 use Rattle.level_laws.proofs.Counted.{centre-reached}
 use Rattle.level_laws.specs.Inner as records
-use Rattle.level.specs.declared.Level.{Level}
 use Rattle.level.specs.declared.Context.{Context}
-use Rattle.level.specs.Level.{noOutput}
-use Rattle.party.specs.declared.Party.{Party}
-use Rattle.party.specs.Party.{levelAt, componentOf, sending, contextOf}
+use Rattle.level.specs.Level.{Level, noOutput}
+use Rattle.party.specs.Party.{Party, levelAt, componentOf, sending, contextOf}
 use Rattle.party_laws.proofs.Laws.{entered-level, sending-entered, sending-level, whole-component, next-component}
 use Rattle.vote_machine.specs.Machine.{Sent}
 use Rattle.vote_machine.specs.Inner.{Way, stays, moves, leads, follows}

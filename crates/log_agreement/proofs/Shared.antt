@@ -8,7 +8,7 @@ use lib.Dec.{T}
 use Rattle.base.specs.Sets.{Set, Sound}
 use Rattle.base.specs.Limits.{levelCount}
 use Rattle.base.proofs.Bools.{T-dec}
-use Rattle.plan.specs.declared.Plan.{Plan}
+use Rattle.plan.specs.Plan.{Plan}
 use Rattle.component.specs.Component.{degreeOf, portOf}
 use Rattle.message.specs.declared.Body.{Body}
 use Rattle.message.specs.declared.Body.the-variants.{SecondEcho}
@@ -18,8 +18,7 @@ use Rattle.level_laws.specs.Inner.{SentIn}
 use Rattle.level_laws.proofs.Messages.{untouched-sent, result-low}
 use Rattle.graded_levels.specs.Inner.{boardAt, Own, Shows}
 use Rattle.graded_levels.proofs.Board.{shown-own, shown-done, silent-own, justified, settled}
-use Rattle.party.specs.declared.Party.{Party}
-use Rattle.party.specs.Party.{levelAt, componentOf, sending, contextOf}
+use Rattle.party.specs.Party.{Party, levelAt, componentOf, sending, contextOf}
 use Rattle.party_laws.proofs.Laws.{sending-entered}
 use Rattle.graded_consensus.specs.Inner.{Setting, View, Fair, Justified, Settled}
 use Rattle.graded_consensus.proofs.First.{SoundPort, Differ as Apart}

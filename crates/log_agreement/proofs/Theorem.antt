@@ -5,12 +5,11 @@ use Prim.Native.Nat.{ℕ}
 use Rattle.base.specs.Sets.{Set, Sound}
 use Rattle.tree.specs.Walk.{OnPath}
 use Rattle.tree.specs.Edges.{Adjacent}
-use Rattle.plan.specs.declared.Plan.{Plan}
+use Rattle.plan.specs.Plan.{Plan}
 use Rattle.plan.specs.Positions.{edgesOf}
 use Rattle.message.specs.declared.Message.{Message}
 use Rattle.level.specs.Level.{noOutput}
-use Rattle.party.specs.declared.Party.{Party}
-use Rattle.party.specs.Party.{outputOf}
+use Rattle.party.specs.Party.{Party, outputOf}
 use Rattle.execution.specs.Inner.{ValidH}
 use Rattle.vote_machine.specs.Machine.{voteMachine, Heard, Sent}
 use Rattle.vote_machine.proofs.Laws.{Passes}

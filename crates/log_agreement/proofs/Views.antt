@@ -6,7 +6,7 @@ use native.Mathlib.Numerals.{add-one}
 use lib.Dec.{T}
 use Rattle.base.specs.Sets.{Set}
 use Rattle.base.specs.Limits.{maxDegree}
-use Rattle.plan.specs.declared.Plan.{Plan}
+use Rattle.plan.specs.Plan.{Plan}
 use Rattle.plan.specs.Positions.{edgesOf}
 use Rattle.plan.specs.Valid.{planValid}
 use Rattle.component.specs.Component.{sizeOf, centreOf, degreeOf, portOf}
@@ -15,8 +15,7 @@ use Rattle.message.specs.Message.{noneValue}
 use Rattle.level.specs.Level.{noOutput}
 use Rattle.level.specs.Counts.{bitPlaces}
 use Rattle.level_laws.specs.Inner.{SentIn, heardFrom}
-use Rattle.party.specs.declared.Party.{Party}
-use Rattle.party.specs.Party.{levelAt, componentOf, sending, contextOf}
+use Rattle.party.specs.Party.{Party, levelAt, componentOf, sending, contextOf}
 use Rattle.party_laws.proofs.Laws.{sending-three, entered-sending}
 use Rattle.graded_consensus.specs.Inner.{Setting, View}
 use Rattle.descent.specs.Inner.{Shape, Levels}

@@ -12,13 +12,12 @@ use Rattle.base.specs.Sets.{Set, Sound, count}
 use Rattle.base.specs.Limits.{maxBoards}
 use Rattle.tree.specs.Walk.{Walk, OnPath}
 use Rattle.tree.specs.Edges.{Adjacent}
-use Rattle.plan.specs.declared.Plan.{Plan}
+use Rattle.plan.specs.Plan.{Plan}
 use Rattle.plan.specs.Positions.{edgesOf}
 use Rattle.plan.specs.Valid.{planValid}
 use Rattle.message.specs.declared.Message.{Message}
 use Rattle.level.specs.Level.{noOutput}
-use Rattle.party.specs.declared.Party.{Party}
-use Rattle.party.specs.Party.{levelAt, heldBy, outputOf}
+use Rattle.party.specs.Party.{Party, levelAt, heldBy, outputOf}
 use Rattle.execution.specs.Machine.{Event}
 use Rattle.execution.specs.History.{HStep, act, hand, mark, cut, log, held, after, Handed, FairH}
 use Rattle.vote_machine.specs.Machine.{called, voteMachine}

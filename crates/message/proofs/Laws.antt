@@ -10,7 +10,8 @@ use borrow.Author.Tests.{lt-leb, le-leb, eq-eqb, ne-eqb}
 use Rattle.base.specs.Pick.{pick}
 use Rattle.base.specs.Put.{putAt}
 use Rattle.varint.specs.declared.VarintRead.{VarintRead}
-use Rattle.varint.specs.Varint.{varintAt, varintWithin, varintBytes}
+use Rattle.varint.specs.Varint.{varintBytes}
+use Rattle.varint.specs.Reading.{varintAt, varintWithin}
 use Rattle.varint.proofs.Laws.{pieces-most}
 use Rattle.message.specs.declared.Body.{Body}
 use Rattle.message.specs.declared.Body.the-variants.{FirstEcho, FirstProposal, SecondEcho, SecondProposal, Side, Centre}
@@ -19,7 +20,9 @@ use Rattle.message.specs.declared.BodyRead.{BodyRead}
 use Rattle.message.specs.declared.MessageRead.{MessageRead}
 use Rattle.message.specs.declared.Exactly.{Exactly}
 use Rattle.message.specs.declared.MessageWritten.{MessageWritten}
-use Rattle.message.specs.Message.{maxValue, noneValue, kindOf, valueOf, valueLow, valueHigh, valueBytes, bodyAt, bodyInTable, inTable, withValue, messageBytes, messageAt, withNumber, exactly, exactMessage, writeAnswer, writeBuffer}
+use Rattle.message.specs.Message.{maxValue, noneValue, kindOf, valueBytes, bodyInTable, inTable, messageBytes}
+use Rattle.message.specs.Reading.{valueOf, valueLow, valueHigh, bodyAt, withValue, messageAt, withNumber, exactly, exactMessage}
+use Rattle.message.specs.Writing.{writeAnswer, writeBuffer}
 
 -- ---- a body by its kind and value
 

@@ -13,7 +13,8 @@ use Rattle.base.proofs.Bools.{T-left, T-right, T→true, true→T}
 use Rattle.base.proofs.Parts.{part-none, part-all, part-join}
 use Rattle.varint.specs.declared.VarintRead.{VarintRead}
 use Rattle.varint.specs.declared.VarintRead.the-variants.{Value, Short, Malformed}
-use Rattle.varint.specs.Varint.{AllBytes, varintAt, varintWithin, varintBytes}
+use Rattle.varint.specs.Varint.{AllBytes, varintBytes}
+use Rattle.varint.specs.Reading.{varintAt, varintWithin}
 use Rattle.varint.proofs.Laws.{length-last, pieces-most, value-within}
 use Rattle.varint.proofs.RoundTrip.{varint-read-at, varint-within-read-at, varint-was-written, value-place}
 use Rattle.message.specs.declared.Body.{Body}
@@ -22,7 +23,8 @@ use Rattle.message.specs.declared.Message.{Message}
 use Rattle.message.specs.declared.BodyRead.{BodyRead}
 use Rattle.message.specs.declared.MessageRead.{MessageRead}
 use Rattle.message.specs.declared.Exactly.{Exactly}
-use Rattle.message.specs.Message.{lastLevel, kindOf, valueOf, valueLow, valueHigh, valueBytes, bodyOf, bodyAt, bodyInTable, inTable, withValue, withBody, withKind, withLevel, withNumber, messageBytes, messageAt, exactly, exactMessage}
+use Rattle.message.specs.Message.{lastLevel, kindOf, valueBytes, bodyInTable, inTable, messageBytes}
+use Rattle.message.specs.Reading.{valueOf, valueLow, valueHigh, bodyOf, bodyAt, withValue, withBody, withKind, withLevel, withNumber, messageAt, exactly, exactMessage}
 use Rattle.message.proofs.Laws.{bytes-with, bytes-without, table-with, body-with, body-without, high-most, read-message, read-exactly, exactly-one, message-length}
 
 -- ---- the table

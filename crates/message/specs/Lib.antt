@@ -1,1 +1,4 @@
 pub mod Message
+pub mod Writing
+pub mod Reading
+pub mod Statement

@@ -5,13 +5,15 @@ ghost use Prim.Native.Nat.{_+_, _≤_, _<_};
 ghost use mathlib.Core.Bool.{Bool, true, false};
 ghost use lib.ListN.{length};
 ghost use Rattle.base.specs.Put.{putAt};
-ghost use Rattle.varint.specs.Varint.{varintWithin};
-ghost use Rattle.message.specs.Message.{lastLevel, bodyOf, bodyAt, withBody, withKind, withLevel, messageAt, exactMessage, kindOf, valueOf, valueLow, valueHigh, valueBytes, messageBytes, inTable, bodyInTable, writeAnswer, writeBuffer};
+ghost use Rattle.varint.specs.Reading.{varintWithin};
+ghost use Rattle.message.specs.Message.{lastLevel, kindOf, valueBytes, messageBytes, inTable, bodyInTable};
+ghost use Rattle.message.specs.Reading.{bodyOf, bodyAt, withBody, withKind, withLevel, messageAt, exactMessage, valueOf, valueLow, valueHigh};
+ghost use Rattle.message.specs.Writing.{writeAnswer, writeBuffer};
 
 // The largest value of a side or a port: the most neighbours of a centre.
 pub const MAX_SIDE: u32 = base::MAX_DEGREE as u32;
 // The value that stands for none: the next one.
-pub const NONE: u32 = base::MAX_DEGREE as u32 + 1;
+pub const NONE: u32 = base::NONE as u32;
 
 pub enum Body {
     FirstEcho(u8),

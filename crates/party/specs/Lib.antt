@@ -1,4 +1,5 @@
 pub mod Party
 pub mod Run
 pub mod Valid
-pub mod Chart
+pub mod Inner
+pub mod Tie

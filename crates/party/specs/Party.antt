@@ -1,19 +1,26 @@
 -- A party's levels: the component of each, and what the rules at it see.
-use mathlib.Core.Bool.{Bool, true, false, _&&_}
-use mathlib.Core.List.{List, []}
+use mathlib.Core.Bool.{Bool, _&&_}
+use mathlib.Core.List.{List}
 use Prim.Native.Nat.{ℕ, zero, suc, _+_}
-use lib.Dec.{leb, ltb, eqb}
+use lib.Dec.{leb}
 use lib.ListN.{getD, set, replicate}
 use Rattle.base.specs.Pick.{pick}
 use Rattle.base.specs.Sets.{Set}
 use Rattle.base.specs.Limits.{levelCount}
-use Rattle.plan.specs.declared.Plan.{Plan}
-use Rattle.component.specs.Component.{wholeOf, sizeOf, centreOf, degreeOf, portOf, neighbourOf, sideOf}
+use Rattle.plan.specs.Plan.{Plan}
+use Rattle.component.specs.Component.{wholeOf, sizeOf, centreOf, degreeOf, portOf, sideOf}
 use Rattle.message.specs.declared.Message.{Message}
-use Rattle.level.specs.declared.Level.{Level}
 use Rattle.level.specs.declared.Context.{Context}
-use Rattle.level.specs.Level.{noLevel, blankLevel, noOutput, withHeard, withEntry, held}
-use Rattle.party.specs.declared.Party.{Party}
+use Rattle.level.specs.Level.{Level, noLevel, blankLevel, withHeard, withEntry, held}
+
+-- a board in one vote, in the definitions' own words; the code's record stands for it by `asParty` (Tie.antt)
+pub record Party : Type 0 where
+  pub n : ℕ
+  pub t : ℕ
+  pub own : ℕ
+  pub agreement : ℕ
+  pub plan : Plan
+  pub levels : List Level
 
 -- a party that has not started
 abbrev pub newParty : ℕ → ℕ → ℕ → ℕ → Plan → Party

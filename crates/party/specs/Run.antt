@@ -1,22 +1,19 @@
 -- "After each start or taken message the lowest level at which some rule applies is chosen, and there the lowest such rule is applied, until none does."
-use mathlib.Core.Bool.{Bool, true, false, _&&_}
+use mathlib.Core.Bool.{Bool, _&&_}
 use mathlib.Core.List.{List, [], _∷_, _++_}
 use Prim.Native.Nat.{ℕ, zero, suc, _+_}
-use lib.Dec.{leb, ltb, eqb}
+use lib.Dec.{ltb}
 use Rattle.base.specs.Pick.{pick, smallest}
 use Rattle.base.specs.Limits.{levelCount, maxRules}
 use Rattle.component.specs.Component.{neighbourOf, sideOf}
-use Rattle.message.specs.declared.Body.{Body}
 use Rattle.message.specs.declared.Body.the-variants.{Side}
 use Rattle.message.specs.declared.Message.{Message}
 use Rattle.message.specs.Message.{messageBytes}
-use Rattle.level.specs.declared.Level.{Level}
-use Rattle.level.specs.declared.Applied.{Applied}
+use Rattle.level.specs.Level.{Level}
 use Rattle.level.specs.declared.Effect.{Effect}
 use Rattle.level.specs.declared.Effect.the-variants.{Nothing, Quiet, Send, Enter, SendEnter}
-use Rattle.level.specs.Rules.{lowestRule, applies}
-use Rattle.party.specs.declared.Party.{Party}
-use Rattle.party.specs.Party.{levelAt, withLevel, componentOf, sending, contextOf, entering, entered, heldBy, hearing}
+use Rattle.level.specs.Rules.{Applied, lowestRule, applies}
+use Rattle.party.specs.Party.{Party, levelAt, withLevel, componentOf, sending, contextOf, entering, entered, heldBy, hearing}
 
 -- what the lowest rule at level i does
 unfoldable pub ruleAt : Party → ℕ → Applied

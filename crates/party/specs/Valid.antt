@@ -1,20 +1,17 @@
 -- Document 01, question 19, part by part.
-use mathlib.Core.Bool.{Bool, true, false, not, _&&_, _||_}
+use mathlib.Core.Bool.{Bool, true, not, _&&_, _||_}
 use mathlib.Core.List.{List, [], _∷_}
 use Prim.Native.Nat.{ℕ, zero, suc}
 use lib.Dec.{leb, ltb, eqb}
 use Rattle.base.specs.Pick.{pick}
-use Rattle.base.specs.Sets.{Set}
 use Rattle.base.specs.Limits.{levelCount}
 use Rattle.settings.specs.Settings.{settingsFit}
 use Rattle.plan.specs.Valid.{planValid}
-use Rattle.component.specs.Component.{sizeOf, degreeOf}
+use Rattle.component.specs.Component.{degreeOf}
 use Rattle.message.specs.Message.{noneValue}
 use Rattle.senders.specs.Senders.{onlyBelow}
-use Rattle.level.specs.declared.Level.{Level}
-use Rattle.level.specs.Level.{notYet, noOutput}
-use Rattle.party.specs.declared.Party.{Party}
-use Rattle.party.specs.Party.{levelAt, componentOf, sending}
+use Rattle.level.specs.Level.{Level, notYet, noOutput}
+use Rattle.party.specs.Party.{Party, levelAt, componentOf, sending}
 
 -- the first k levels pass the test
 unfoldable pub everyLevel : ℕ → (ℕ → Bool) → Bool

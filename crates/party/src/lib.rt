@@ -1,6 +1,8 @@
 // A party: the settings, the plan and the levels of one board in one vote.
 ghost use mathlib.Core.Path.{_≡_};
 ghost use Rattle.party.specs.Party.{newParty};
+ghost use Rattle.plan.specs.Tie.{asPlan};
+ghost use Rattle.party.specs.Tie.{asParty};
 
 pub struct Party {
     pub n: u32,
@@ -24,7 +26,7 @@ pub struct Chart {
 impl Party {
     // A party that has not started.
     pub fn new(n: u32, t: u32, own: u32, agreement: u32, plan: plan::Plan) -> Party
-        ensures { λ r. ⌜ r ≡ newParty n t own agreement plan ⌝ }
+        ensures { λ r. ⌜ asParty r ≡ newParty n t own agreement (asPlan plan) ⌝ }
     {
         let blank = level::Level::blank();
         Party {

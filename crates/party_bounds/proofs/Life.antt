@@ -8,15 +8,14 @@ use lib.Dec.{T}
 use lib.ListN.{length}
 use Rattle.base.specs.Pick.{pick}
 use Rattle.base.specs.Limits.{lastLevel, maxRules, outgoingSize, messageSize}
-use Rattle.plan.specs.declared.Plan.{Plan}
+use Rattle.plan.specs.Plan.{Plan}
 use Rattle.plan.specs.Valid.{planValid}
 use Rattle.message.specs.declared.Message.{Message}
 use Rattle.message.specs.Message.{inTable, messageBytes}
 use Rattle.journal.specs.declared.Record.{Record}
 use Rattle.journal.specs.declared.Record.the-variants.{Start, Taken}
-use Rattle.level.specs.declared.Level.{Level}
-use Rattle.party.specs.declared.Party.{Party}
-use Rattle.party.specs.Party.{newParty, started, entered, heldBy, hearing}
+use Rattle.level.specs.Level.{Level}
+use Rattle.party.specs.Party.{Party, newParty, started, entered, heldBy, hearing}
 use Rattle.party.specs.Valid.{settingsPass}
 use Rattle.party.specs.Run.{Ran, resting, run, starting, taking, bytesOf}
 use Rattle.party_life.specs.Life.{replayed, following, lived, Fits, Life}

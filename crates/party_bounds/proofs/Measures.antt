@@ -9,11 +9,9 @@ use native.Mathlib.Omega.{arith}
 use lib.Dec.{T, eqb, eqb→eq}
 use Rattle.base.specs.Sets.{bit}
 use Rattle.message.specs.declared.Body.{Body}
-use Rattle.level.specs.declared.Level.{Level}
-use Rattle.level.specs.Level.{noOutput, withHeard, withEntry}
+use Rattle.level.specs.Level.{Level, noOutput, withHeard, withEntry}
 use Rattle.level_laws.proofs.Bounds as Bounds
-use Rattle.party.specs.declared.Party.{Party}
-use Rattle.party.specs.Party.{levelAt}
+use Rattle.party.specs.Party.{Party, levelAt}
 use Rattle.party_bounds.proofs.Sums.{sum, sum-most, sum-le, sum-less}
 
 -- ---- a level without a rule applied to it

@@ -18,8 +18,7 @@ use Rattle.level.specs.declared.Effect.{Effect}
 use Rattle.level.specs.declared.Effect.the-variants.{Nothing, Quiet, Send, Enter, SendEnter}
 use Rattle.level.specs.Rules.{applies}
 use Rattle.level_laws.proofs.Moves.{AtRest, lowest-rest}
-use Rattle.party.specs.declared.Party.{Party}
-use Rattle.party.specs.Party.{levelAt, sending, contextOf}
+use Rattle.party.specs.Party.{Party, levelAt, sending, contextOf}
 use Rattle.party.specs.Run.{Ran, ruleAt, openAt, openLevel, madeBy, stepAt, resting, oneMore, runUpTo, bytesOf}
 use Rattle.party_laws.proofs.Laws.{Formed, sending-level, open-sending, open-level, step-kept}
 use Rattle.party_bounds.proofs.Sized.{Sized, sized-step}

@@ -11,23 +11,21 @@ use lib.ListN.{length, length-set, length-replicate}
 use Rattle.base.specs.Pick.{pick}
 use Rattle.base.specs.Sets.{Set}
 use Rattle.base.specs.Limits.{levelCount}
-use Rattle.plan.specs.declared.Plan.{Plan}
+use Rattle.plan.specs.Plan.{Plan}
 use Rattle.plan.specs.Valid.{planValid}
 use Rattle.component.specs.Component.{wholeOf, sizeOf, sideOf}
 use Rattle.message.specs.declared.Message.{Message}
 use Rattle.message.specs.Message.{inTable}
-use Rattle.level.specs.declared.Level.{Level}
 use Rattle.level.specs.declared.Context.{Context}
 use Rattle.level.specs.declared.Effect.{Effect}
 use Rattle.level.specs.declared.Effect.the-variants.{Nothing, Quiet, Send, Enter, SendEnter}
-use Rattle.level.specs.Level.{noOutput, withHeard, withEntry, valueCount}
+use Rattle.level.specs.Level.{Level, noOutput, withHeard, withEntry, valueCount}
 use Rattle.level.specs.Rules.{applies}
 use Rattle.level_laws.proofs.Bounds as Bounds
 use Rattle.level_laws.proofs.Moves.{Move}
 use Rattle.level_laws.proofs.Moves.{port-echo, none-echo, first-proposal, first-value, first-none, own-echo, relay, second-proposal, sure-result, none-result, unsure-result, centre-output, sure-entry, unsure-entry, centre-message, sided-entry, told-output, next-output}
 use Rattle.level_laws.proofs.Grows.{move-unmoved}
-use Rattle.party.specs.declared.Party.{Party}
-use Rattle.party.specs.Party.{newParty, levelAt, withLevel, componentOf, contextOf, sending, entering, entered, started, hearing}
+use Rattle.party.specs.Party.{Party, newParty, levelAt, withLevel, componentOf, contextOf, sending, entering, entered, started, hearing}
 use Rattle.party.specs.Run.{ruleAt, openAt, descend, gate, afterRule, stepAt}
 use Rattle.party.specs.Valid.{settingsPass}
 use Rattle.party_laws.proofs.Laws.{Formed, valid→, shape, entered-level, sending-level, level-same, level-other, level-field, level-past, board-with, entry-level, entry-other, open-sending, open-move, formed-new, formed-hearing, formed-entered, formed-step}

@@ -12,18 +12,16 @@ use Rattle.base.proofs.Bools.{T-and, T→true}
 use Rattle.message.specs.declared.Body.the-variants.{Side}
 use Rattle.message.specs.declared.Message.{Message}
 use Rattle.message.specs.Message.{bodyInTable, inTable, noneValue, maxValue}
-use Rattle.level.specs.declared.Level.{Level}
 use Rattle.level.specs.declared.Context.{Context}
 use Rattle.level.specs.declared.Effect.{Effect}
 use Rattle.level.specs.declared.Effect.the-variants.{Nothing, Quiet, Send, Enter, SendEnter}
-use Rattle.level.specs.Level.{notYet}
+use Rattle.level.specs.Level.{Level, notYet}
 use Rattle.level.specs.Rules.{applies}
 use Rattle.level_laws.proofs.Bounds as Bounds
 use Rattle.level_laws.proofs.Moves.{Move}
 use Rattle.level_laws.specs.Inner.{Candidate}
 use Rattle.level_laws.proofs.Moves.{port-echo, none-echo, first-proposal, first-value, first-none, own-echo, relay, second-proposal, sure-result, none-result, unsure-result, centre-output, sure-entry, unsure-entry, centre-message, sided-entry, told-output, next-output}
-use Rattle.party.specs.declared.Party.{Party}
-use Rattle.party.specs.Party.{levelAt, contextOf}
+use Rattle.party.specs.Party.{Party, levelAt, contextOf}
 use Rattle.party.specs.Run.{ruleAt, openAt, madeBy, stepAt}
 use Rattle.party_laws.proofs.Laws.{sending-level, context-centre, open-sending, open-move}
 use Rattle.party_bounds.proofs.Measures.{total, total-most, Aged, total-aged, total-ruled, rules-fair, messages-fair}

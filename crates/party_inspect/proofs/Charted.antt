@@ -11,19 +11,18 @@ use lib.Dec.{T, leb, ltb, leb→le, le→leb, ltb→lt}
 use lib.ListN.{length, getD, set, length-set, length-map}
 use lib.Seq.{getD-set-same, getD-set-other}
 use borrow.Author.Tests.{lt-ltb, le-ltb}
-use Rattle.level.specs.Level.{valueCount}
+use Rattle.level.specs.Level.{Level, valueCount}
 use Rattle.base.specs.Sets.{Set}
 use Rattle.base.specs.Limits.{levelCount}
 use Rattle.base.proofs.Bools.{T-and, T-left, T-right, T-dec, T→true, true→T, not-T→false, T-ext}
-use Rattle.plan.specs.declared.Plan.{Plan}
+use Rattle.plan.specs.Plan.{Plan}
 use Rattle.plan.specs.Valid.{planValid}
 use Rattle.component.specs.declared.Survey.{Survey}
-use Rattle.component.specs.Component.{members, OfPlan, sizeOf, centreOf, degreeOf, sideOf, surveyOf}
-use Rattle.level.specs.declared.Level.{Level}
-use Rattle.party.specs.declared.Party.{Party}
+use Rattle.component.specs.Component.{sizeOf, centreOf, degreeOf, sideOf}
+use Rattle.component.specs.Inner.{members, OfPlan, surveyOf}
 use Rattle.party.specs.declared.Chart.{Chart}
-use Rattle.party.specs.Party.{levelAt, componentOf, sending}
-use Rattle.party.specs.Chart.{noSurvey, Charts}
+use Rattle.party.specs.Party.{Party, levelAt, componentOf, sending}
+use Rattle.party.specs.Inner.{noSurvey, Charts}
 use Rattle.party.specs.Valid.{everyLevel, settingsPass, setsPass, outputPasses, entryPasses, placePasses, resultsPass, levelPasses, partyValid}
 use Rattle.party_laws.proofs.Laws.{valid→, sending-entered, sending-three}
 use Rattle.party_laws.proofs.Components as components

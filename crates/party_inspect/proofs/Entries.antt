@@ -6,11 +6,12 @@ use native.Mathlib.Omega.{arith}
 use lib.Dec.{T, leb, eqb, leb→le, le→leb, eqb→eq, eqb-refl}
 use lib.ListN.{getD}
 use Rattle.base.proofs.Bools.{T-and, T-left, T-right, T→true, not-T→false}
-use Rattle.plan.specs.declared.Plan.{Plan}
+use Rattle.plan.specs.Plan.{Plan}
 use Rattle.component.specs.declared.Component.{Component}
-use Rattle.component.specs.Component.{wholeOf, members, OfPlan, sizeOf, centreOf, degreeOf, sideOf}
+use Rattle.component.specs.Component.{wholeOf, sizeOf, centreOf, degreeOf, sideOf}
+use Rattle.component.specs.Inner.{members, OfPlan}
 use Rattle.party.specs.declared.Chart.{Chart}
-use Rattle.party.specs.Chart.{noSurvey}
+use Rattle.party.specs.Inner.{noSurvey}
 use Rattle.component_laws.proofs.Laws.{whole-plan, side-plan}
 use Rattle.party_inspect.specs.Inner.{entryFits, partOf, Ready, Enters}
 

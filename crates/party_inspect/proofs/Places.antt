@@ -8,11 +8,12 @@ use borrow.Author.Tests.{le-leb, lt-leb}
 use Rattle.base.specs.Sets.{Set}
 use Rattle.base.specs.Limits.{levelCount}
 use Rattle.base.proofs.Bools.{true→T}
-use Rattle.plan.specs.declared.Plan.{Plan}
+use Rattle.plan.specs.Plan.{Plan}
 use Rattle.component.specs.declared.Component.{Component}
 use Rattle.component.specs.declared.Survey.{Survey}
-use Rattle.component.specs.Component.{members, OfPlan, sizeOf, degreeOf, surveyOf}
-use Rattle.level.specs.declared.Level.{Level}
+use Rattle.component.specs.Component.{sizeOf, degreeOf}
+use Rattle.component.specs.Inner.{members, OfPlan, surveyOf}
+use Rattle.level.specs.Level.{Level}
 use Rattle.party.specs.declared.Chart.{Chart}
 use Rattle.party.specs.Valid.{setsPass, valuePasses}
 use Rattle.party_inspect.specs.declared.Entry.{Entry}

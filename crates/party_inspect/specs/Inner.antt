@@ -7,15 +7,14 @@ use lib.ListN.{length, getD, set}
 use Rattle.base.specs.Pick.{pick}
 use Rattle.base.specs.Sets.{Set}
 use Rattle.base.specs.Limits.{levelCount}
-use Rattle.plan.specs.declared.Plan.{Plan}
+use Rattle.plan.specs.Plan.{Plan}
 use Rattle.plan.specs.Valid.{planValid}
-use Rattle.component.specs.Component.{wholeOf, members, OfPlan, sizeOf, centreOf, degreeOf, sideOf, surveyOf}
-use Rattle.level.specs.declared.Level.{Level}
-use Rattle.level.specs.Level.{notYet, noOutput, valueCount}
-use Rattle.party.specs.declared.Party.{Party}
+use Rattle.component.specs.Component.{wholeOf, sizeOf, centreOf, degreeOf, sideOf}
+use Rattle.component.specs.Inner.{members, OfPlan, surveyOf}
+use Rattle.level.specs.Level.{Level, notYet, noOutput, valueCount}
 use Rattle.party.specs.declared.Chart.{Chart}
-use Rattle.party.specs.Party.{levelAt}
-use Rattle.party.specs.Chart.{noSurvey}
+use Rattle.party.specs.Party.{Party, levelAt}
+use Rattle.party.specs.Inner.{noSurvey}
 use Rattle.party.specs.Valid.{setsPass, valuePasses}
 use Rattle.party_inspect.specs.declared.Entry.{Entry}
 use Rattle.party_inspect.specs.declared.Inspected.{Inspected}

@@ -5,10 +5,13 @@ ghost use lib.Dec.{T};
 ghost use Rattle.level.specs.Level.{valueCount};
 ghost use lib.ListN.{length, set};
 ghost use Rattle.base.specs.Limits.{maxBoards, levelCount};
-ghost use Rattle.component.specs.Component.{OfPlan, members};
+ghost use Rattle.component.specs.Inner.{OfPlan, members};
 ghost use Rattle.party.specs.Valid.{settingsPass, setsPass, valuePasses, partyValid};
-ghost use Rattle.party.specs.Chart.{Charts};
+ghost use Rattle.party.specs.Inner.{Charts};
 ghost use Rattle.party_inspect.specs.Inner.{outputFits, isUnresolved, placeFits, levelFits, Ready, Enters, Settles, Answers, Filled};
+ghost use Rattle.plan.specs.Tie.{asPlan};
+ghost use Rattle.level.specs.Tie.{asLevel};
+ghost use Rattle.party.specs.Tie.{asParty};
 
 pub struct Inspected {
     pub ok: bool,
@@ -22,7 +25,7 @@ struct Entry {
 }
 
 // Do all sets name only boards below n?
-fn sets_pass(sets: &[u16], n: u32) -> bool
+fn sets_pass(sets: &[senders::Mask], n: u32) -> bool
     requires { ⌜ n ≤ maxBoards ⌝ }
     ensures { λ r. ⌜ r ≡ setsPass n (now (sets .entry)) ⌝ }
 {
@@ -37,7 +40,7 @@ fn sets_pass(sets: &[u16], n: u32) -> bool
 }
 
 fn settings_pass(p: party::Party) -> bool
-    ensures { λ r. ⌜ r ≡ settingsPass p ⌝ }
+    ensures { λ r. ⌜ r ≡ settingsPass (asParty p) ⌝ }
 {
     settings::fault(p.n, p.t, p.own) == 0
 }
@@ -57,7 +60,7 @@ fn value_passes(d: u32, v: u8) -> bool
 }
 
 // Is an output on a plan of so many positions, or not there yet?
-fn output_passes(count: u32, output: u32) -> bool
+fn output_passes(count: u32, output: base::Position) -> bool
     ensures { λ r. ⌜ r ≡ outputFits count output ⌝ }
 {
     if output == level::NO_OUTPUT {
@@ -68,7 +71,7 @@ fn output_passes(count: u32, output: u32) -> bool
 
 // A level without a degree has no result.
 fn unresolved(l: level::Level) -> bool
-    ensures { λ r. ⌜ r ≡ isUnresolved l ⌝ }
+    ensures { λ r. ⌜ r ≡ isUnresolved (asLevel l) ⌝ }
 {
     if l.first != level::NOT_YET {
         return false;
@@ -100,8 +103,8 @@ fn empty_chart() -> party::Chart
 
 // The component of level i, where its entry by side k passes: the whole plan, or a side of the level before, which sends.
 fn enter(plan: plan::Plan, k: u8, chart: party::Chart, i: usize) -> Entry
-    requires { ⌜ Ready plan chart i ⌝ }
-    ensures { λ r. ⌜ Enters plan chart i k r ⌝ }
+    requires { ⌜ Ready (asPlan plan) chart i ⌝ }
+    ensures { λ r. ⌜ Enters (asPlan plan) chart i k r ⌝ }
 {
     let deepest = chart.deepest;
     if i == 0 {
@@ -162,8 +165,8 @@ fn inspect_part(
     i: usize,
     part: component::Component,
 ) -> Inspected
-    requires { ⌜ OfPlan plan (members plan part) × T (members plan part (l .position)) × (i < levelCount) ⌝ }
-    ensures { λ r. ⌜ Settles plan (members plan part) l chart i r ⌝ }
+    requires { ⌜ OfPlan (asPlan plan) (members (asPlan plan) part) × T (members (asPlan plan) part (l .position)) × (i < levelCount) ⌝ }
+    ensures { λ r. ⌜ Settles (asPlan plan) (members (asPlan plan) part) (asLevel l) chart i r ⌝ }
 {
     if component::size(plan, part) < 3 {
         return Inspected {
@@ -187,8 +190,8 @@ fn inspect_part(
 
 // The place and the results of level i pass, with the chart of the levels up to it.
 fn inspect_place(plan: plan::Plan, l: level::Level, chart: party::Chart, i: usize) -> Inspected
-    requires { ⌜ Ready plan chart i ⌝ }
-    ensures { λ r. ⌜ Answers plan (placeFits plan l chart i) l chart i r ⌝ }
+    requires { ⌜ Ready (asPlan plan) chart i ⌝ }
+    ensures { λ r. ⌜ Answers (asPlan plan) (placeFits (asPlan plan) (asLevel l) chart i) (asLevel l) chart i r ⌝ }
 {
     if !l.entered {
         return Inspected {
@@ -221,8 +224,8 @@ fn inspect_level(
     chart: party::Chart,
     i: usize,
 ) -> Inspected
-    requires { ⌜ Ready plan chart i × (n ≤ maxBoards) ⌝ }
-    ensures answers { λ r. ⌜ Answers plan (levelFits plan n l chart i) l chart i r ⌝ }
+    requires { ⌜ Ready (asPlan plan) chart i × (n ≤ maxBoards) ⌝ }
+    ensures answers { λ r. ⌜ Answers (asPlan plan) (levelFits (asPlan plan) n (asLevel l) chart i) (asLevel l) chart i r ⌝ }
     ensures sized { λ r. ⌜ length (l .echoed) ≡ valueCount ⌝ }
 {
     let sets = l.sets;
@@ -243,9 +246,9 @@ fn inspect_level(
 
 // Does the record pass question 19? If so, with its chart.
 pub fn inspect(p: party::Party) -> Inspected
-    ensures passes { λ r. ⌜ r .ok ≡ partyValid p ⌝ }
-    ensures charted { λ r. ⌜ (T (r .ok) → Charts p (r .chart)) ⌝ }
-    ensures sized { λ r. ⌜ (T (r .ok) → Filled p) ⌝ }
+    ensures passes { λ r. ⌜ r .ok ≡ partyValid (asParty p) ⌝ }
+    ensures charted { λ r. ⌜ (T (r .ok) → Charts (asParty p) (r .chart)) ⌝ }
+    ensures sized { λ r. ⌜ (T (r .ok) → Filled (asParty p)) ⌝ }
 {
     let mut chart = empty_chart();
     if !settings_pass(p) {

@@ -8,7 +8,7 @@ use lib.Dec.{T, leb, leb→le}
 use lib.ListN.{length, getD, getD-replicate}
 use Rattle.base.specs.Limits.{levelCount}
 use Rattle.base.proofs.Bools.{T-left}
-use Rattle.plan.specs.declared.Plan.{Plan}
+use Rattle.plan.specs.Plan.{Plan}
 use Rattle.plan.specs.Valid.{planValid}
 use Rattle.component.specs.Component.{wholeOf, degreeOf}
 use Rattle.component_laws.proofs.Laws.{whole-in}
@@ -17,12 +17,10 @@ use Rattle.message.specs.declared.Message.{Message}
 use Rattle.message.specs.Message.{inTable, bodyInTable, lastLevel}
 use Rattle.senders.specs.Senders.{withSender}
 use Rattle.senders.proofs.Laws.{with-lt}
-use Rattle.level.specs.declared.Level.{Level}
-use Rattle.level.specs.Level.{noLevel, blankLevel, senders, slot, withHeard}
+use Rattle.level.specs.Level.{Level, noLevel, blankLevel, senders, slot, withHeard}
 use Rattle.level_laws.proofs.Law.{blank-heard}
 use Rattle.level_laws.proofs.Grows.{store-cases}
-use Rattle.party.specs.declared.Party.{Party}
-use Rattle.party.specs.Party.{newParty, levelAt, componentOf, sending, entered, started, hearing}
+use Rattle.party.specs.Party.{Party, newParty, levelAt, componentOf, sending, entered, started, hearing}
 use Rattle.party.specs.Valid.{settingsPass}
 use Rattle.party_laws.proofs.Levels.{entry-level, entry-whole}
 use Rattle.party_laws.proofs.Valid.{Contents, Valid, settings→}

@@ -8,13 +8,12 @@ use lib.Dec.{T, leb, leb→le, le→leb}
 use lib.ListN.{length, List·getD-eq-default}
 use Rattle.base.specs.Limits.{maxDegree, levelCount}
 use Rattle.base.proofs.Bools.{T-and, T-left, T-right, T-dec}
-use Rattle.component.specs.Component.{OfPlan, sizeOf, degreeOf, portOf}
+use Rattle.component.specs.Component.{sizeOf, degreeOf, portOf}
+use Rattle.component.specs.Inner.{OfPlan}
 use Rattle.component_laws.proofs.Laws.{degree-most, degree-some, port-most, Nested, whole, side, nested-plan, nested-level}
-use Rattle.level.specs.declared.Level.{Level}
-use Rattle.level.specs.Level.{noLevel, notYet}
-use Rattle.level.specs.Counts.{InLimits}
-use Rattle.party.specs.declared.Party.{Party}
-use Rattle.party.specs.Party.{levelAt, componentOf, sending, contextOf}
+use Rattle.level.specs.Level.{Level, noLevel, notYet}
+use Rattle.level.specs.Inner.{InLimits}
+use Rattle.party.specs.Party.{Party, levelAt, componentOf, sending, contextOf}
 use Rattle.party_laws.proofs.Valid.{Valid, Value, Entry}
 
 -- ---- what it is to send

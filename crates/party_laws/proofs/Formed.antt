@@ -5,17 +5,17 @@ use native.Mathlib.Omega.{arith}
 use lib.Dec.{T}
 use lib.ListN.{length-replicate}
 use Rattle.base.specs.Limits.{maxDegree, lastLevel, levelCount}
-use Rattle.plan.specs.declared.Plan.{Plan}
+use Rattle.plan.specs.Plan.{Plan}
 use Rattle.plan.specs.Valid.{planValid}
-use Rattle.component.specs.Component.{OfPlan, sizeOf, centreOf, degreeOf, portOf}
+use Rattle.component.specs.Component.{sizeOf, centreOf, degreeOf, portOf}
+use Rattle.component.specs.Inner.{OfPlan}
 use Rattle.component_laws.proofs.Laws.{centre-in}
 use Rattle.message.specs.declared.Message.{Message}
 use Rattle.message.specs.Message.{inTable}
 use Rattle.level.specs.Level.{notYet, noOutput, blankLevel}
-use Rattle.level.specs.Counts.{InLimits}
+use Rattle.level.specs.Inner.{InLimits}
 use Rattle.level_laws.proofs.Law.{Same}
-use Rattle.party.specs.declared.Party.{Party}
-use Rattle.party.specs.Party.{newParty, levelAt, componentOf, sending, contextOf, entered, started, hearing}
+use Rattle.party.specs.Party.{Party, newParty, levelAt, componentOf, sending, contextOf, entered, started, hearing}
 use Rattle.party.specs.Run.{openAt, stepAt, runUpTo, run, starting, taking}
 use Rattle.party.specs.Valid.{settingsPass}
 use Rattle.plan_laws.proofs.Shape.{shape}

@@ -8,18 +8,16 @@ use lib.ListN.{length}
 use Rattle.base.specs.Pick.{pick}
 use Rattle.base.specs.Sets.{Set}
 use Rattle.base.specs.Limits.{levelCount}
-use Rattle.plan.specs.declared.Plan.{Plan}
+use Rattle.plan.specs.Plan.{Plan}
 use Rattle.component.specs.Component.{wholeOf, sizeOf, sideOf}
 use Rattle.message.specs.declared.Body.{Body}
 use Rattle.message.specs.declared.Message.{Message}
-use Rattle.level.specs.declared.Level.{Level}
-use Rattle.level.specs.Level.{withHeard}
+use Rattle.level.specs.Level.{Level, withHeard}
 use Rattle.level_laws.specs.Inner.{Grows}
 use Rattle.level_laws.proofs.Law.{blank-untouched}
 use Rattle.level_laws.proofs.Evidence.{untouched-heard}
 use Rattle.level_laws.proofs.Grows.{grows-refl, grows-trans, grows-heard, grows-entry, move-grows, Unmoved, move-unmoved}
-use Rattle.party.specs.declared.Party.{Party}
-use Rattle.party.specs.Party.{newParty, levelAt, withLevel, componentOf, contextOf, entering, entered, started, hearing}
+use Rattle.party.specs.Party.{Party, newParty, levelAt, withLevel, componentOf, contextOf, entering, entered, started, hearing}
 use Rattle.party.specs.Run.{openAt, stepAt, runUpTo, run, starting, taking}
 use Rattle.party_laws.specs.Inner.{Unused, Fresh, Grown}
 use Rattle.party_laws.proofs.Levels.{level-past, level-all, board-with, board-entering}

@@ -14,15 +14,13 @@ use Rattle.message.specs.declared.Body.{Body}
 use Rattle.message.specs.declared.Message.{Message}
 use Rattle.senders.specs.Senders.{withSender}
 use Rattle.senders.proofs.Laws.{with-old}
-use Rattle.level.specs.declared.Level.{Level}
 use Rattle.level.specs.declared.Effect.{Effect}
-use Rattle.level.specs.Level.{senders, slot, held, withHeard}
+use Rattle.level.specs.Level.{Level, senders, slot, held, withHeard}
 use Rattle.level_laws.proofs.Moves.{Move}
 use Rattle.level_laws.proofs.Moves.{port-echo, none-echo, first-proposal, first-value, first-none, own-echo, relay, second-proposal, sure-result, none-result, unsure-result, centre-output, sure-entry, unsure-entry, centre-message, sided-entry, told-output, next-output}
 use Rattle.level_laws.proofs.Law.{Same}
 use Rattle.level_laws.proofs.Grows.{Unmoved, move-unmoved}
-use Rattle.party.specs.declared.Party.{Party}
-use Rattle.party.specs.Party.{levelAt, withLevel, componentOf, sending, contextOf, entering, entered, started, heldBy, hearing}
+use Rattle.party.specs.Party.{Party, levelAt, withLevel, componentOf, sending, contextOf, entering, entered, started, heldBy, hearing}
 use Rattle.party.specs.Run.{ruleAt, openAt, descend, gate, afterRule, stepAt, resting, runUpTo, run, starting, taking}
 use Rattle.party_laws.specs.Inner.{SameBoard}
 use Rattle.party_laws.proofs.Levels.{board-refl, board-trans, board-with, board-entering, level-field, level-back, entry-other, component-same}
@@ -174,15 +172,15 @@ heard-held l b s h =
       entered = l .entered;
       side = l .side;
       position = l .position;
-      «echoed_port» = l .«echoed_port»;
-      «echoed_none» = l .«echoed_none»;
+      echoedPort = l .echoedPort;
+      echoedNone = l .echoedNone;
       proposal = l .proposal;
       first = l .first;
       echoed = l .echoed;
-      «second_proposal» = l .«second_proposal»;
+      secondProposal = l .secondProposal;
       result = l .result;
       sure = l .sure;
-      «told_centre» = l .«told_centre»;
+      toldCentre = l .toldCentre;
       output = l .output;
     }
 

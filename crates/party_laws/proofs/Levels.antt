@@ -10,12 +10,10 @@ use lib.ListN.{length, getD, length-set}
 use lib.Seq.{getD-set-same, getD-set-other, set-getD, set-out}
 use Rattle.base.specs.Pick.{pick}
 use Rattle.base.specs.Sets.{Set, count}
-use Rattle.plan.specs.declared.Plan.{Plan}
+use Rattle.plan.specs.Plan.{Plan}
 use Rattle.component.specs.Component.{wholeOf, sizeOf, sideOf}
-use Rattle.level.specs.declared.Level.{Level}
-use Rattle.level.specs.Level.{noLevel, withEntry}
-use Rattle.party.specs.declared.Party.{Party}
-use Rattle.party.specs.Party.{levelAt, withLevel, componentOf, entering}
+use Rattle.level.specs.Level.{Level, noLevel, withEntry}
+use Rattle.party.specs.Party.{Party, levelAt, withLevel, componentOf, entering}
 use Rattle.party.specs.Run.{descend}
 use Rattle.party_laws.specs.Inner.{SameBoard}
 

@@ -11,20 +11,19 @@ use Rattle.base.specs.Pick.{pick}
 use Rattle.base.specs.Sets.{Set}
 use Rattle.base.specs.Limits.{levelCount}
 use Rattle.base.proofs.Bools.{T-left, T-right}
-use Rattle.component.specs.Component.{OfPlan, degreeOf, sideOf}
+use Rattle.component.specs.Component.{degreeOf, sideOf}
+use Rattle.component.specs.Inner.{OfPlan}
 use Rattle.component_laws.proofs.Laws.{centre-in, neighbour-in, side-in, port-in}
 use Rattle.message.specs.Message.{noneValue}
-use Rattle.level.specs.declared.Level.{Level}
 use Rattle.level.specs.declared.Context.{Context}
 use Rattle.level.specs.declared.Effect.{Effect}
-use Rattle.level.specs.Level.{withFirst, withResult, withOutput, withCentreTold}
+use Rattle.level.specs.Level.{Level, withFirst, withResult, withOutput, withCentreTold}
 use Rattle.level.specs.Rules.{unanswered, applies}
 use Rattle.level_laws.specs.Inner.{Aside}
 use Rattle.level_laws.proofs.Moves.{Move, lowest-moves}
 use Rattle.level_laws.proofs.Moves.{port-echo, none-echo, first-proposal, first-value, first-none, own-echo, relay, second-proposal, sure-result, none-result, unsure-result, centre-output, sure-entry, unsure-entry, centre-message, sided-entry, told-output, next-output}
 use Rattle.level_laws.proofs.Grows.{Unmoved, move-unmoved}
-use Rattle.party.specs.declared.Party.{Party}
-use Rattle.party.specs.Party.{levelAt, withLevel, componentOf, sending, contextOf, entering}
+use Rattle.party.specs.Party.{Party, levelAt, withLevel, componentOf, sending, contextOf, entering}
 use Rattle.party.specs.Run.{ruleAt, openAt, descend, gate, afterRule, stepAt}
 use Rattle.party_laws.proofs.Levels.{level-back, board-entering, entry-level, entry-above, entry-component, entry-other}
 use Rattle.party_laws.proofs.Valid.{Value, Output, Contents, Entry, Valid}

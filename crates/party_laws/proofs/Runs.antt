@@ -7,8 +7,7 @@ use Rattle.base.specs.Pick.{pick}
 use Rattle.base.specs.Limits.{levelCount, maxRules}
 use Rattle.base.proofs.Smallest.{sought}
 use Rattle.message.specs.declared.Message.{Message}
-use Rattle.party.specs.declared.Party.{Party}
-use Rattle.party.specs.Party.{hearing, heldBy, entered}
+use Rattle.party.specs.Party.{Party, hearing, heldBy, entered}
 use Rattle.party.specs.Run.{Ran, openAt, openLevel, ruleAt, madeBy, stepAt, oneMore, resting, runUpTo, run, starting, taking}
 
 -- the level that is chosen has a rule that applies

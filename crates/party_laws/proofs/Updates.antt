@@ -12,10 +12,8 @@ use Rattle.base.specs.Sets.{Set}
 use Rattle.base.specs.Limits.{levelCount}
 use Rattle.plan.specs.Valid.{planValid}
 use Rattle.component.specs.Component.{sizeOf, degreeOf}
-use Rattle.level.specs.declared.Level.{Level}
-use Rattle.level.specs.Level.{notYet, withEntry}
-use Rattle.party.specs.declared.Party.{Party}
-use Rattle.party.specs.Party.{levelAt, withLevel, componentOf, sending, entering}
+use Rattle.level.specs.Level.{Level, notYet, withEntry}
+use Rattle.party.specs.Party.{Party, levelAt, withLevel, componentOf, sending, entering}
 use Rattle.party_laws.specs.Inner.{SameBoard}
 use Rattle.party_laws.proofs.Levels.{level-all, level-field, board-with, component-side, entry-level, entry-other, entry-above, board-entering}
 use Rattle.party_laws.proofs.Valid.{Output, Contents, Entry, Place, Holds, Settings, Valid}

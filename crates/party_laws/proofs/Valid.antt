@@ -18,10 +18,8 @@ use Rattle.settings.proofs.Laws.{Passed, fit→, →fit}
 use Rattle.plan.specs.Valid.{planValid}
 use Rattle.component.specs.Component.{degreeOf}
 use Rattle.message.specs.Message.{noneValue}
-use Rattle.level.specs.declared.Level.{Level}
-use Rattle.level.specs.Level.{notYet, noOutput}
-use Rattle.party.specs.declared.Party.{Party}
-use Rattle.party.specs.Party.{levelAt, componentOf, sending}
+use Rattle.level.specs.Level.{Level, notYet, noOutput}
+use Rattle.party.specs.Party.{Party, levelAt, componentOf, sending}
 use Rattle.party.specs.Valid.{everyLevel, settingsPass, setsPass, outputPasses, valuePasses, resultsPass, entryPasses, placePasses, levelPasses, partyValid}
 
 -- ---- the parts

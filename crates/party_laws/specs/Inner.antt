@@ -4,11 +4,9 @@ use Prim.Native.Nat.{ℕ, _<_}
 use lib.Dec.{T}
 use lib.ListN.{length}
 use Rattle.base.specs.Limits.{levelCount}
-use Rattle.level.specs.declared.Level.{Level}
-use Rattle.level.specs.Level.{noOutput}
+use Rattle.level.specs.Level.{Level, noOutput}
 use Rattle.level_laws.specs.Inner.{Untouched, Grows}
-use Rattle.party.specs.declared.Party.{Party}
-use Rattle.party.specs.Party.{levelAt}
+use Rattle.party.specs.Party.{Party, levelAt}
 use Rattle.party.specs.Valid.{partyValid}
 
 -- a party that passes question 19 and has all its levels

@@ -11,8 +11,7 @@ use Rattle.message.specs.Message.{inTable}
 use Rattle.journal.specs.declared.Record.{Record}
 use Rattle.journal.specs.declared.Record.the-variants.{Start, Taken}
 use Rattle.journal.specs.Records.{InLimits}
-use Rattle.party.specs.declared.Party.{Party}
-use Rattle.party.specs.Party.{started}
+use Rattle.party.specs.Party.{Party, started}
 use Rattle.party_life.specs.Life.{fault, tabled, Fits}
 
 module _ (p : Party) where

@@ -8,8 +8,7 @@ use Rattle.message.specs.declared.Message.{Message}
 use Rattle.message.specs.Message.{inTable}
 use Rattle.journal.specs.declared.Record.{Record}
 use Rattle.journal.specs.declared.Record.the-variants.{Start, Taken}
-use Rattle.party.specs.declared.Party.{Party}
-use Rattle.party.specs.Party.{started}
+use Rattle.party.specs.Party.{Party, started}
 use Rattle.party.specs.Run.{Ran, resting, starting, taking}
 
 -- what a record's call did

@@ -15,10 +15,10 @@ use Rattle.base.proofs.Puts.{put-none, length-put, then-put}
 use Rattle.message.specs.declared.Message.{Message}
 use Rattle.message.specs.Message.{inTable, messageBytes}
 use Rattle.message.proofs.RoundTrip.{message-length-most}
-use Rattle.party.specs.declared.Party.{Party}
+use Rattle.party.specs.Party.{Party}
 use Rattle.party.specs.declared.Chart.{Chart}
 use Rattle.party.specs.Run.{Ran, openAt, openLevel, ruleAt, madeBy, stepAt, resting, oneMore, runUpTo, run, bytesOf}
-use Rattle.party.specs.Chart.{Charts}
+use Rattle.party.specs.Inner.{Charts}
 use Rattle.party_laws.proofs.Laws.{open-level}
 use Rattle.party_bounds.proofs.Laws.{Sized, sized-step, messagesLeft, open-last, step-bytes, outgoing-enough}
 use Rattle.party_run.specs.Inner.{voiced, Gives}

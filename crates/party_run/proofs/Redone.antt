@@ -9,14 +9,12 @@ use Rattle.base.proofs.Puts.{put-none}
 use Rattle.message.specs.declared.Message.{Message}
 use Rattle.journal.specs.declared.Record.{Record}
 use Rattle.journal.specs.declared.Record.the-variants.{Start, Taken}
-use Rattle.party.specs.declared.Party.{Party}
 use Rattle.party.specs.declared.Chart.{Chart}
-use Rattle.party.specs.Party.{heldBy}
+use Rattle.party.specs.Party.{Party, heldBy}
 use Rattle.party.specs.Run.{Ran, resting, starting, taking}
-use Rattle.party.specs.Chart.{Charts}
+use Rattle.party.specs.Inner.{Charts}
 use Rattle.party_life.specs.Life.{replayed}
-use Rattle.party_run.specs.Inner.{Gives}
-use Rattle.party_run.specs.declared.Ran as Running
+use Rattle.party_run.specs.Inner.{Outcome, Gives}
 use Rattle.party_run.proofs.Going.{voiced-none}
 
 module _ (p : Party) (x : Record) where
@@ -32,7 +30,7 @@ module _ (p : Party) (x : Record) where
   unfolding taking
   replayed-held e h = replayed-taken e ∙ rw h
 
-module _ {loud : Bool} {out outThen : List ℕ} {g : Running.Ran} where
+module _ {loud : Bool} {out outThen : List ℕ} {g : Outcome} where
   pub gives-same : {x y : Ran} → x ≡ y → Gives y loud out g outThen → Gives x loud out g outThen
   gives-same e h = subst (λ (z : Ran). Gives z loud out g outThen) (sym e) h
 

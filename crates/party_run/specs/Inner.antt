@@ -9,13 +9,14 @@ use Rattle.base.specs.Pick.{pick}
 use Rattle.base.specs.Put.{putAt}
 use Rattle.base.specs.Limits.{outgoingSize}
 use Rattle.message.specs.declared.Message.{Message}
-use Rattle.party.specs.declared.Party.{Party}
+use Rattle.party.specs.Party.{Party}
 use Rattle.party.specs.declared.Chart.{Chart}
 use Rattle.party.specs.Run as Rules
 use Rattle.party.specs.Run.{bytesOf}
 use Rattle.party.specs.Valid.{partyValid}
-use Rattle.party.specs.Chart.{Charts}
-use Rattle.party_run.specs.declared.Ran.{Ran}
+use Rattle.party.specs.Inner.{Charts}
+use Rattle.party_run.specs.declared.Ran as Code
+use Rattle.party.specs.Tie.{asParty}
 
 -- p passes question 19, c is its chart, and an outgoing buffer of so many bytes has room for all that a call can make
 pub record Ready (p : Party) (c : Chart) (out : ℕ) : Type 0 where
@@ -27,8 +28,18 @@ pub record Ready (p : Party) (c : Chart) (out : ℕ) : Type 0 where
 abbrev pub voiced : Bool → List Message → List ℕ
 voiced loud ms = pick loud (bytesOf ms) []
 
+-- what applying rules gave, in the definitions' words
+pub record Outcome : Type 0 where
+  pub party : Party
+  pub chart : Chart
+  pub rules : ℕ
+  pub sent : ℕ
+
+abbrev pub asOutcome : Code.Ran → Outcome
+asOutcome r = record { party = asParty (r .party); chart = r .chart; rules = r .rules; sent = r .sent }
+
 -- r and the outgoing buffer after the call are as the definition's `ran` says
-pub record Gives (ran : Rules.Ran) (loud : Bool) (before : List ℕ) (r : Ran) (after : List ℕ) : Type 0 where
+pub record Gives (ran : Rules.Ran) (loud : Bool) (before : List ℕ) (r : Outcome) (after : List ℕ) : Type 0 where
   pub party : r .party ≡ ran .party
   pub chart : Charts (r .party) (r .chart)
   pub rules : r .rules ≡ ran .rules

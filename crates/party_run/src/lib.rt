@@ -4,11 +4,13 @@ ghost use Prim.Native.Nat.{_+_, _≤_, _<_};
 ghost use mathlib.Core.Bool.{true, false};
 ghost use lib.ListN.{length};
 ghost use Rattle.base.specs.Put.{putAt};
+ghost use Rattle.base.specs.Limits.{maxBoards};
 ghost use Rattle.party.specs.Run as Rules;
 ghost use Rattle.party.specs.Party.{started, heldBy};
 ghost use Rattle.message.specs.Message.{inTable};
 ghost use Rattle.party_life.specs.Life.{replayed, Fits};
-ghost use Rattle.party_run.specs.Inner.{voiced, Gives, Ready};
+ghost use Rattle.party_run.specs.Inner.{voiced, asOutcome, Gives, Ready};
+ghost use Rattle.party.specs.Tie.{asParty};
 
 // What applying rules gave: the party with its chart, how many rules, and how many outgoing bytes.
 pub struct Ran {
@@ -52,8 +54,8 @@ fn emit(out: &mut [u8], at: usize, number: u32, i: usize, e: level::Effect, loud
 
 // Rules until none applies. The messages are written from the buffer's first byte on where `loud`, else nowhere.
 fn run(p: party::Party, c: party::Chart, out: &mut [u8], loud: bool) -> Ran
-    requires { ⌜ Ready p c (length (now out)) ⌝ }
-    ensures { λ r. ⌜ Gives (Rules.run p) loud (now (out .entry)) r (now (out .exit)) ⌝ }
+    requires { ⌜ Ready (asParty p) c (length (now out)) ⌝ }
+    ensures { λ r. ⌜ Gives (Rules.run (asParty p)) loud (now (out .entry)) (asOutcome r) (now (out .exit)) ⌝ }
 {
     let mut q = p;
     let mut d = c;
@@ -88,8 +90,8 @@ fn run(p: party::Party, c: party::Chart, out: &mut [u8], loud: bool) -> Ran
 
 // Was the message taken from s already?
 pub fn held(p: party::Party, s: u8, m: message::Message) -> bool
-    requires { ⌜ (s < 16) × (inTable m ≡ true) ⌝ }
-    ensures { λ r. ⌜ r ≡ heldBy p s m ⌝ }
+    requires { ⌜ (s < maxBoards) × (inTable m ≡ true) ⌝ }
+    ensures { λ r. ⌜ r ≡ heldBy (asParty p) s m ⌝ }
 {
     let i = m.level as usize;
     let l = p.levels[i];
@@ -98,9 +100,9 @@ pub fn held(p: party::Party, s: u8, m: message::Message) -> bool
 }
 
 // Level 0 is entered at x, and rules are applied.
-fn start(p: party::Party, c: party::Chart, x: u32, out: &mut [u8], loud: bool) -> Ran
-    requires { ⌜ Ready p c (length (now out)) × (started p ≡ false) × (x < p .plan .count) ⌝ }
-    ensures { λ r. ⌜ Gives (Rules.starting p x) loud (now (out .entry)) r (now (out .exit)) ⌝ }
+fn start(p: party::Party, c: party::Chart, x: base::Position, out: &mut [u8], loud: bool) -> Ran
+    requires { ⌜ Ready (asParty p) c (length (now out)) × (started (asParty p) ≡ false) × (x < p .plan .count) ⌝ }
+    ensures { λ r. ⌜ Gives (Rules.starting (asParty p) x) loud (now (out .entry)) (asOutcome r) (now (out .exit)) ⌝ }
 {
     let plan = p.plan;
     let w = component::whole(plan);
@@ -119,8 +121,8 @@ fn take(
     out: &mut [u8],
     loud: bool,
 ) -> Ran
-    requires { ⌜ Ready p c (length (now out)) × (s < p .n) × (inTable m ≡ true) × (heldBy p s m ≡ false) ⌝ }
-    ensures { λ r. ⌜ Gives (Rules.taking p s m) loud (now (out .entry)) r (now (out .exit)) ⌝ }
+    requires { ⌜ Ready (asParty p) c (length (now out)) × (s < p .n) × (inTable m ≡ true) × (heldBy (asParty p) s m ≡ false) ⌝ }
+    ensures { λ r. ⌜ Gives (Rules.taking (asParty p) s m) loud (now (out .entry)) (asOutcome r) (now (out .exit)) ⌝ }
 {
     let i = m.level as usize;
     let l = p.levels[i];
@@ -138,8 +140,8 @@ pub fn replay(
     out: &mut [u8],
     loud: bool,
 ) -> Ran
-    requires { ⌜ Ready p c (length (now out)) × Fits p r ⌝ }
-    ensures { λ g. ⌜ Gives (replayed p r) loud (now (out .entry)) g (now (out .exit)) ⌝ }
+    requires { ⌜ Ready (asParty p) c (length (now out)) × Fits (asParty p) r ⌝ }
+    ensures { λ g. ⌜ Gives (replayed (asParty p) r) loud (now (out .entry)) (asOutcome g) (now (out .exit)) ⌝ }
 {
     match r {
         journal::Record::Start {

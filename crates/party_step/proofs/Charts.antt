@@ -11,16 +11,15 @@ use lib.Seq.{getD-set-same, getD-set-other}
 use Rattle.base.specs.Sets.{Set}
 use Rattle.base.specs.Limits.{levelCount}
 use Rattle.base.proofs.Bools.{T-ext, false→not-T}
-use Rattle.plan.specs.declared.Plan.{Plan}
+use Rattle.plan.specs.Plan.{Plan}
 use Rattle.component.specs.declared.Survey.{Survey}
-use Rattle.component.specs.Component.{members, sizeOf, surveyOf}
+use Rattle.component.specs.Component.{sizeOf}
+use Rattle.component.specs.Inner.{members, surveyOf}
 use Rattle.message.specs.declared.Message.{Message}
-use Rattle.level.specs.declared.Level.{Level}
-use Rattle.level.specs.Level.{withHeard}
-use Rattle.party.specs.declared.Party.{Party}
+use Rattle.level.specs.Level.{Level, withHeard}
 use Rattle.party.specs.declared.Chart.{Chart}
-use Rattle.party.specs.Party.{levelAt, withLevel, componentOf, sending, entering, hearing}
-use Rattle.party.specs.Chart.{Charts, noSurvey}
+use Rattle.party.specs.Party.{Party, levelAt, withLevel, componentOf, sending, entering, hearing}
+use Rattle.party.specs.Inner.{Charts, noSurvey}
 use Rattle.party_laws.proofs.Laws.{Formed, level-field, board-with, component-side, entry-level, entry-other, entry-above, board-entering, sending-entered, sending-three, entered-sending, sending-level, entered-down}
 use Rattle.party_laws.proofs.Updates.{sending-same}
 

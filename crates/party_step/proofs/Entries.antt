@@ -12,24 +12,22 @@ use Rattle.base.specs.Sets.{Set}
 use Rattle.base.specs.Limits.{levelCount}
 use Rattle.component.specs.declared.Component.{Component}
 use Rattle.component.specs.declared.Survey.{Survey}
-use Rattle.component.specs.Component.{wholeOf, members, OfPlan, sizeOf, centreOf, degreeOf, neighbourOf, sideOf, surveyOf}
-use Rattle.level.specs.declared.Level.{Level}
-use Rattle.level.specs.Level.{withEntry}
-use Rattle.party.specs.declared.Party.{Party}
+use Rattle.component.specs.Component.{wholeOf, sizeOf, centreOf, degreeOf, neighbourOf, sideOf}
+use Rattle.component.specs.Inner.{members, OfPlan, surveyOf}
+use Rattle.level.specs.Level.{Level, withEntry}
 use Rattle.party.specs.declared.Chart.{Chart}
-use Rattle.party.specs.Party.{levelAt, withLevel, componentOf, sending, entering, entered, started}
+use Rattle.party.specs.Party.{Party, levelAt, withLevel, componentOf, sending, entering, entered, started}
 use Rattle.party.specs.Run.{gate}
 use Rattle.party.specs.Valid.{partyValid}
-use Rattle.party.specs.Chart.{Charts, noSurvey}
+use Rattle.party.specs.Inner.{Charts, noSurvey}
 use Rattle.party_laws.proofs.Laws.{Formed, Entry, entry-level, entry-above, entry-whole, board-entering, descend-component, sending-level, entered-level, SendingLevel, formed-entered}
 use Rattle.party_step.specs.Inner.{Enterable, Descends, descended, Leads}
-use Rattle.party_step.specs.declared.Charted.{Charted}
 use Rattle.base.proofs.Bools.{false→not-T}
 use Rattle.party_step.proofs.Charts.{sends-charted, new-charted, small-charts, more-charts}
 
 -- what leads to a party leads to any that equals it
-pub leads-to : (q r : Party) (s : Charted) → q ≡ r → Leads q s → Leads r s
-leads-to q r s e h = record { party = h .party ∙ e; chart = h .chart }
+pub leads-to : (q r s : Party) (d : Chart) → q ≡ r → Leads q s d → Leads r s d
+leads-to q r s d e h = record { party = h .party ∙ e; chart = h .chart }
 
 -- ---- a level entered over a component
 
@@ -63,7 +61,7 @@ module _ (p : Party) (c : Chart) (i : ℕ) (part : Component) (k x : ℕ) (w : F
       (subst (λ (y : Set). T (y (levelAt q i .position))) (e .component) (entered-level q enter-formed i is-entered .place))
 
   -- the party and the chart as they are computed: over one or two positions
-  leads : (r : Party) (d : Chart) → r ≡ q → Charts q d → Leads q (record { party = r; chart = d })
+  leads : (r : Party) (d : Chart) → r ≡ q → Charts q d → Leads q r d
   leads r d f h = record { party = f; chart = subst (λ (y : Party). Charts y d) (sym f) h }
 
   output-by : (b : Bool) → leb 3 (sizeOf (p .plan) S) ≡ b → withLevel p i (withEntry (levelAt p i) k x (pick b (levelAt p i .output) x)) ≡ q
@@ -71,7 +69,7 @@ module _ (p : Party) (c : Chart) (i : ℕ) (part : Component) (k x : ℕ) (w : F
   output-by b f = ap (λ (y : Bool). withLevel p i (withEntry (levelAt p i) k x (pick y (levelAt p i .output) x))) (sym f)
 
   pub small-leads : sizeOf (p .plan) (members (p .plan) part) < 3
-      → Leads (entering p i (members (p .plan) part) k x) (record { party = withLevel p i (withEntry (levelAt p i) k x x); chart = c })
+      → Leads (entering p i (members (p .plan) part) k x) (withLevel p i (withEntry (levelAt p i) k x x)) c
   small-leads l =
       leads (withLevel p i (withEntry (levelAt p i) k x x)) c (output-by false (lt-leb 3 (sizeOf (p .plan) S) l))
       (small-charts p c i S k x w (e .charts) (e .level) (e .new) (e .component) l)
@@ -80,10 +78,7 @@ module _ (p : Party) (c : Chart) (i : ℕ) (part : Component) (k x : ℕ) (w : F
   pub large-leads : 3 ≤ sizeOf (p .plan) (members (p .plan) part) → length (c .surveys) ≡ levelCount → (v : Survey)
       → v ≡ surveyOf (p .plan) (members (p .plan) part) x
       → Leads (entering p i (members (p .plan) part) k x)
-      (record {
-        party = withLevel p i (withEntry (levelAt p i) k x (levelAt p i .output));
-        chart = record { sending = i + 1; surveys = set (c .surveys) i v; deepest = part };
-      })
+      (withLevel p i (withEntry (levelAt p i) k x (levelAt p i .output))) (record { sending = i + 1; surveys = set (c .surveys) i v; deepest = part })
   large-leads l full v f =
       leads (withLevel p i (withEntry (levelAt p i) k x (levelAt p i .output))) (record { sending = i + 1; surveys = set (c .surveys) i v; deepest = part })
       (output-by true (le-leb 3 (sizeOf (p .plan) S) l))

@@ -11,19 +11,16 @@ use Rattle.base.proofs.Bools.{T→true}
 use Rattle.base.proofs.Smallest.{sought}
 use Rattle.base.proofs.Loops.{search-start, search-next, search-hit}
 use Rattle.component.specs.declared.Survey.{Survey}
-use Rattle.component.specs.Component.{surveyOf}
+use Rattle.component.specs.Inner.{surveyOf}
 use Rattle.level.specs.declared.Context.{Context}
-use Rattle.level.specs.declared.Applied.{Applied}
-use Rattle.level.specs.Counts.{InLimits}
-use Rattle.level.specs.Rules.{lowestRule, applies}
-use Rattle.party.specs.declared.Party.{Party}
+use Rattle.level.specs.Inner.{InLimits}
+use Rattle.level.specs.Rules.{Applied, lowestRule, applies}
 use Rattle.party.specs.declared.Chart.{Chart}
-use Rattle.party.specs.Party.{levelAt, sending, contextOf}
+use Rattle.party.specs.Party.{Party, levelAt, sending, contextOf}
 use Rattle.party.specs.Run.{ruleAt, openAt, openLevel, stepAt, madeBy}
-use Rattle.party.specs.Chart.{Charts, noSurvey}
+use Rattle.party.specs.Inner.{Charts, noSurvey}
 use Rattle.party_laws.proofs.Laws.{Formed, sending-level, open-sending, open-level}
 use Rattle.party_bounds.proofs.Laws.{levels-quiescent}
-use Rattle.party_step.specs.declared.Opening.{Opening}
 use Rattle.party_step.specs.Inner.{seen, Opens}
 use Rattle.party_step.proofs.Charts.{charted-sends, sends-charted}
 
@@ -42,7 +39,7 @@ module _ (p : Party) (c : Chart) (w : Formed p) (h : Charts p c) where
       let k : j < c .sending = sends-charted p c h j (omega (arith, sending-level p w j s .next)) s in
       sought i (openAt p) .none j (subst (λ (n : ℕ). j < n) (sym e) (omega arith)) o)
 
-  pub opens-none : (i : ℕ) → Closed p i → c .sending ≤ i → (a : Applied) → Opens p (record { at = levelCount; applied = a })
+  pub opens-none : (i : ℕ) → Closed p i → c .sending ≤ i → (a : Applied) → Opens p levelCount a
   opens-none i e l a = record { level = sym (all-closed i e l); rule = λ k. absurd (omega arith) }
 
   module _ (i : ℕ) (l : i < c .sending) where
@@ -73,7 +70,7 @@ module _ (p : Party) (c : Chart) (w : Formed p) (h : Charts p c) where
           ap (λ (y : Bool). y && applies (ruleAt p i .effect)) (T→true (sending p i) sends)
           ∙ ap (λ (y : Applied). applies (y .effect)) (sym e) ∙ sym f
 
-      pub opens-here : b ≡ true → Opens p (record { at = i; applied = a })
+      pub opens-here : b ≡ true → Opens p i a
       unfolding openLevel
       opens-here t = record { level = search-hit (openAt p) levelCount i none below (here ∙ t); rule = λ _. e }
 
@@ -82,30 +79,30 @@ module _ (p : Party) (c : Chart) (w : Formed p) (h : Charts p c) where
 
 -- ---- what was found
 
-module _ (p : Party) (o : Opening) (h : Opens p o) where
+module _ (p : Party) (at : ℕ) (a : Applied) (h : Opens p at a) where
   -- none
-  pub found-none : o .at ≡ levelCount → openLevel p ≡ levelCount
+  pub found-none : at ≡ levelCount → openLevel p ≡ levelCount
   found-none e = sym (h .level) ∙ e
 
-  module _ (d : o .at ≡ levelCount → ⊥) where
+  module _ (d : at ≡ levelCount → ⊥) where
     -- or a level
     pub found-level : openLevel p < levelCount
     unfolding openLevel
     found-level = omega (arith, h .level, d, sought levelCount (openAt p) .most)
 
-    pub found-below : o .at < levelCount
+    pub found-below : at < levelCount
     found-below = omega (arith, h .level, found-level)
 
-    pub found-open : T (openAt p (o .at))
+    pub found-open : T (openAt p at)
     found-open = subst (λ (i : ℕ). T (openAt p i)) (sym (h .level)) (open-level p found-level)
 
-    pub found-rule : o .applied ≡ ruleAt p (o .at)
+    pub found-rule : a ≡ ruleAt p at
     found-rule = h .rule found-below
 
-    pub found-step : stepAt p (o .at) ≡ stepAt p (openLevel p)
+    pub found-step : stepAt p at ≡ stepAt p (openLevel p)
     found-step = ap (stepAt p) (h .level)
 
-    pub found-made : madeBy (p .agreement) (o .at) (o .applied .effect) ≡ madeBy (p .agreement) (openLevel p) (ruleAt p (openLevel p) .effect)
+    pub found-made : madeBy (p .agreement) at (a .effect) ≡ madeBy (p .agreement) (openLevel p) (ruleAt p (openLevel p) .effect)
     found-made =
-        ap (λ (a : Applied). madeBy (p .agreement) (o .at) (a .effect)) found-rule
+        ap (λ (a : Applied). madeBy (p .agreement) at (a .effect)) found-rule
         ∙ ap (λ (i : ℕ). madeBy (p .agreement) i (ruleAt p i .effect)) (h .level)

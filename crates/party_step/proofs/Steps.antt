@@ -8,20 +8,19 @@ use Rattle.base.specs.Pick.{pick}
 use Rattle.base.specs.Limits.{levelCount}
 use Rattle.base.proofs.Bools.{not-T→false}
 use Rattle.message.specs.declared.Body.{Body}
-use Rattle.level.specs.declared.Level.{Level}
+use Rattle.level.specs.Level.{Level}
 use Rattle.level.specs.declared.Context.{Context}
-use Rattle.level.specs.declared.Applied.{Applied}
+use Rattle.level.specs.Rules.{Applied}
 use Rattle.level.specs.declared.Effect.{Effect}
 use Rattle.level.specs.declared.Effect.the-variants.{Nothing, Quiet, Send, Enter, SendEnter}
 use Rattle.level_laws.proofs.Moves.{Move}
 use Rattle.level_laws.proofs.Moves.{port-echo, none-echo, first-proposal, first-value, first-none, own-echo, relay, second-proposal, sure-result, none-result, unsure-result, centre-output, sure-entry, unsure-entry, centre-message, sided-entry, told-output, next-output}
 use Rattle.level_laws.proofs.Grows.{Unmoved, move-unmoved}
-use Rattle.party.specs.declared.Party.{Party}
 use Rattle.party.specs.declared.Chart.{Chart}
-use Rattle.party.specs.Party.{levelAt, withLevel, contextOf, sending}
+use Rattle.party.specs.Party.{Party, levelAt, withLevel, contextOf, sending}
 use Rattle.party.specs.Run.{ruleAt, openAt, gate, descend, afterRule, stepAt}
 use Rattle.party.specs.Valid.{partyValid}
-use Rattle.party.specs.Chart.{Charts}
+use Rattle.party.specs.Inner.{Charts}
 use Rattle.party_laws.proofs.Laws.{Formed, level-back, sending-level, open-sending, open-move, formed-step}
 use Rattle.party_step.specs.Inner.{Descends, descended, Leads}
 use Rattle.party_step.proofs.Charts.{charts-with}
@@ -66,7 +65,7 @@ module _ (p : Party) (c : Chart) (i : ℕ) (a : Applied) (w : Formed p) (h : Cha
   step-below = let s = sending-level p w i (open-sending p i on) in omega (arith, s .next)
 
   -- a rule that does not apply
-  pub step-nothing : a .effect ≡ Nothing → Leads (stepAt p i) (record { party = p; chart = c })
+  pub step-nothing : a .effect ≡ Nothing → Leads (stepAt p i) p c
   unfolding afterRule
   step-nothing f = record { party = after Nothing f; chart = h }
 
@@ -76,11 +75,11 @@ module _ (p : Party) (c : Chart) (i : ℕ) (a : Applied) (w : Formed p) (h : Cha
       let u : Unmoved (levelAt p i) (a .level) = move-unmoved (contextOf p i) (levelAt p i) (a .level) (a .effect) move in
       charts-with p c i (a .level) (u .entered) (u .side) (u .position) h
 
-  pub step-quiet : a .effect ≡ Quiet → Leads (stepAt p i) (record { party = withLevel p i (a .level); chart = c })
+  pub step-quiet : a .effect ≡ Quiet → Leads (stepAt p i) (withLevel p i (a .level)) c
   unfolding afterRule
   step-quiet f = record { party = after Quiet f; chart = charts }
 
-  pub step-send : (b : Body) → a .effect ≡ Send b → Leads (stepAt p i) (record { party = withLevel p i (a .level); chart = c })
+  pub step-send : (b : Body) → a .effect ≡ Send b → Leads (stepAt p i) (withLevel p i (a .level)) c
   unfolding afterRule
   step-send b f = record { party = after (Send b) f; chart = charts }
 

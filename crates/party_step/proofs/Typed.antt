@@ -1,5 +1,5 @@
 -- What the types of a party and a chart tell: how long their arrays are.
-use mathlib.Core.Path.{_≡_, sym, _∙_}
+use mathlib.Core.Path.{_≡_, sym, ap, _∙_}
 use mathlib.Core.List.{List, [], _∷_, map}
 use Prim.Native.Nat.{ℕ, zero, suc, _<_}
 use native.Mathlib.Nat.{not-suc-le-zero}
@@ -12,12 +12,16 @@ use denote.Shadow.{shadow}
 use denote.Array.{each}
 use denote.Laws.{Is}
 use Rattle.base.specs.Limits.{levelCount}
-use Rattle.level.specs.declared.Level.{Level}
-use Rattle.level.specs.Level.{noLevel, valueCount}
+use Rattle.level.specs.Level.{Level, valueCount}
+use Rattle.level.specs.Inner.{noCodeLevel}
+use Rattle.level.specs.Tie.{asLevel}
+use Rattle.level.specs.declared.Level as CodeLevel
 use Rattle.level.proofs.Level as LevelType
-use Rattle.party.specs.declared.Party.{Party}
 use Rattle.party.specs.declared.Chart.{Chart}
+use Rattle.party.specs.declared.Party as Code
 use Rattle.party.specs.Party.{levelAt}
+use Rattle.party.specs.Tie.{asParty}
+use Rattle.party.proofs.Ties.{level-at}
 use Rattle.party.specs.Valid.{partyValid}
 use Rattle.party.proofs.Party as PartyType
 use Rattle.party.proofs.Chart as ChartType
@@ -32,25 +36,24 @@ each-at g f (x ∷ xs) [] z h i l = absurd h
 each-at g f (x ∷ xs) (u ∷ us) z h zero l = (u, h .0)
 each-at g f (x ∷ xs) (u ∷ us) z h (suc i) l = each-at g f xs us z (h .1) i (omega arith)
 
-level-echoes : (l : Level) (vs : List Val) → Is LevelType.the-row l vs → length (l .echoed) ≡ valueCount
+level-echoes : (l : CodeLevel.Level) (vs : List Val) → Is LevelType.the-row l vs → length (l .echoed) ≡ valueCount
 level-echoes l vs h = sym (length-map (l .echoed) _) ∙ h .1 .1 .1 .1 .1 .1 .1 .1 .1 .1 .0 .1 .0 .1
 
-party-levels : (p : Party) (vs : List Val) → Is PartyType.the-row p vs → length (p .levels) ≡ levelCount
+party-levels : (p : Code.Party) (vs : List Val) → Is PartyType.the-row p vs → length (p .levels) ≡ levelCount
 party-levels p vs h = sym (length-map (p .levels) _) ∙ h .1 .1 .1 .1 .1 .1 .1 .0 .1 .0 .1
 
-party-echoes : (p : Party) (vs : List Val) → Is PartyType.the-row p vs → (i : ℕ) → i < levelCount → length (levelAt p i .echoed) ≡ valueCount
-unfolding levelAt
+party-echoes : (p : Code.Party) (vs : List Val) → Is PartyType.the-row p vs → (i : ℕ) → i < levelCount → length (levelAt (asParty p) i .echoed) ≡ valueCount
 party-echoes p vs h i l =
     let a = h .1 .1 .1 .1 .1 .1 .1 .0 in
-    let e = each-at _ _ (p .levels) (a .0) noLevel (a .1 .1) i (omega (arith, party-levels p vs h)) in
-    level-echoes (getD (p .levels) i noLevel) (e .0 ∷ []) (e .1)
+    let e = each-at _ _ (p .levels) (a .0) noCodeLevel (a .1 .1) i (omega (arith, party-levels p vs h)) in
+    ap (λ (m : Level). length (m .echoed)) (level-at p i) ∙ level-echoes (getD (p .levels) i noCodeLevel) (e .0 ∷ []) (e .1)
 
 pub chart-surveys : (c : Chart) (vs : List Val) → Is ChartType.the-row c vs → length (c .surveys) ≡ levelCount
 chart-surveys c vs h = sym (length-map (c .surveys) _) ∙ h .1 .1 .1 .0 .1 .0 .1
 
 -- a party that passes question 19
-pub typed-formed : (p : Party) (vs : List Val) → Is PartyType.the-row p vs → T (partyValid p) → Formed p
-typed-formed p vs h v = record { valid = v; full = party-levels p vs h }
+pub typed-formed : (p : Code.Party) (vs : List Val) → Is PartyType.the-row p vs → T (partyValid (asParty p)) → Formed (asParty p)
+typed-formed p vs h v = record { valid = v; full = length-map (p .levels) asLevel ∙ party-levels p vs h }
 
-pub typed-sized : (p : Party) (vs : List Val) → Is PartyType.the-row p vs → T (partyValid p) → Sized p
+pub typed-sized : (p : Code.Party) (vs : List Val) → Is PartyType.the-row p vs → T (partyValid (asParty p)) → Sized (asParty p)
 typed-sized p vs h v = record { formed = typed-formed p vs h v; echoes = party-echoes p vs h }

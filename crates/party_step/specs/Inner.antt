@@ -7,17 +7,15 @@ use Rattle.base.specs.Pick.{pick}
 use Rattle.base.specs.Limits.{levelCount}
 use Rattle.component.specs.declared.Component.{Component}
 use Rattle.component.specs.declared.Survey.{Survey}
-use Rattle.component.specs.Component.{members}
-use Rattle.level.specs.declared.Level.{Level}
+use Rattle.component.specs.Inner.{members}
+use Rattle.level.specs.Level.{Level}
 use Rattle.level.specs.declared.Context.{Context}
-use Rattle.party.specs.declared.Party.{Party}
 use Rattle.party.specs.declared.Chart.{Chart}
-use Rattle.party.specs.Party.{levelAt, componentOf, sending, entering}
+use Rattle.party.specs.Party.{Party, levelAt, componentOf, sending, entering}
 use Rattle.party.specs.Run.{openLevel, ruleAt, descend, gate}
 use Rattle.party.specs.Valid.{partyValid}
-use Rattle.party.specs.Chart.{Charts}
-use Rattle.party_step.specs.declared.Opening.{Opening}
-use Rattle.party_step.specs.declared.Charted.{Charted}
+use Rattle.party.specs.Inner.{Charts}
+use Rattle.level.specs.Rules.{Applied}
 
 -- p passes question 19, and c is its chart
 pub record Known (p : Party) (c : Chart) : Type 0 where
@@ -37,14 +35,14 @@ seen n t s next = record {
 }
 
 -- the lowest level at which some rule applies, with that rule applied
-pub record Opens (p : Party) (o : Opening) : Type 0 where
-  pub level : o .at ≡ openLevel p
-  pub rule : o .at < levelCount → o .applied ≡ ruleAt p (o .at)
+pub record Opens (p : Party) (at : ℕ) (a : Applied) : Type 0 where
+  pub level : at ≡ openLevel p
+  pub rule : at < levelCount → a ≡ ruleAt p at
 
--- r is the party q with its chart
-pub record Leads (q : Party) (r : Charted) : Type 0 where
-  pub party : r .party ≡ q
-  pub chart : Charts (r .party) (r .chart)
+-- r is the party q, and d is its chart
+pub record Leads (q r : Party) (d : Chart) : Type 0 where
+  pub party : r ≡ q
+  pub chart : Charts r d
 
 -- level i, the first that does not send, can be entered over this component, by side k at x
 pub record Enterable (p : Party) (c : Chart) (i : ℕ) (part : Component) (k x : ℕ) : Type 0 where

@@ -3,10 +3,14 @@ ghost use mathlib.Core.Path.{_≡_};
 ghost use Prim.Native.Nat.{_≤_};
 ghost use lib.Dec.{T};
 ghost use Rattle.base.specs.Pick.{pick};
-ghost use Rattle.component.specs.Component.{members, OfPlan, sizeOf, centreOf, degreeOf, neighbourOf};
+ghost use Rattle.component.specs.Component.{sizeOf, centreOf, degreeOf, neighbourOf};
+ghost use Rattle.component.specs.Inner.{members, OfPlan};
 ghost use Rattle.party.specs.Run as Rules;
 ghost use Rattle.party.specs.Party.{entering};
 ghost use Rattle.party_step.specs.Inner.{seen, Known, Opens, Leads, Enterable, Descends, descended};
+ghost use Rattle.plan.specs.Tie.{asPlan};
+ghost use Rattle.level.specs.Tie.{asLevel, asApplied};
+ghost use Rattle.party.specs.Tie.{asParty};
 
 // A party with its chart.
 pub struct Charted {
@@ -22,7 +26,7 @@ pub struct Opening {
 
 // What the rules at a level see: the settings, its survey, and the level after it.
 fn context(n: u32, t: u32, s: component::Survey, next: level::Level) -> level::Context
-    ensures { λ r. ⌜ r ≡ seen n t s next ⌝ }
+    ensures { λ r. ⌜ r ≡ seen n t s (asLevel next) ⌝ }
 {
     level::Context {
         n: n,
@@ -37,8 +41,8 @@ fn context(n: u32, t: u32, s: component::Survey, next: level::Level) -> level::C
 
 // The lowest level at which some rule applies; base::LEVELS where there is none.
 pub fn lowest_open(p: party::Party, c: party::Chart) -> Opening
-    requires { ⌜ Known p c ⌝ }
-    ensures { λ r. ⌜ Opens p r ⌝ }
+    requires { ⌜ Known (asParty p) c ⌝ }
+    ensures { λ r. ⌜ Opens (asParty p) (r .at) (asApplied (r .applied)) ⌝ }
 {
     let mut i: usize = 0;
     while i < c.sending {
@@ -71,10 +75,10 @@ pub fn enter(
     i: usize,
     part: component::Component,
     k: u8,
-    x: u32,
+    x: base::Position,
 ) -> Charted
-    requires { ⌜ Enterable p c i part k x ⌝ }
-    ensures { λ r. ⌜ Leads (entering p i (members (p .plan) part) k x) r ⌝ }
+    requires { ⌜ Enterable (asParty p) c i part k x ⌝ }
+    ensures { λ r. ⌜ Leads (entering (asParty p) i (members (asPlan (p .plan)) part) k x) (asParty (r .party)) (r .chart) ⌝ }
 {
     let plan = p.plan;
     let mut l = p.levels[i];
@@ -99,13 +103,13 @@ pub fn enter(
 fn gate(
     plan: plan::Plan,
     c: component::Component,
-    centre: u32,
+    centre: base::Position,
     k: u8,
     keep: bool,
-    position: u32,
-) -> u32
-    requires { ⌜ OfPlan plan (members plan c) × (3 ≤ sizeOf plan (members plan c)) × (centre ≡ centreOf plan (members plan c)) × (1 ≤ k) × (k ≤ degreeOf plan (members plan c)) ⌝ }
-    ensures { λ r. ⌜ r ≡ pick keep position (neighbourOf plan (members plan c) k) ⌝ }
+    position: base::Position,
+) -> base::Position
+    requires { ⌜ OfPlan (asPlan plan) (members (asPlan plan) c) × (3 ≤ sizeOf (asPlan plan) (members (asPlan plan) c)) × (centre ≡ centreOf (asPlan plan) (members (asPlan plan) c)) × (1 ≤ k) × (k ≤ degreeOf (asPlan plan) (members (asPlan plan) c)) ⌝ }
+    ensures { λ r. ⌜ r ≡ pick keep position (neighbourOf (asPlan plan) (members (asPlan plan) c) k) ⌝ }
 {
     if keep {
         return position;
@@ -115,8 +119,8 @@ fn gate(
 
 // Level i + 1 is entered by side k, at the old position where `keep`, else at neighbour k.
 fn descend(p: party::Party, c: party::Chart, i: usize, k: u8, keep: bool) -> Charted
-    requires { ⌜ Descends p c i k keep ⌝ }
-    ensures { λ r. ⌜ Leads (descended p i k keep) r ⌝ }
+    requires { ⌜ Descends (asParty p) c i k keep ⌝ }
+    ensures { λ r. ⌜ Leads (descended (asParty p) i k keep) (asParty (r .party)) (r .chart) ⌝ }
 {
     let plan = p.plan;
     let s = c.surveys[i];
@@ -129,8 +133,8 @@ fn descend(p: party::Party, c: party::Chart, i: usize, k: u8, keep: bool) -> Cha
 
 // The party after a rule at level i.
 pub fn step(p: party::Party, c: party::Chart, i: usize, a: level::Applied) -> Charted
-    requires { ⌜ Known p c × T (Rules.openAt p i) × (a ≡ Rules.ruleAt p i) ⌝ }
-    ensures { λ r. ⌜ Leads (Rules.stepAt p i) r ⌝ }
+    requires { ⌜ Known (asParty p) c × T (Rules.openAt (asParty p) i) × (asApplied a ≡ Rules.ruleAt (asParty p) i) ⌝ }
+    ensures { λ r. ⌜ Leads (Rules.stepAt (asParty p) i) (asParty (r .party)) (r .chart) ⌝ }
 {
     let mut q = p;
     let l = a.level;

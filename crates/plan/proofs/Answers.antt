@@ -10,9 +10,9 @@ use Rattle.base.specs.Pick.{pick}
 use Rattle.settings.specs.Settings.{settingsFault}
 use Rattle.settings.proofs.Laws.{ask-all, fault-none}
 use Rattle.base.specs.Found.{Found, found, refused, ask}
-use Rattle.plan.specs.declared.Plan.{Plan}
-use Rattle.plan.specs.declared.PlanRead.{PlanRead}
-use Rattle.plan.specs.Reading.{planOf, settledPlan, answered}
+use Rattle.plan.specs.Plan.{Plan}
+use Rattle.plan.specs.Reading.{planOf, settledPlan}
+use Rattle.plan.specs.Inner.{PlanRead, answered}
 use Rattle.plan.proofs.Listed.{ask-yes}
 
 -- an answer, and what it is the answer of

@@ -11,11 +11,14 @@ use Rattle.base.specs.Limits.{maxDegree}
 use Rattle.base.specs.Pick.{pick}
 use Rattle.base.proofs.Bools.{T-and, T-left, T-right, T→true, not-T→false, true→T, false→not-T}
 use Rattle.varint.specs.declared.VarintRead.{VarintRead}
-use Rattle.varint.specs.Varint.{varintAt, varintBytes}
+use Rattle.varint.specs.Varint.{varintBytes}
+use Rattle.varint.specs.Reading.{varintAt}
 use Rattle.varint.proofs.RoundTrip.{varint-read-at}
-use Rattle.tree.specs.Edges.{Edge, Edges, Acyclic, Below, joined, all, edgesAt}
+use Rattle.tree.specs.Edges.{Edge, Edges, joined, all, edgesAt}
+use Rattle.tree.specs.Inner.{Acyclic, Below}
 use Rattle.base.specs.Found.{Found, found, refused, ask}
-use Rattle.edges.specs.Reading.{onward, varintThen, endsApart, notJoined, roomAtEnds, edgesFrom, Listed, edgesOfTree}
+use Rattle.edges.specs.Reading.{onward, varintThen, endsApart, notJoined, roomAtEnds, edgesFrom}
+use Rattle.edges.specs.Inner.{Listed, edgesOfTree}
 use Rattle.plan_growth.specs.Inner.{edge}
 use Rattle.plan.proofs.Degrees.{at-none, at-most}
 

@@ -1,3 +1,6 @@
+pub mod Plan
 pub mod Positions
 pub mod Reading
 pub mod Valid
+pub mod Tie
+pub mod Inner

@@ -10,7 +10,7 @@ use Rattle.tree.specs.Edges.{Edges}
 use Rattle.edges.specs.Rows.{rows}
 unfoldable pub use Rattle.edges.specs.Rows.{column}
 use Rattle.tree.specs.Path.{pathEdges}
-use Rattle.plan.specs.declared.Plan.{Plan}
+use Rattle.plan.specs.Plan.{Plan}
 use Rattle.base.specs.Limits.{maxRows}
 
 -- "its path joins neighbouring positions"; a tree's edges are the rows that are kept

@@ -9,7 +9,7 @@ use Rattle.base.specs.Pick.{pick}
 use Rattle.tree.specs.Edges.{edgesAt}
 use Rattle.tree.specs.Growth.{reached}
 use Rattle.edges.specs.Rows.{rows}
-use Rattle.plan.specs.declared.Plan.{Plan}
+use Rattle.plan.specs.Plan.{Plan}
 use Rattle.base.specs.Limits.{maxVertices, maxDegree, maxWidth, maxReading}
 
 -- row i leads from a position that the rows before it reach to one that they do not, with room for an edge at both

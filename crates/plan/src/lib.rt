@@ -2,13 +2,14 @@
 ghost use mathlib.Core.Path.{_≡_};
 ghost use Prim.Native.Nat.{_-_, _≤_};
 ghost use lib.ListN.{length};
-ghost use Rattle.tree.specs.Edges.{Below};
+ghost use Rattle.tree.specs.Inner.{Below};
 ghost use Rattle.tree.specs.Growth.{sweeps};
 ghost use Rattle.edges.specs.Rows.{rows};
 ghost use Rattle.base.specs.Limits.{maxVertices, maxWidth};
 ghost use Rattle.base.specs.Found.{found, refused};
 ghost use Rattle.plan.specs.Positions.{noPlan, treePlan, rangePlan};
-ghost use Rattle.plan.specs.Reading.{answered};
+ghost use Rattle.plan.specs.Inner.{answered};
+ghost use Rattle.plan.specs.Tie.{asPlan, asPlanRead};
 
 // What is kept of a plan. Unused places are 0.
 pub struct Plan {
@@ -30,7 +31,7 @@ pub struct PlanRead {
 
 // No plan: what comes with a refusal.
 pub fn no_plan() -> Plan
-    ensures { λ r. ⌜ r ≡ noPlan ⌝ }
+    ensures { λ r. ⌜ asPlan r ≡ noPlan ⌝ }
 {
     Plan {
         kind: 0,
@@ -43,7 +44,7 @@ pub fn no_plan() -> Plan
 
 // A refusal's number and place, and no plan.
 pub fn refuse(number: u8, place: usize) -> PlanRead
-    ensures { λ r. ⌜ r ≡ answered (refused number place) ⌝ }
+    ensures { λ r. ⌜ asPlanRead r ≡ answered (refused number place) ⌝ }
 {
     let v = base::Verdict::Refused(number, place);
     let p = no_plan();
@@ -55,7 +56,7 @@ pub fn refuse(number: u8, place: usize) -> PlanRead
 
 // A plan that was read.
 pub fn accept(p: Plan) -> PlanRead
-    ensures { λ r. ⌜ r ≡ answered (found p) ⌝ }
+    ensures { λ r. ⌜ asPlanRead r ≡ answered (found (asPlan p)) ⌝ }
 {
     let v = base::Verdict::Accepted;
     PlanRead {
@@ -67,7 +68,7 @@ pub fn accept(p: Plan) -> PlanRead
 // The plan of a tree of v vertices whose edges are in the columns `one` and `two`.
 pub fn tree_plan(one: &[u16], two: &[u16], v: u32) -> Plan
     requires { ⌜ (1 ≤ v) × (v ≤ maxVertices) × Below v (rows (now one) (now two) (v - 1)) × (v - 1 ≤ length (now one)) × (v - 1 ≤ length (now two)) ⌝ }
-    ensures { λ r. ⌜ r ≡ treePlan v (sweeps (v - 1) (rows (now (one .entry)) (now (two .entry)) (v - 1))) ⌝ }
+    ensures { λ r. ⌜ asPlan r ≡ treePlan v (sweeps (v - 1) (rows (now (one .entry)) (now (two .entry)) (v - 1))) ⌝ }
 {
     let n = v as usize;
     let m = n - 1;
@@ -88,7 +89,7 @@ pub fn tree_plan(one: &[u16], two: &[u16], v: u32) -> Plan
 // The plan of a range from its low reading, in offset binary, and its width.
 pub fn range_plan(low: u32, width: u32) -> Plan
     requires { ⌜ width ≤ maxWidth ⌝ }
-    ensures { λ r. ⌜ r ≡ rangePlan low width ⌝ }
+    ensures { λ r. ⌜ asPlan r ≡ rangePlan low width ⌝ }
 {
     Plan {
         kind: 2,

@@ -15,15 +15,16 @@ use Rattle.base.specs.Found.{Found, found, refused, ask}
 use Rattle.base.specs.Limits.{maxVertices, maxWidth, maxReading}
 use Rattle.base.proofs.Bools.{T-and, T-left, T-right}
 use Rattle.signed.specs.Signed.{offsetOfZigzag}
-use Rattle.tree.specs.Edges.{Edges, Below}
+use Rattle.tree.specs.Edges.{Edges}
+use Rattle.tree.specs.Inner.{Below}
 use Rattle.varint.proofs.VarintRead.{the-type}
 use Rattle.varint.specs.declared.VarintRead.{VarintRead}
-use Rattle.varint.specs.Varint.{varintAt}
+use Rattle.varint.specs.Reading.{varintAt}
 use Rattle.edges.specs.declared.EdgeList.{EdgeList}
 use Rattle.edges.specs.Reading.{onward, varintThen, endsApart, notJoined, roomAtEnds, edgesFrom}
 use Rattle.edges.specs.Rows.{rows}
 use Rattle.edges.specs.Inner.{faultBy, faultIn, edgesIn, Listing}
-use Rattle.plan.specs.declared.Plan.{Plan}
+use Rattle.plan.specs.Plan.{Plan}
 use Rattle.plan.specs.Positions.{treePlan, rangePlan}
 use Rattle.plan.specs.Reading.{ended, treeFrom, rangeFrom, planFrom}
 use Rattle.plan.proofs.Listed.{ask-yes}

@@ -11,11 +11,11 @@ use Rattle.signed.specs.Signed.{offsetOfZigzag}
 use Rattle.tree.specs.Edges.{Edges}
 use Rattle.tree.specs.Growth.{sweeps}
 use Rattle.varint.specs.declared.VarintRead.{VarintRead}
-use Rattle.varint.specs.Varint.{varintAt}
+use Rattle.varint.specs.Reading.{varintAt}
 use Rattle.edges.specs.declared.EdgeList.{EdgeList}
 use Rattle.edges.specs.Reading.{varintThen, endsApart, notJoined, roomAtEnds, edgesFrom}
 use Rattle.edges.specs.Inner.{edgesIn, Listing}
-use Rattle.plan.specs.declared.Plan.{Plan}
+use Rattle.plan.specs.Plan.{Plan}
 use Rattle.plan.specs.Positions.{treePlan, rangePlan}
 use Rattle.plan.specs.Reading.{ended, treeFrom, rangeFrom, planFrom}
 use Rattle.plan_groups.specs.declared.Next.{Next}

@@ -4,9 +4,10 @@ ghost use mathlib.Core.Bool.{not};
 ghost use Prim.Native.Nat.{ℕ};
 ghost use lib.Dec.{T};
 ghost use Rattle.varint.specs.declared.VarintRead.{VarintRead};
-ghost use Rattle.plan.specs.Reading.{answered};
+ghost use Rattle.plan.specs.Inner.{answered};
 ghost use Rattle.plan_groups.specs.declared.Next.{Next};
 ghost use Rattle.plan_groups.specs.Inner.{pastOf, wanting, Sound, restOf, kindNext, widthNext, afterEdges, Taken};
+ghost use Rattle.plan.specs.Tie.{asPlanRead};
 
 // Which group comes next, or how the plan ended.
 pub enum Next {
@@ -203,7 +204,7 @@ pub fn take(p: PlanSoFar, found: varint::VarintRead, at: usize) -> PlanSoFar
 // Question 11: the plan that no further group belongs to, after its last group at `at`.
 pub fn finish(p: PlanSoFar, s: &[u8], at: usize) -> plan::PlanRead
     requires { ⌜ Sound (p .next) (p .edges) ⌝ }
-    ensures { λ r. ⌜ (T (not (wanting (p .next))) → r ≡ answered (restOf (p .next) (p .edges) (now (s .entry)) at)) ⌝ }
+    ensures { λ r. ⌜ (T (not (wanting (p .next))) → asPlanRead r ≡ answered (restOf (p .next) (p .edges) (now (s .entry)) at)) ⌝ }
 {
     let l = p.edges;
     let next = p.next;

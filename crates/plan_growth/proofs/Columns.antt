@@ -14,8 +14,9 @@ use borrow.Author.Tests.{ne-eqb}
 use Rattle.base.specs.Sets.{bit, count}
 use Rattle.base.proofs.Bools.{T→true, not-T→false, true→T, false→not-T}
 use Rattle.base.proofs.Counts.{count-pos, count-not}
-use Rattle.tree.specs.Edges.{Edge, Edges, Below}
-use Rattle.tree.specs.Growth.{reached, Grown, sweep, sweeps}
+use Rattle.tree.specs.Edges.{Edge, Edges}
+use Rattle.tree.specs.Inner.{Below, Grown}
+use Rattle.tree.specs.Growth.{reached, sweep, sweeps}
 use Rattle.tree.proofs.GrowthSweeps.{Settled, sweep-progress, sweeps-stop}
 use Rattle.tree.proofs.GrowthComplete.{reached-count, sweeps-length}
 use Rattle.edges.specs.Rows.{rows, column}

@@ -3,7 +3,7 @@ ghost use mathlib.Core.Path.{_≡_};
 ghost use mathlib.Core.List.{[], _∷_};
 ghost use Prim.Native.Nat.{_+_, _<_, _≤_};
 ghost use lib.ListN.{length, set};
-ghost use Rattle.tree.specs.Edges.{Below};
+ghost use Rattle.tree.specs.Inner.{Below};
 ghost use Rattle.tree.specs.Growth.{sweep, sweeps};
 ghost use Rattle.edges.specs.Rows.{rows};
 ghost use Rattle.plan_growth.specs.Inner.{edge, Laid};

@@ -13,7 +13,8 @@ use Rattle.base.specs.Pick.{pick}
 use Rattle.base.specs.Limits.{maxRows, maxVertices, maxWidth, maxReading}
 use Rattle.base.proofs.Bools.{T-left, true→T}
 use Rattle.varint.specs.declared.VarintRead.{VarintRead}
-use Rattle.varint.specs.Varint.{AllBytes, varintAt}
+use Rattle.varint.specs.Varint.{AllBytes}
+use Rattle.varint.specs.Reading.{varintAt}
 use Rattle.varint.proofs.RoundTrip.{varint-was-written}
 use Rattle.signed.specs.declared.SignedRead.{SignedRead}
 use Rattle.signed.specs.Signed.{unzigzag, signedOf, signedAt, fromOffset, offsetOfZigzag}
@@ -23,9 +24,9 @@ use Rattle.tree.specs.Growth.{sweeps}
 use Rattle.tree.proofs.GrowthSweeps.{sweeps-adjacent}
 use Rattle.tree.proofs.GrowthComplete.{tree-length, tree-adjacent}
 use Rattle.base.specs.Found.{Found, found, refused}
-use Rattle.edges.specs.Reading.{Listed, edgesOfTree}
+use Rattle.edges.specs.Inner.{Listed, edgesOfTree}
 use Rattle.edges.specs.Rows.{rows}
-use Rattle.plan.specs.declared.Plan.{Plan}
+use Rattle.plan.specs.Plan.{Plan}
 use Rattle.plan.specs.Positions.{edgesOf, readingOf, column, treePlan, rangePlan}
 use Rattle.plan.specs.Reading.{ended, treeFrom, rangeFrom, planFrom, planOf}
 use Rattle.plan_growth.proofs.Columns.{column-rows}

@@ -9,36 +9,34 @@ use lib.Dec.{T, eqb, ltb, leb, leb→le, le→leb}
 use lib.ListN.{length, replicate, length-append, length-replicate}
 use lib.IntN.{pos, negsuc}
 use borrow.Author.Tests.{eq-eqb, ltb-true}
-use Rattle.base.specs.Limits.{maxVertices, maxRows, maxWidth, maxReading}
+use Rattle.base.specs.Limits.{offsetZero, maxVertices, maxRows, maxWidth, maxReading}
 use Rattle.base.specs.Pick.{pick}
 use Rattle.base.proofs.Bools.{T-and, T-left, T-right, true→T}
-use Rattle.varint.specs.Varint.{AllBytes, pieces, varintAt, varintBytes}
+use Rattle.varint.specs.Varint.{AllBytes, pieces, varintBytes}
+use Rattle.varint.specs.Reading.{varintAt}
 use Rattle.varint.proofs.Laws.{all-bytes-append}
 use Rattle.varint.proofs.RoundTrip.{varint-read-at}
 use Rattle.signed.specs.Signed.{zigzag, offset, fromOffset, offsetOfZigzag}
 use Rattle.signed.proofs.RoundTrip.{unzigzag-zigzag, offset-from, offset-unzigzag}
 use Rattle.tree.specs.Edges.{Edges}
-use Rattle.tree.specs.Growth.{Grown, reached, sweeps}
+use Rattle.tree.specs.Growth.{reached, sweeps}
+use Rattle.tree.specs.Inner.{Grown}
 use Rattle.tree.proofs.Growth.{grown-acyclic}
 use Rattle.tree.proofs.GrowthSweeps.{sweeps-again, sweeps-grown, sweeps-below, sweeps-empty}
 use Rattle.tree.proofs.GrowthComplete.{tree-length, tree-edgesAt}
 use Rattle.edges.specs.Rows.{rows}
 use Rattle.base.specs.Found.{Found, found, refused}
 use Rattle.edges.specs.Reading.{edgesFrom}
-use Rattle.plan.specs.declared.Plan.{Plan}
+use Rattle.plan.specs.Plan.{Plan}
 use Rattle.plan.specs.Positions.{column, padded, treePlan, rangePlan}
 use Rattle.plan.specs.Reading.{ended, treeFrom, rangeFrom, planFrom, planOf}
 use Rattle.plan.specs.Valid.{allZero, planValid}
 use Rattle.plan_growth.proofs.Columns.{column-rows}
+use Rattle.plan_laws.specs.Statement.{Sized, Given}
 use Rattle.plan_laws.proofs.Parts.{TreeParts, RangeParts, tree-parts, tree-made, range-parts, range-made, valid-tree, valid-range}
 use Rattle.plan_laws.proofs.Shape.{GrownRows, fit-grown, grown-fit, grown-before, room-before, rows-length, Kinds, tree, range, kinds, Shape, shape}
 use Rattle.plan.proofs.Listed.{asked, ask-yes, grouped, Passing, passing-acyclic, passing-below, passing-degrees, after, edgeBytes, edges-read}
 use Rattle.plan_laws.proofs.Padding.{zeros, zeros-all, column-one, column-two, refill, filled-rest, filled-length}
-
--- the columns of a plan part have the places of the largest tree
-pub record Sized (p : Plan) : Type 0 where
-  pub parents : length (p .parent) ≡ maxRows
-  pub children : length (p .child) ≡ maxRows
 
 -- ---- bytes
 
@@ -173,9 +171,9 @@ low-read low h = sym (offset-unzigzag (zigzag (fromOffset low))) ∙ ap offset (
 
 low-fits : (low : ℕ) → low < 2 ^ 32 → low-group low < 2 ^ 32
 unfolding low-group
-low-fits low h = go (leb 2147483648 low) refl
+low-fits low h = go (leb offsetZero low) refl
   where
-    go : (b : Bool) → leb 2147483648 low ≡ b → zigzag (pick b (pos (low - 2147483648)) (negsuc (2147483647 - low))) < 2 ^ 32
+    go : (b : Bool) → leb offsetZero low ≡ b → zigzag (pick b (pos (low - offsetZero)) (negsuc (offsetZero - 1 - low))) < 2 ^ 32
     go true e = omega arith
     go false e = omega arith
 
@@ -294,10 +292,6 @@ found-good s p e =
     go kind next false false e = let z : _≡_ {A = ℕ} 0 1 = cc in absurd (omega arith)
 
 -- ---- the test passes exactly what a plan reading gives
-
--- some bytes are read as p
-abbrev pub Given : Plan → Type 0
-Given p = (s : List ℕ) × AllBytes s × (planOf s ≡ found p)
 
 valid-given : (p : Plan) → Sized p → T (planValid p) → Given p
 valid-given p z h = go (kinds p h)

@@ -5,3 +5,4 @@ pub mod Padding
 pub mod Given
 pub mod Readings
 pub mod Drawn
+pub mod Theorem

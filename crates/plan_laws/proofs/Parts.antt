@@ -8,7 +8,7 @@ use lib.ListN.{drop}
 use borrow.Author.Tests.{eq-eqb, ne-eqb}
 use Rattle.base.specs.Limits.{maxVertices, maxWidth, maxReading}
 use Rattle.base.proofs.Bools.{T-and, T-left, T-right, true→T}
-use Rattle.plan.specs.declared.Plan.{Plan}
+use Rattle.plan.specs.Plan.{Plan}
 use Rattle.plan.specs.Valid.{rowsFit, allZero, treeValid, rangeValid, planValid}
 
 pub record TreeParts (p : Plan) : Type 0 where

@@ -1,8 +1,10 @@
 // The plan's reader: the lent plan bytes and the offset reached, together. It moves through the plan group by group; what each group says is asked of plain numbers.
 ghost use mathlib.Core.Path.{_≡_};
-ghost use Rattle.varint.specs.Varint.{varintAt};
-ghost use Rattle.plan.specs.Reading.{planFrom, planOf, settledPlan, answered};
+ghost use Rattle.varint.specs.Reading.{varintAt};
+ghost use Rattle.plan.specs.Reading.{planFrom, planOf, settledPlan};
+ghost use Rattle.plan.specs.Inner.{answered};
 ghost use Rattle.plan_groups.specs.Inner.{pastOf};
+ghost use Rattle.plan.specs.Tie.{asPlanRead};
 
 pub struct PlanReader<'a> {
     pub bytes: &'a [u8],
@@ -33,7 +35,7 @@ pub fn past<'a>(r: PlanReader<'a>, found: varint::VarintRead) -> PlanReader<'a>
 
 // The plan that stands at the offset and ends with the bytes: the reader moves from group to group.
 pub fn read_plan<'a>(r: PlanReader<'a>) -> plan::PlanRead
-    ensures { λ p. ⌜ p ≡ answered (planFrom (now (r .entry .bytes)) (r .entry .at)) ⌝ }
+    ensures { λ p. ⌜ asPlanRead p ≡ answered (planFrom (now (r .entry .bytes)) (r .entry .at)) ⌝ }
 {
     let mut here = r;
     let mut so_far = plan_groups::begin();
@@ -47,14 +49,14 @@ pub fn read_plan<'a>(r: PlanReader<'a>) -> plan::PlanRead
 
 // The plan that the bytes are.
 pub fn read(bytes: &[u8]) -> plan::PlanRead
-    ensures { λ p. ⌜ p ≡ answered (planOf (now (bytes .entry))) ⌝ }
+    ensures { λ p. ⌜ asPlanRead p ≡ answered (planOf (now (bytes .entry))) ⌝ }
 {
     read_plan(open(bytes))
 }
 
 // The questions of a set-up: 1 to 3 about the settings, then the plan.
 pub fn settle(n: u32, t: u32, own: u32, bytes: &[u8]) -> plan::PlanRead
-    ensures { λ r. ⌜ r ≡ answered (settledPlan n t own (now (bytes .entry))) ⌝ }
+    ensures { λ r. ⌜ asPlanRead r ≡ answered (settledPlan n t own (now (bytes .entry))) ⌝ }
 {
     let number = settings::fault(n, t, own);
     if number != 0 {

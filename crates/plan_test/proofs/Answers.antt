@@ -14,7 +14,7 @@ use Rattle.base.specs.Sets.{bit}
 use Rattle.base.proofs.Bools.{T-ext, not-T→false, true→T, false→not-T}
 use Rattle.tree.specs.Edges.{edgesAt}
 use Rattle.tree.specs.Growth.{reached}
-use Rattle.plan.specs.declared.Plan.{Plan}
+use Rattle.plan.specs.Plan.{Plan}
 use Rattle.plan.specs.Valid.{rowsFit, allZero, treeValid, rangeValid}
 use Rattle.plan_laws.proofs.Parts.{TreeParts, RangeParts, tree-parts, tree-made, range-parts, range-made}
 use Rattle.plan_test.specs.Inner.{Noted}

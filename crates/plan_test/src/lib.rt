@@ -7,6 +7,7 @@ ghost use lib.ListN.{length, drop};
 ghost use Rattle.edges.specs.Rows.{rows};
 ghost use Rattle.plan.specs.Valid.{rowFits, rowsFit, allZero, treeValid, rangeValid, planValid};
 ghost use Rattle.plan_test.specs.Inner.{Noted};
+ghost use Rattle.plan.specs.Tie.{asPlan};
 
 // Does row i lead on, with room for an edge at both ends? If so they are noted.
 fn row_fits(ps: &[u16], cs: &[u16], i: usize, seen: &mut [u8], many: &mut [u8], v: usize) -> bool
@@ -118,7 +119,7 @@ fn range_valid(count: u32, low: u32, ps: &[u16; base::MAX_ROWS], cs: &[u16; base
 
 // Is this a plan that a plan reading gives?
 pub fn valid(p: plan::Plan) -> bool
-    ensures { λ r. ⌜ r ≡ planValid p ⌝ }
+    ensures { λ r. ⌜ r ≡ planValid (asPlan p) ⌝ }
 {
     let ps = p.parent;
     let cs = p.child;

@@ -12,13 +12,14 @@ use Rattle.base.specs.Limits.{maxVertices, maxRows}
 use Rattle.base.proofs.Bools.{T-and, true→T}
 use Rattle.varint.specs.Varint.{varintBytes}
 use Rattle.varint.proofs.RoundTrip.{varint-read-at}
-use Rattle.tree.specs.Edges.{Edges, Acyclic}
+use Rattle.tree.specs.Edges.{Edges}
+use Rattle.tree.specs.Inner.{Acyclic}
 use Rattle.tree.specs.Growth.{sweeps}
 use Rattle.tree.proofs.GrowthComplete.{tree-length}
 use Rattle.base.specs.Found.{Found, found}
 use Rattle.edges.specs.Reading.{edgesFrom}
 use Rattle.edges.specs.Rows.{rows}
-use Rattle.plan.specs.declared.Plan.{Plan}
+use Rattle.plan.specs.Plan.{Plan}
 use Rattle.plan.specs.Positions.{edgesOf, column, padded, treePlan}
 use Rattle.plan.specs.Reading.{ended, planFrom, planOf}
 use Rattle.plan_growth.proofs.Columns.{column-rows}

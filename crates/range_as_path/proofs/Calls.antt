@@ -16,13 +16,12 @@ use Rattle.base.proofs.Bools.{T-left, T-right, or-split, true→T}
 use Rattle.base.specs.Found.{Found, found, ask}
 use Rattle.message.specs.declared.Message.{Message}
 use Rattle.message.specs.declared.Exactly.{Exactly}
-use Rattle.message.specs.Message.{exactMessage}
+use Rattle.message.specs.Reading.{exactMessage}
 use Rattle.level.specs.Level.{noOutput}
 use Rattle.journal.specs.declared.Record.{Record}
 use Rattle.journal.specs.declared.Record.the-variants.{Start, Taken}
 use Rattle.journal.specs.Journal.{recordBytes}
-use Rattle.party.specs.declared.Party.{Party}
-use Rattle.party.specs.Party.{levelAt, started, heldBy, outputOf}
+use Rattle.party.specs.Party.{Party, levelAt, started, heldBy, outputOf}
 use Rattle.party.specs.Run.{Ran, starting, taking, bytesOf}
 use Rattle.party.specs.Valid.{everyLevel, settingsPass, setsPass, outputPasses, placePasses, resultsPass, levelPasses, partyValid}
 use Rattle.plan.specs.Valid.{planValid}

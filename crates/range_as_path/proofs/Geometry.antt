@@ -10,9 +10,10 @@ use Rattle.tree.specs.Path.{pathEdges}
 use Rattle.tree.specs.Component.{centre, degree, port, neighbour, side}
 use Rattle.tree.proofs.PathEdges.{path-adjacent}
 use Rattle.tree.proofs.Same.{Same, same-centre, same-degree, same-port, same-neighbour, same-side}
-use Rattle.plan.specs.declared.Plan.{Plan}
+use Rattle.plan.specs.Plan.{Plan}
 use Rattle.plan.specs.Positions.{edgesOf}
-use Rattle.component.specs.Component.{sizeOf, centreOf, degreeOf, portOf, neighbourOf, sideOf, surveyOf}
+use Rattle.component.specs.Component.{sizeOf, centreOf, degreeOf, portOf, neighbourOf, sideOf}
+use Rattle.component.specs.Inner.{surveyOf}
 use Rattle.range_as_path.specs.Twin.{NextBelow, Numbered, TwinPlans}
 
 -- ---- the path

@@ -18,19 +18,17 @@ use Rattle.base.specs.declared.Verdict.{Verdict}
 use Rattle.varint.specs.Varint.{varintBytes}
 use Rattle.tree.specs.Edges.{Edges}
 use Rattle.base.specs.Found.{Found, found}
-use Rattle.plan.specs.declared.Plan.{Plan}
+use Rattle.plan.specs.Plan.{Plan}
 use Rattle.plan.specs.Reading.{planOf}
 use Rattle.plan.proofs.Listed.{edgeBytes}
 use Rattle.component.specs.Component.{sizeOf, centreOf, degreeOf, portOf, neighbourOf, sideOf}
 use Rattle.message.specs.declared.Message.{Message}
 use Rattle.journal.specs.declared.Record.{Record}
-use Rattle.party.specs.declared.Party.{Party}
-use Rattle.party.specs.Party.{levelAt, componentOf, sending, contextOf, entered, heldBy, hearing, outputOf}
+use Rattle.party.specs.Party.{Party, levelAt, componentOf, sending, contextOf, entered, heldBy, hearing, outputOf}
 use Rattle.party.specs.Run.{ruleAt, openAt, openLevel, stepAt, runUpTo, run, starting, taking}
 use Rattle.party.specs.Valid.{partyValid}
 use Rattle.party_life.specs.Life.{lived, Life}
-use Rattle.board_calls.specs.declared.SetUp.{SetUp}
-use Rattle.board_calls.specs.Calls.{setUpOf, startQuestions, takeQuestions}
+use Rattle.board_calls.specs.Calls.{SetUp, setUpOf, startQuestions, takeQuestions}
 use Rattle.board_calls.specs.Restore.{restoreQuestions}
 use Rattle.range_as_path.specs.Twin.{PathListed, TwinPlans, TwinParties, TwinRan, TwinFound, both, TwinSetUp, set-up, not-set-up, TwinBytes, SameBehaviour}
 use Rattle.range_as_path.specs.Script.{Ask, Desk, after, TwinDesks, SameNext}

@@ -7,18 +7,15 @@ use Rattle.base.specs.Pick.{pick, smallest}
 use Rattle.base.specs.Sets.{Set}
 use Rattle.base.specs.Limits.{levelCount, maxRules}
 use Rattle.tree.specs.Component.{upto}
-use Rattle.plan.specs.declared.Plan.{Plan}
+use Rattle.plan.specs.Plan.{Plan}
 use Rattle.component.specs.Component.{sizeOf, centreOf, degreeOf, portOf, neighbourOf, sideOf}
 use Rattle.message.specs.declared.Message.{Message}
-use Rattle.level.specs.declared.Level.{Level}
 use Rattle.level.specs.declared.Context.{Context}
-use Rattle.level.specs.declared.Applied.{Applied}
 use Rattle.level.specs.declared.Effect.{Effect}
 use Rattle.level.specs.declared.Effect.the-variants.{Nothing, Quiet, Send, Enter, SendEnter}
-use Rattle.level.specs.Level.{withEntry}
-use Rattle.level.specs.Rules.{lowestRule, applies}
-use Rattle.party.specs.declared.Party.{Party}
-use Rattle.party.specs.Party.{levelAt, withLevel, componentOf, sending, contextOf, entering, entered, heldBy, hearing}
+use Rattle.level.specs.Level.{Level, withEntry}
+use Rattle.level.specs.Rules.{Applied, lowestRule, applies}
+use Rattle.party.specs.Party.{Party, levelAt, withLevel, componentOf, sending, contextOf, entering, entered, heldBy, hearing}
 use Rattle.party.specs.Run.{Ran, ruleAt, openAt, openLevel, descend, gate, afterRule, madeBy, resting, oneMore, stepAt, runUpTo, run, starting, taking}
 use Rattle.range_as_path.proofs.Geometry.{Alike, alike-size, alike-centre, alike-degree, alike-port, alike-neighbour, alike-side}
 

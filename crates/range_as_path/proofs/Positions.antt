@@ -7,9 +7,10 @@ use native.Mathlib.Omega.{arith}
 use lib.Dec.{leb, ltb, eqb}
 use lib.IntN.{ℤ, pos, negsuc}
 use borrow.Author.Tests.{eq-eqb, ne-eqb, lt-ltb, le-leb, leb-true, leb-false, eqb-false}
+use Rattle.base.specs.Limits.{offsetZero}
 use Rattle.base.specs.Pick.{pick}
 use Rattle.signed.specs.Signed.{fromOffset}
-use Rattle.plan.specs.declared.Plan.{Plan}
+use Rattle.plan.specs.Plan.{Plan}
 use Rattle.plan.specs.Positions.{readingOf}
 use Rattle.level.specs.Level.{noOutput}
 use Rattle.board_calls.specs.declared.Answer.{Answer}
@@ -45,18 +46,18 @@ module _ (p : Plan) where
   range-reading k x = other (eqb (p .kind) 1) (pos x) (fromOffset (p .low + x)) (ne-eqb (p .kind) 1 (λ z. omega arith))
 
   offset-position : (u x : ℕ) → u ≡ p .low + x → rangePosition p (fromOffset u) ≡ onPlan p x
-  offset-position u x e = go (leb 2147483648 u) refl
+  offset-position u x e = go (leb offsetZero u) refl
     where
-      go : (b : Bool) → leb 2147483648 u ≡ b → rangePosition p (pick b (pos (u - 2147483648)) (negsuc (2147483647 - u))) ≡ onPlan p x
+      go : (b : Bool) → leb offsetZero u ≡ b → rangePosition p (pick b (pos (u - offsetZero)) (negsuc (offsetZero - 1 - u))) ≡ onPlan p x
       go true i =
-          let y : ℕ = u - 2147483648 in
-          let l = leb-true 2147483648 u i in
-          chosen (leb (p .low) (y + 2147483648)) (onPlan p (y + 2147483648 - p .low)) noOutput (le-leb (p .low) (y + 2147483648) (omega arith))
+          let y : ℕ = u - offsetZero in
+          let l = leb-true offsetZero u i in
+          chosen (leb (p .low) (y + offsetZero)) (onPlan p (y + offsetZero - p .low)) noOutput (le-leb (p .low) (y + offsetZero) (omega arith))
           ∙ ap (onPlan p) (omega arith)
       go false i =
-          let y : ℕ = 2147483647 - u in
-          let l = leb-false 2147483648 u i in
-          chosen (leb (p .low + (y + 1)) 2147483648) (onPlan p (2147483648 - (y + 1) - p .low)) noOutput (le-leb (p .low + (y + 1)) 2147483648 (omega arith))
+          let y : ℕ = offsetZero - 1 - u in
+          let l = leb-false offsetZero u i in
+          chosen (leb (p .low + (y + 1)) offsetZero) (onPlan p (offsetZero - (y + 1) - p .low)) noOutput (le-leb (p .low + (y + 1)) offsetZero (omega arith))
           ∙ ap (onPlan p) (omega arith)
 
   pub range-position : p .kind ≡ 2 → (x : ℕ) → positionOf p (fromOffset (p .low + x)) ≡ onPlan p x

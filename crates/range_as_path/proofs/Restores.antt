@@ -9,14 +9,13 @@ use Rattle.base.specs.Put.{putAt}
 use Rattle.base.specs.Limits.{outgoingSize}
 use Rattle.base.specs.Found.{Found, ask}
 use Rattle.settings.specs.Settings.{settingsFault, settingsFit}
-use Rattle.plan.specs.declared.Plan.{Plan}
+use Rattle.plan.specs.Plan.{Plan}
 use Rattle.plan.specs.Reading.{planOf, settledPlan}
 use Rattle.message.specs.declared.Message.{Message}
 use Rattle.journal.specs.declared.Record.{Record}
 use Rattle.journal.specs.declared.RecordRead.{RecordRead}
-use Rattle.journal.specs.Journal.{recordAt}
-use Rattle.party.specs.declared.Party.{Party}
-use Rattle.party.specs.Party.{newParty}
+use Rattle.journal.specs.Reading.{recordAt}
+use Rattle.party.specs.Party.{Party, newParty}
 use Rattle.party.specs.Run.{Ran, resting, bytesOf}
 use Rattle.party_life.specs.Life.{replayed, following, fault}
 use Rattle.board_calls.specs.Calls.{setUpAnswer, setUpOf}

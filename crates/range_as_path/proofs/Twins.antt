@@ -8,14 +8,13 @@ use lib.Dec.{T, ltb, eqb}
 use Rattle.base.specs.Pick.{pick}
 use Rattle.base.specs.Limits.{maxRules}
 use Rattle.base.proofs.Bools.{T→true}
-use Rattle.plan.specs.declared.Plan.{Plan}
+use Rattle.plan.specs.Plan.{Plan}
 use Rattle.plan.specs.Valid.{planValid}
 use Rattle.message.specs.declared.Message.{Message}
 use Rattle.journal.specs.declared.Record.{Record}
 use Rattle.journal.specs.declared.Record.the-variants.{Start, Taken}
-use Rattle.level.specs.declared.Level.{Level}
-use Rattle.party.specs.declared.Party.{Party}
-use Rattle.party.specs.Party.{levelAt, componentOf, sending, contextOf, started, entered, heldBy, hearing, outputOf, newParty}
+use Rattle.level.specs.Level.{Level}
+use Rattle.party.specs.Party.{Party, levelAt, componentOf, sending, contextOf, started, entered, heldBy, hearing, outputOf, newParty}
 use Rattle.party.specs.Run.{Ran, ruleAt, openAt, openLevel, stepAt, resting, runUpTo, run, starting, taking}
 use Rattle.party.specs.Valid.{partyValid}
 use Rattle.party_life.specs.Life.{replayed, following, lived, fault, tabled, passes, Fits, Life}

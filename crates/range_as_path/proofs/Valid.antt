@@ -6,12 +6,10 @@ use lib.Dec.{leb, ltb, eqb}
 use Rattle.base.specs.Pick.{pick}
 use Rattle.base.specs.Sets.{Set}
 use Rattle.base.specs.Limits.{levelCount}
-use Rattle.plan.specs.declared.Plan.{Plan}
+use Rattle.plan.specs.Plan.{Plan}
 use Rattle.plan.specs.Valid.{planValid}
-use Rattle.level.specs.declared.Level.{Level}
-use Rattle.level.specs.Level.{notYet, noOutput}
-use Rattle.party.specs.declared.Party.{Party}
-use Rattle.party.specs.Party.{levelAt}
+use Rattle.level.specs.Level.{Level, notYet, noOutput}
+use Rattle.party.specs.Party.{Party, levelAt}
 use Rattle.party.specs.Valid.{everyLevel, settingsPass, setsPass, outputPasses, valuePasses, resultsPass, entryPasses, placePasses, levelPasses, partyValid}
 use Rattle.range_as_path.proofs.Geometry.{Alike}
 use Rattle.range_as_path.proofs.Parties.{retold, retold-component, retold-degree, retold-sending}

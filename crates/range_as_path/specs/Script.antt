@@ -5,7 +5,7 @@ use Prim.Native.Nat.{ℕ}
 use lib.ListN.{length}
 use Rattle.base.specs.Found.{Found}
 use Rattle.plan.specs.Positions.{readingOf}
-use Rattle.party.specs.declared.Party.{Party}
+use Rattle.party.specs.Party.{Party}
 use Rattle.board_calls.specs.Calls.{Entry, startQuestions, takeQuestions, calledOf, journalAfter, answeredOf}
 use Rattle.range_as_path.specs.Twin.{TwinParties, TwinCall, TwinAnswered}
 

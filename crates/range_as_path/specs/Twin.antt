@@ -11,19 +11,17 @@ use Rattle.base.specs.declared.Verdict.{Verdict}
 use Rattle.signed.specs.Signed.{fromOffset}
 use Rattle.tree.specs.Edges.{Edges, Adjacent}
 use Rattle.base.specs.Found.{Found, found, refused}
-use Rattle.plan.specs.declared.Plan.{Plan}
+use Rattle.plan.specs.Plan.{Plan}
 use Rattle.plan.specs.Positions.{edgesOf, readingOf}
 use Rattle.plan.specs.Reading.{planOf}
 use Rattle.plan.specs.Valid.{planValid}
 use Rattle.journal.specs.declared.Record.{Record}
-use Rattle.party.specs.declared.Party.{Party}
+use Rattle.party.specs.Party.{Party}
 use Rattle.party.specs.Run.{Ran}
-use Rattle.board_calls.specs.declared.SetUp.{SetUp}
-use Rattle.board_calls.specs.declared.Called.{Called}
 use Rattle.board_calls.specs.declared.Answered.{Answered}
 use Rattle.board_calls.specs.declared.Answer.{Answer}
 use Rattle.board_calls.specs.Answers.{positionOf}
-use Rattle.board_calls.specs.Calls.{Entry, again, fresh, noParty, setUpOf, startQuestions, takeQuestions, calledOf, journalAfter, outgoingAfter, answeredOf}
+use Rattle.board_calls.specs.Calls.{Called, SetUp, Entry, again, fresh, noParty, setUpOf, startQuestions, takeQuestions, calledOf, journalAfter, outgoingAfter, answeredOf}
 use Rattle.board_calls.specs.Restore.{Replay, restoreQuestions, restoredOf, restoreOutgoing}
 
 -- ---- plans

@@ -10,9 +10,11 @@ use lib.IntN.{ℤ, pos, negsuc}
 use lib.ListN.{length, take, drop}
 use lib.Signed.{mag, leZ}
 use borrow.Author.Tests.{le-leb, lt-leb}
+use Rattle.base.specs.Limits.{offsetZero}
 use Rattle.base.specs.Pick.{pick}
 use Rattle.varint.specs.declared.VarintRead.{VarintRead}
-use Rattle.varint.specs.Varint.{AllBytes, varintAt}
+use Rattle.varint.specs.Varint.{AllBytes}
+use Rattle.varint.specs.Reading.{varintAt}
 use Rattle.varint.proofs.RoundTrip.{varint-read, varint-was-written}
 use Rattle.signed.specs.declared.SignedRead.{SignedRead}
 use Rattle.signed.specs.Signed.{zigzag, unzigzag, signedBytes, signedOf, signedAt, offset, fromOffset, offsetOfZigzag}
@@ -65,15 +67,15 @@ signed-was-written s at z next h e =
 -- ---- offset binary
 
 pub from-offset : (z : ℤ) → mag z < 2 ^ 31 → fromOffset (offset z) ≡ z
-from-offset (pos n) h = rw (le-leb 2147483648 (n + 2147483648) (omega arith)) (ap pos (omega arith))
-from-offset (negsuc n) h = rw (lt-leb 2147483648 (2147483647 - n) (omega arith)) (ap negsuc (omega arith))
+from-offset (pos n) h = rw (le-leb offsetZero (n + offsetZero) (omega arith)) (ap pos (omega arith))
+from-offset (negsuc n) h = rw (lt-leb offsetZero (offsetZero - 1 - n) (omega arith)) (ap negsuc (omega arith))
 
 pub offset-from : (u : ℕ) → u < 2 ^ 32 → offset (fromOffset u) ≡ u
-offset-from u h = go (decLe 2147483648 u)
+offset-from u h = go (decLe offsetZero u)
   where
-    go : Dec (2147483648 ≤ u) → offset (fromOffset u) ≡ u
-    go (yes p) = rw (le-leb 2147483648 u p) (omega arith)
-    go (no p) = rw (lt-leb 2147483648 u (omega arith)) (omega arith)
+    go : Dec (offsetZero ≤ u) → offset (fromOffset u) ≡ u
+    go (yes p) = rw (le-leb offsetZero u p) (omega arith)
+    go (no p) = rw (lt-leb offsetZero u (omega arith)) (omega arith)
 
 pub offset-fits : (z : ℤ) → mag z < 2 ^ 31 → offset z < 2 ^ 32
 offset-fits (pos n) h = omega arith
@@ -82,7 +84,7 @@ offset-fits (negsuc n) h = omega arith
 pub offset-unzigzag : (v : ℕ) → offset (unzigzag v) ≡ offsetOfZigzag v
 offset-unzigzag v = go (eqb (v % 2) 0)
   where
-    go : (b : Bool) → offset (pick b (pos (v / 2)) (negsuc (v / 2))) ≡ pick b (2147483648 + v / 2) (2147483647 - v / 2)
+    go : (b : Bool) → offset (pick b (pos (v / 2)) (negsuc (v / 2))) ≡ pick b (offsetZero + v / 2) (offsetZero - 1 - v / 2)
     go true = omega arith
     go false = refl
 
@@ -90,13 +92,13 @@ offset-unzigzag v = go (eqb (v % 2) 0)
 pub offset-order : (a b : ℤ) → mag a < 2 ^ 31 → mag b < 2 ^ 31 → leZ a b ≡ leb (offset a) (offset b)
 offset-order (pos a) (pos b) h k = go (decLe a b)
   where
-    go : Dec (a ≤ b) → leb a b ≡ leb (a + 2147483648) (b + 2147483648)
-    go (yes p) = le-leb a b p ∙ sym (le-leb (a + 2147483648) (b + 2147483648) (omega arith))
-    go (no p) = lt-leb a b (omega arith) ∙ sym (lt-leb (a + 2147483648) (b + 2147483648) (omega arith))
-offset-order (pos a) (negsuc b) h k = sym (lt-leb (a + 2147483648) (2147483647 - b) (omega arith))
-offset-order (negsuc a) (pos b) h k = sym (le-leb (2147483647 - a) (b + 2147483648) (omega arith))
+    go : Dec (a ≤ b) → leb a b ≡ leb (a + offsetZero) (b + offsetZero)
+    go (yes p) = le-leb a b p ∙ sym (le-leb (a + offsetZero) (b + offsetZero) (omega arith))
+    go (no p) = lt-leb a b (omega arith) ∙ sym (lt-leb (a + offsetZero) (b + offsetZero) (omega arith))
+offset-order (pos a) (negsuc b) h k = sym (lt-leb (a + offsetZero) (offsetZero - 1 - b) (omega arith))
+offset-order (negsuc a) (pos b) h k = sym (le-leb (offsetZero - 1 - a) (b + offsetZero) (omega arith))
 offset-order (negsuc a) (negsuc b) h k = go (decLe b a)
   where
-    go : Dec (b ≤ a) → leb b a ≡ leb (2147483647 - a) (2147483647 - b)
-    go (yes p) = le-leb b a p ∙ sym (le-leb (2147483647 - a) (2147483647 - b) (omega arith))
-    go (no p) = lt-leb b a (omega arith) ∙ sym (lt-leb (2147483647 - a) (2147483647 - b) (omega arith))
+    go : Dec (b ≤ a) → leb b a ≡ leb (offsetZero - 1 - a) (offsetZero - 1 - b)
+    go (yes p) = le-leb b a p ∙ sym (le-leb (offsetZero - 1 - a) (offsetZero - 1 - b) (omega arith))
+    go (no p) = lt-leb b a (omega arith) ∙ sym (lt-leb (offsetZero - 1 - a) (offsetZero - 1 - b) (omega arith))

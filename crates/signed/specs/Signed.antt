@@ -3,9 +3,11 @@ use mathlib.Core.List.{List}
 use Prim.Native.Nat.{ℕ, _+_, _-_, _*_, _/_, _%_}
 use lib.Dec.{eqb, leb}
 use lib.IntN.{ℤ, pos, negsuc}
+use Rattle.base.specs.Limits.{offsetZero}
 use Rattle.base.specs.Pick.{pick}
 use Rattle.varint.specs.declared.VarintRead.{VarintRead}
-use Rattle.varint.specs.Varint.{varintBytes, varintAt}
+use Rattle.varint.specs.Varint.{varintBytes}
+use Rattle.varint.specs.Reading.{varintAt}
 use Rattle.signed.specs.declared.SignedRead.{SignedRead}
 
 -- negsuc n is -(n + 1)
@@ -30,13 +32,13 @@ signedAt s at = signedOf (varintAt s at)
 
 -- Offset binary: z + 2^31, so that a signed 32-bit number is a number from 0 to 2^32 - 1 in the same order.
 abbrev pub offset : ℤ → ℕ
-offset (pos n) = n + 2147483648
-offset (negsuc n) = 2147483647 - n
+offset (pos n) = n + offsetZero
+offset (negsuc n) = offsetZero - 1 - n
 
 -- the number whose offset binary is u
 abbrev pub fromOffset : ℕ → ℤ
-fromOffset u = pick (leb 2147483648 u) (pos (u - 2147483648)) (negsuc (2147483647 - u))
+fromOffset u = pick (leb offsetZero u) (pos (u - offsetZero)) (negsuc (offsetZero - 1 - u))
 
 -- offset binary of the number that the varint v stands for
 abbrev pub offsetOfZigzag : ℕ → ℕ
-offsetOfZigzag v = pick (eqb (v % 2) 0) (2147483648 + v / 2) (2147483647 - v / 2)
+offsetOfZigzag v = pick (eqb (v % 2) 0) (offsetZero + v / 2) (offsetZero - 1 - v / 2)

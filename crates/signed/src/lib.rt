@@ -1,8 +1,11 @@
 // Signed numbers as varints: 2z for z of 0 or more, else -2z-1.
 ghost use mathlib.Core.Path.{_≡_};
 ghost use Prim.Native.Nat.{_+_, _≤_};
-ghost use Rattle.varint.specs.Varint.{writtenOf, bufferOf};
+ghost use Rattle.varint.specs.Writing.{writtenOf, bufferOf};
 ghost use Rattle.signed.specs.Signed.{zigzag, unzigzag, signedAt, signedBytes, offset, fromOffset, offsetOfZigzag};
+
+// Where -1 stands in offset binary.
+const MINUS_ONE: u32 = base::OFFSET_ZERO - 1;
 
 // What reading a signed number finds: as for a varint.
 pub enum SignedRead {
@@ -37,9 +40,9 @@ pub fn offset_of_zigzag(v: u32) -> u32
     ensures { λ r. ⌜ r ≡ offsetOfZigzag v ⌝ }
 {
     if v % 2 == 0 {
-        return 2147483648 + v / 2;
+        return base::OFFSET_ZERO + v / 2;
     }
-    2147483647 - v / 2
+    MINUS_ONE - v / 2
 }
 
 // The signed number at `at`.

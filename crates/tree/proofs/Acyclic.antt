@@ -6,7 +6,8 @@ use Prim.Native.Nat.{ℕ}
 use lib.Dec.{T}
 use Rattle.base.specs.Sets.{Set}
 use Rattle.tree.specs.Walk.{Walk, Not}
-use Rattle.tree.specs.Edges.{Edge, Edges, Adjacent, In, all, label, Acyclic}
+use Rattle.tree.specs.Edges.{Edge, Edges, Adjacent, all, label}
+use Rattle.tree.specs.Inner.{In, Acyclic}
 use Rattle.tree.specs.Component.{without}
 use Rattle.tree.proofs.Walks.{mono, first, last}
 use Rattle.tree.proofs.Without.{to-without, without-not}

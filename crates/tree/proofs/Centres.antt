@@ -11,7 +11,8 @@ use Rattle.base.proofs.Bools.{T-and, T-left, T-right, or-split}
 use Rattle.base.proofs.Counts.{count-mono, count-none, member, count-pos, count-lt, count-or-and}
 use Rattle.base.proofs.Smallest.{found}
 use Rattle.tree.specs.Walk.{Walk, here, step, Not}
-use Rattle.tree.specs.Edges.{Edges, Adjacent, In, Acyclic}
+use Rattle.tree.specs.Edges.{Edges, Adjacent}
+use Rattle.tree.specs.Inner.{In, Acyclic}
 use Rattle.tree.specs.Component.{without, part, heavy, light, centre}
 use Rattle.tree.proofs.Walks.{mono, first, last, join, back, cut}
 use Rattle.tree.proofs.Edges.{flip}

@@ -3,7 +3,8 @@ use Prim.Native.Nat.{ℕ, _<_}
 use lib.Dec.{T}
 use Rattle.base.specs.Sets.{Set}
 use Rattle.tree.specs.Walk.{Walk}
-use Rattle.tree.specs.Edges.{Edges, Adjacent, In}
+use Rattle.tree.specs.Edges.{Edges, Adjacent}
+use Rattle.tree.specs.Inner.{In}
 
 -- S has a member, its members are below n, and any two are joined by a walk inside S
 pub record Component (E : Edges) (n : ℕ) (S : Set) : Type 0 where

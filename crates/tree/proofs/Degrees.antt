@@ -9,7 +9,8 @@ use lib.Dec.{T, eqb, eqb→eq}
 use Rattle.base.specs.Sets.{Set, bit, count}
 use Rattle.base.proofs.Bools.{T-right, or-split}
 use Rattle.base.proofs.Counts.{count-mono, count-or-and, count-none, count-one}
-use Rattle.tree.specs.Edges.{Edge, Edges, Acyclic, label, all, ends, adjacent, edgesAt}
+use Rattle.tree.specs.Edges.{Edge, Edges, label, all, ends, adjacent, edgesAt}
+use Rattle.tree.specs.Inner.{Acyclic}
 use Rattle.tree.specs.Component.{centre, neighbours, degree}
 use Rattle.tree.proofs.Acyclic.{apart-ends}
 

@@ -7,7 +7,8 @@ use Prim.Native.Nat.{ℕ, _<_}
 use lib.Dec.{T, eqb, eqb→eq, eqb-refl}
 use Rattle.base.proofs.Bools.{T-and, T-left, T-right, or-split, or-left, or-right}
 use Rattle.tree.specs.Walk.{Walk, here, step}
-use Rattle.tree.specs.Edges.{Edge, Edges, Ends, Adjacent, ends, adjacent, Below}
+use Rattle.tree.specs.Edges.{Edge, Edges, Ends, Adjacent, ends, adjacent}
+use Rattle.tree.specs.Inner.{Below}
 
 -- adjacency is symmetric
 pub flip : (E : Edges) (x y : ℕ) → Adjacent E x y → Adjacent E y x

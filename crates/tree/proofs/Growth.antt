@@ -8,8 +8,9 @@ use lib.Dec.{T, eqb, eqb→eq, eqb-refl}
 use Rattle.base.specs.Pick.{pick}
 use Rattle.base.specs.Sets.{Set}
 use Rattle.base.proofs.Bools.{or-split, or-left, or-right}
-use Rattle.tree.specs.Edges.{Edge, Edges, Adjacent, label, all, Acyclic}
-use Rattle.tree.specs.Growth.{reached, Grown}
+use Rattle.tree.specs.Edges.{Edge, Edges, Adjacent, label, all}
+use Rattle.tree.specs.Inner.{Acyclic, Grown}
+use Rattle.tree.specs.Growth.{reached}
 use Rattle.tree.proofs.Labels.{relabel, Relabelled, moved, kept, relabelled, joined-label}
 
 -- position 0 is reached

@@ -12,9 +12,10 @@ use Rattle.base.specs.Sets.{bit, count}
 use Rattle.base.proofs.Bools.{T-left, T-right, T→true, not-T→false, T-ext, or-split, or-left}
 use Rattle.base.proofs.Counts.{count-le, count-or-and, count-same, count-more, count-none, count-single, count-full, count-all}
 use Rattle.tree.specs.Walk.{Walk, here, step, Not}
-use Rattle.tree.specs.Edges.{Edge, Edges, Ends, Adjacent, ends, adjacent, In, all, label, edgesAt, Acyclic, Below}
+use Rattle.tree.specs.Edges.{Edge, Edges, Ends, Adjacent, ends, adjacent, all, label, edgesAt}
+use Rattle.tree.specs.Inner.{In, Acyclic, Below, Grown}
 use Rattle.tree.specs.Component.{upto}
-use Rattle.tree.specs.Growth.{reached, Grown, sweep, sweeps}
+use Rattle.tree.specs.Growth.{reached, sweep, sweeps}
 use Rattle.tree.proofs.Walks.{mono, join, back, gate}
 use Rattle.tree.proofs.Edges.{flip, more, adjacent-below, adjacent→, adjacent←}
 use Rattle.tree.proofs.Labels.{edge-label}

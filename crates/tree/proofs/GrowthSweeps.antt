@@ -9,8 +9,9 @@ use native.Mathlib.Omega.{arith}
 use lib.Dec.{T}
 use lib.ListN.{length}
 use Rattle.base.proofs.Bools.{true→T, false→not-T}
-use Rattle.tree.specs.Edges.{Edge, Edges, Ends, Adjacent, Below}
-use Rattle.tree.specs.Growth.{reached, Grown, extended, sweep, sweeps}
+use Rattle.tree.specs.Edges.{Edge, Edges, Ends, Adjacent}
+use Rattle.tree.specs.Inner.{Below, Grown}
+use Rattle.tree.specs.Growth.{reached, extended, sweep, sweeps}
 use Rattle.tree.proofs.Growth.{reached-old, ends-reached}
 
 -- ---- one sweep

@@ -9,7 +9,8 @@ use Rattle.base.specs.Pick.{pick}
 use Rattle.base.specs.Sets.{Set}
 use Rattle.base.proofs.Bools.{T-and, T-left, T-right, T→true}
 use Rattle.tree.specs.Walk.{Walk, here, step}
-use Rattle.tree.specs.Edges.{Edge, Edges, Adjacent, In, all, label, joined}
+use Rattle.tree.specs.Edges.{Edge, Edges, Adjacent, all, label, joined}
+use Rattle.tree.specs.Inner.{In}
 use Rattle.tree.proofs.Walks.{mono, first, join}
 use Rattle.tree.proofs.Edges.{more}
 

@@ -7,7 +7,8 @@ use native.Mathlib.Decide.{decLt}
 use native.Mathlib.Omega.{arith}
 use lib.ListN.{length}
 use Rattle.base.specs.Sets.{Set, count}
-use Rattle.tree.specs.Edges.{Edges, Acyclic}
+use Rattle.tree.specs.Edges.{Edges}
+use Rattle.tree.specs.Inner.{Acyclic}
 use Rattle.tree.specs.Component.{degree, side}
 use Rattle.tree.proofs.Components.{Component}
 use Rattle.tree.proofs.Sides.{side-component, side-halves}

@@ -7,7 +7,8 @@ use lib.Dec.{T}
 use Rattle.base.specs.Sets.{Set}
 use Rattle.base.proofs.Bools.{T-dec}
 use Rattle.tree.specs.Walk.{Walk, here, Not, OnPath}
-use Rattle.tree.specs.Edges.{Edges, Adjacent, In, all, joined}
+use Rattle.tree.specs.Edges.{Edges, Adjacent, all, joined}
+use Rattle.tree.specs.Inner.{In}
 use Rattle.tree.specs.Component.{without}
 use Rattle.tree.proofs.Walks.{mono, first, last, join, back, cut, to-point}
 use Rattle.tree.proofs.Edges.{flip}

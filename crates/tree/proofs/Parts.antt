@@ -7,7 +7,8 @@ use lib.Dec.{T}
 use Rattle.base.specs.Sets.{Set}
 use Rattle.base.proofs.Bools.{T-and, T-left, T-right, T-dec}
 use Rattle.tree.specs.Walk.{Walk, here, step, Not, OnPath}
-use Rattle.tree.specs.Edges.{Edges, Adjacent, In, Acyclic}
+use Rattle.tree.specs.Edges.{Edges, Adjacent}
+use Rattle.tree.specs.Inner.{In, Acyclic}
 use Rattle.tree.specs.Component.{without, part}
 use Rattle.tree.proofs.Walks.{mono, first, last, join, back, cut, gate}
 use Rattle.tree.proofs.Edges.{flip}

@@ -9,9 +9,9 @@ use Rattle.base.proofs.Bools.{T-and, T-left, T-right}
 use Rattle.base.proofs.Counts.{count-none, count-pos}
 use Rattle.base.proofs.Smallest.{smallest-is}
 use Rattle.tree.specs.Walk.{Walk, Not}
-use Rattle.tree.specs.Edges.{Edges, Adjacent, In}
+use Rattle.tree.specs.Edges.{Edges, Adjacent}
+use Rattle.tree.specs.Inner.{In, interval, middle}
 use Rattle.tree.specs.Component.{without, part, heavy, light, centre}
-use Rattle.tree.specs.Path.{interval, middle}
 use Rattle.tree.proofs.Walks.{mono, back}
 use Rattle.tree.proofs.Edges.{flip}
 use Rattle.tree.proofs.Without.{to-without, without-in, without-not}

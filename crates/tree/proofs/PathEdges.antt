@@ -11,7 +11,8 @@ use lib.ListN.{length}
 use Rattle.base.specs.Sets.{bit}
 use Rattle.base.proofs.Bools.{or-split}
 use Rattle.tree.specs.Walk.{Walk, here, step}
-use Rattle.tree.specs.Edges.{Edges, Adjacent, In, all, edgesAt, Acyclic, Below}
+use Rattle.tree.specs.Edges.{Edges, Adjacent, all, edgesAt}
+use Rattle.tree.specs.Inner.{In, Acyclic, Below}
 use Rattle.tree.specs.Path.{pathEdges}
 use Rattle.tree.proofs.Edges.{flip}
 use Rattle.tree.proofs.Labels.{joined-walk}

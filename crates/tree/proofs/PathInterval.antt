@@ -8,7 +8,7 @@ use lib.Dec.{T, leb, leb→le, le→leb, lt→ltb, ltb→lt}
 use Rattle.base.specs.Sets.{Set, bit, count}
 use Rattle.base.proofs.Bools.{T-and, T-left, T-right, T-ext}
 use Rattle.tree.specs.Component.{upto}
-use Rattle.tree.specs.Path.{interval}
+use Rattle.tree.specs.Inner.{interval}
 
 pub to-interval : (a b x : ℕ) → a ≤ x → x ≤ b → T (interval a b x)
 unfolding interval

@@ -10,7 +10,8 @@ use lib.ListN.{length, replicate, length-replicate}
 use Rattle.base.specs.Sets.{Set, count}
 use Rattle.tree.specs.Edges.{Edges}
 use Rattle.tree.specs.Component.{upto, degree, side}
-use Rattle.tree.specs.Path.{pathEdges, interval, middle}
+use Rattle.tree.specs.Path.{pathEdges}
+use Rattle.tree.specs.Inner.{interval, middle}
 use Rattle.tree.proofs.Whole.{whole, count-upto}
 use Rattle.tree.proofs.PathEdges.{Along, path-along, path-below, path-length, path-acyclic}
 use Rattle.tree.proofs.PathInterval.{to-interval, upto-interval, interval-size}

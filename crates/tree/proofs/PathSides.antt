@@ -12,7 +12,7 @@ use Rattle.base.proofs.Bools.{T-and, T-left, T-right, T→true, not-T→false}
 use Rattle.base.proofs.Smallest.{smallest-is}
 use Rattle.tree.specs.Edges.{Edges, Adjacent}
 use Rattle.tree.specs.Component.{part, centre, neighbours, degree, rank, neighbour, side, gateway, port}
-use Rattle.tree.specs.Path.{interval, middle}
+use Rattle.tree.specs.Inner.{interval, middle}
 use Rattle.tree.proofs.Edges.{flip, adjacent→, adjacent←}
 use Rattle.tree.proofs.PathEdges.{Next, Along}
 use Rattle.tree.proofs.PathInterval.{to-interval, from-interval}

@@ -13,7 +13,8 @@ use Rattle.base.proofs.Counts.{count-pos}
 use Rattle.base.proofs.Smallest.{sought, found}
 use Rattle.base.proofs.Ranks.{count-grow, rank-rises, same-rank, at-rank}
 use Rattle.tree.specs.Walk.{Walk, here, Not, OnPath}
-use Rattle.tree.specs.Edges.{Edges, Adjacent, In, Acyclic}
+use Rattle.tree.specs.Edges.{Edges, Adjacent}
+use Rattle.tree.specs.Inner.{In, Acyclic}
 use Rattle.tree.specs.Component.{without, part, centre, neighbours, degree, rank, neighbour, side, gateway, port}
 use Rattle.tree.proofs.Walks.{first, last, join, back}
 use Rattle.tree.proofs.Edges.{flip, adjacent→, adjacent←}

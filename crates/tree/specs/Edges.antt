@@ -3,7 +3,7 @@ use mathlib.Core.Path.{_≡_}
 use mathlib.Core.Logic.{_⊎_}
 use mathlib.Core.List.{List, [], _∷_}
 use mathlib.Core.Bool.{Bool, true, false, _&&_, _||_}
-use Prim.Native.Nat.{ℕ, _+_, _<_}
+use Prim.Native.Nat.{ℕ, _+_}
 use lib.Dec.{T, eqb}
 use Rattle.base.specs.Pick.{pick}
 use Rattle.base.specs.Sets.{Set, bit}
@@ -37,10 +37,6 @@ adjacent (e ∷ E) x y = ends e x y || adjacent E x y
 abbrev pub all : Set
 all = λ _. true
 
--- x is in the set
-abbrev pub In : Set → ℕ → Type 0
-In S x = T (S x)
-
 -- Labels: two members of S have the same label exactly when the edges inside S join them by a walk.
 unfoldable pub label : Set → Edges → ℕ → ℕ
 label S [] x = x
@@ -54,13 +50,3 @@ joined S E x y = eqb (label S E x) (label S E y)
 unfoldable pub edgesAt : Edges → ℕ → ℕ
 edgesAt [] c = 0
 edgesAt (e ∷ E) c = bit (eqb c (e .one) || eqb c (e .two)) + edgesAt E c
-
--- "Are its ends not yet joined through earlier edges?", of each edge
-abbrev pub Acyclic : Edges → Type 0
-Acyclic [] = Unit {0}
-Acyclic (e ∷ E) = (T (joined all E (e .one) (e .two)) → ⊥) × Acyclic E
-
--- every end is below n
-abbrev pub Below : ℕ → Edges → Type 0
-Below n [] = Unit {0}
-Below n (e ∷ E) = (e .one < n) × (e .two < n) × Below n E

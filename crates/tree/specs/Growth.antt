@@ -1,8 +1,8 @@
 -- Edges in an order in which the tree grows from position 0.
-use mathlib.Core.List.{List, [], _∷_}
+use mathlib.Core.List.{[], _∷_}
 use mathlib.Core.Bool.{Bool, true, false, _||_}
 use Prim.Native.Nat.{ℕ, zero, suc}
-use lib.Dec.{T, eqb}
+use lib.Dec.{eqb}
 use Rattle.base.specs.Sets.{Set}
 use Rattle.tree.specs.Edges.{Edge, Edges}
 
@@ -10,11 +10,6 @@ use Rattle.tree.specs.Edges.{Edge, Edges}
 unfoldable pub reached : Edges → Set
 reached [] x = eqb x 0
 reached (e ∷ E) x = eqb x (e .two) || reached E x
-
--- each edge leads from a position that is reached to one that is not
-abbrev pub Grown : Edges → Type 0
-Grown [] = Unit {0}
-Grown (e ∷ E) = T (reached E (e .one)) × (T (reached E (e .two)) → ⊥) × Grown E
 
 -- the edge turned so that it leads on, where just one end is reached
 abbrev pub extended : Bool → Bool → Edge → Edges → Edges

@@ -2,5 +2,5 @@ pub mod Walk
 pub mod Edges
 pub mod Component
 pub mod Growth
-pub mod Passes
 pub mod Path
+pub mod Inner

@@ -14,7 +14,7 @@ use Rattle.base.specs.Sets.{count}
 use Rattle.base.proofs.Bools.{T-ext}
 use Rattle.base.proofs.Smallest.{smallest-same}
 use Rattle.tree.specs.Edges.{Edge}
-use Rattle.tree.specs.Passes.{inside, subtree, shows, bad, unshown}
+use Rattle.tree.specs.Inner.{inside, subtree, shows, bad, unshown}
 use Rattle.tree.proofs.GrowthLight.{bad-same}
 use Rattle.edges.specs.Rows.{rows}
 use Rattle.marks.specs.Marks.{marked}

@@ -13,9 +13,8 @@ use Rattle.base.specs.Limits.{maxVertices}
 use Rattle.base.specs.Pick.{pick}
 use Rattle.base.specs.Sets.{Set, bit}
 use Rattle.base.proofs.Counts.{count-le}
-use Rattle.tree.specs.Edges.{Edge, Below}
-use Rattle.tree.specs.Growth.{Grown}
-use Rattle.tree.specs.Passes.{inside, lift, up, subtree}
+use Rattle.tree.specs.Edges.{Edge}
+use Rattle.tree.specs.Inner.{Below, Grown, inside, lift, up, subtree}
 use Rattle.tree.proofs.Growth.{reached-old}
 use Rattle.tree.proofs.GrowthSizes.{up-same, up-least, up-most}
 use Rattle.edges.specs.Rows.{rows}

@@ -6,7 +6,7 @@ ghost use lib.ListN.{length, getD};
 ghost use Rattle.base.specs.Pick.{smallest};
 ghost use Rattle.base.specs.Sets.{bit};
 ghost use Rattle.base.specs.Limits.{maxVertices};
-ghost use Rattle.tree.specs.Passes.{subtree, bad, unshown};
+ghost use Rattle.tree.specs.Inner.{subtree, bad, unshown};
 ghost use Rattle.edges.specs.Rows.{rows};
 ghost use Rattle.marks.specs.Marks.{marked};
 ghost use Rattle.tree_pass.specs.Inner.{Rows};

@@ -11,7 +11,8 @@ use lib.ListN.{length, getD, length-append, List·getD-append}
 use lib.Seq.{getD-at}
 use Rattle.varint.specs.declared.VarintRead.{VarintRead}
 use Rattle.varint.specs.declared.VarintRead.the-variants.{Value, Short, Malformed}
-use Rattle.varint.specs.Varint.{AllBytes, piecesAt, prefixed, within, varintAt, varintWithin}
+use Rattle.varint.specs.Varint.{AllBytes}
+use Rattle.varint.specs.Reading.{piecesAt, prefixed, within, varintAt, varintWithin}
 use Rattle.varint.proofs.RoundTrip.{value-place}
 use Rattle.varint.proofs.Laws.{at-none, at-end, at-last, at-more, prefixed-none, prefixed-large, prefixed-value, prefixed-short, prefixed-short-large, prefixed-short-inverse, within-short-inverse, within-below, within-above, within-value, within-short, within-short-above, Stands, ended, last, more, stands}
 

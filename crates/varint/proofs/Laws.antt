@@ -16,7 +16,9 @@ use Rattle.base.specs.Put.{putAt}
 use Rattle.varint.specs.declared.Written.the-variants.{Bytes, NoRoom}
 use Rattle.varint.specs.declared.VarintRead.{VarintRead}
 use Rattle.varint.specs.declared.VarintRead.the-variants.{Value, Short, Malformed}
-use Rattle.varint.specs.Varint.{AllBytes, pieces, piecesAt, prefixed, within, varintAt, varintWithin, varintLength, writtenOf, bufferOf}
+use Rattle.varint.specs.Varint.{AllBytes, pieces, varintLength}
+use Rattle.varint.specs.Reading.{piecesAt, prefixed, within, varintAt, varintWithin}
+use Rattle.varint.specs.Writing.{writtenOf, bufferOf}
 
 -- piecesAt, case by case
 pub at-none : (f : ℕ) (s : List ℕ) (at : ℕ) → f ≡ 0 → Malformed ≡ piecesAt f s at

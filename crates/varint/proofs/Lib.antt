@@ -2,3 +2,4 @@ pub mod Laws
 pub mod RoundTrip
 pub mod Lengths
 pub mod Further
+pub mod Theorem

@@ -10,7 +10,8 @@ use lib.ListN.{length, getD, take, drop, length-append}
 use lib.Seq.{getD-append-seam}
 use Rattle.base.proofs.Parts.{part-first}
 use Rattle.varint.specs.declared.VarintRead.the-variants.{Value, Malformed}
-use Rattle.varint.specs.Varint.{AllBytes, pieces, piecesAt, prefixed, varintAt, varintWithin, varintBytes}
+use Rattle.varint.specs.Varint.{AllBytes, pieces, varintBytes}
+use Rattle.varint.specs.Reading.{piecesAt, prefixed, varintAt, varintWithin}
 use Rattle.varint.proofs.Laws.{at-none, at-end, at-last, at-more, pieces-none, pieces-last, pieces-more, prefixed-value, prefixed-inverse, within-value, read-as, Stands, ended, last, more, stands}
 
 -- ---- what is written is read back

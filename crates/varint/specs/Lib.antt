@@ -1,1 +1,4 @@
 pub mod Varint
+pub mod Writing
+pub mod Reading
+pub mod Statement

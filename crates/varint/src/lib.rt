@@ -3,7 +3,9 @@ ghost use mathlib.Core.Path.{_≡_};
 ghost use Prim.Native.Nat.{_+_, _≤_, _<_};
 ghost use lib.ListN.{length};
 ghost use Rattle.base.specs.Put.{putAt};
-ghost use Rattle.varint.specs.Varint.{pieceSize, piecesAt, pieces, varintAt, varintWithin, varintBytes, prefixed, writtenOf, bufferOf};
+ghost use Rattle.varint.specs.Varint.{pieceSize, pieces, varintBytes};
+ghost use Rattle.varint.specs.Reading.{piecesAt, varintAt, varintWithin, prefixed};
+ghost use Rattle.varint.specs.Writing.{writtenOf, bufferOf};
 
 // A piece is a number below this; a byte that is not the last has this bit set besides.
 const TOP: u8 = 128;

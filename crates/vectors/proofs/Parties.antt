@@ -7,7 +7,8 @@ use Rattle.tree.specs.Edges.{label, joined, adjacent, ends, edgesAt}
 use Rattle.tree.specs.Growth.{reached, sweep, sweeps}
 use Rattle.tree.specs.Component.{upto, without, part, heavy, light, centre, neighbours, degree, rank, neighbour, side, gateway, port}
 use Rattle.tree.specs.Path.{pathEdges}
-use Rattle.varint.specs.Varint.{pieces, piecesAt}
+use Rattle.varint.specs.Varint.{pieces}
+use Rattle.varint.specs.Reading.{piecesAt}
 use Rattle.edges.specs.Reading.{edgesFrom}
 use Rattle.edges.specs.Rows.{rows}
 use Rattle.plan.specs.Positions.{edgesOf, column}

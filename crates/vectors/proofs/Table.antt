@@ -12,7 +12,8 @@ use Rattle.tree.specs.Path.{pathEdges}
 use Rattle.tree.proofs.PathEdges.{path-along}
 use Rattle.tree.proofs.PathCentre.{interval-centre}
 use Rattle.tree.proofs.PathSides.{interval-side-two}
-use Rattle.varint.specs.Varint.{pieces, piecesAt}
+use Rattle.varint.specs.Varint.{pieces}
+use Rattle.varint.specs.Reading.{piecesAt}
 use Rattle.plan.specs.Reading.{planFrom, settledPlan}
 use Rattle.message.specs.Message.{messageBytes}
 use Rattle.senders.specs.Senders.{withSender, unionOver}

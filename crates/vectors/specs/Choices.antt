@@ -7,13 +7,11 @@ use Prim.Native.Nat.{ℕ}
 use Rattle.message.specs.declared.Body.{Body}
 use Rattle.message.specs.declared.Body.the-variants.{FirstEcho, FirstProposal, SecondEcho, SecondProposal, Side, Centre}
 use Rattle.message.specs.Message.{noneValue}
-use Rattle.level.specs.declared.Level.{Level}
 use Rattle.level.specs.declared.Context.{Context}
-use Rattle.level.specs.declared.Applied.{Applied}
 use Rattle.level.specs.declared.Effect.{Effect}
 use Rattle.level.specs.declared.Effect.the-variants.{Nothing, Quiet, Send, Enter, SendEnter}
-use Rattle.level.specs.Level.{noOutput, blankLevel, withHeard, withPortEcho, withNoneEcho, withProposal, withFirst, withSecondEcho, withSecondProposal, withResult, withOutput, withCentreTold}
-use Rattle.level.specs.Rules.{rule1, rule2, rule3, rule4, rule5, rule6, rule7, rule8, rule9, rule10, rule11, rule12, rule13, rule14}
+use Rattle.level.specs.Level.{Level, noOutput, blankLevel, withHeard, withPortEcho, withNoneEcho, withProposal, withFirst, withSecondEcho, withSecondProposal, withResult, withOutput, withCentreTold}
+use Rattle.level.specs.Rules.{Applied, rule1, rule2, rule3, rule4, rule5, rule6, rule7, rule8, rule9, rule10, rule11, rule12, rule13, rule14}
 use Rattle.vectors.specs.Sums.{hearing, _from_}
 
 abbrev pub Rule : Type 0

@@ -7,9 +7,8 @@ use Prim.Native.Nat.{ℕ, _-_}
 use lib.ListN.{getD}
 use Rattle.message.specs.declared.Body.the-variants.{FirstEcho, SecondEcho, SecondProposal, Side, Centre}
 use Rattle.message.specs.Message.{noneValue}
-use Rattle.level.specs.declared.Level.{Level}
 use Rattle.level.specs.declared.Context.{Context}
-use Rattle.level.specs.Level.{noOutput, blankLevel, withPortEcho, withFirst, withSecondEcho, withResult, withCentreTold}
+use Rattle.level.specs.Level.{Level, noOutput, blankLevel, withPortEcho, withFirst, withSecondEcho, withResult, withCentreTold}
 use Rattle.level.specs.Rules.{rule1, rule2, rule3, rule4, rule5, rule6, rule7, rule8, rule9, rule10, rule11, rule12, rule13, rule14, lowestRule, applies, idle}
 use Rattle.vectors.specs.Choices.{Rule, atPort, atPortAbove, two, three}
 

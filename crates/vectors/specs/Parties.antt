@@ -6,9 +6,9 @@ use mathlib.Core.List.{List, [], _∷_}
 use Prim.Native.Nat.{ℕ, zero, suc, _+_}
 use Rattle.base.specs.Pick.{pick}
 use Rattle.base.specs.Found.{Found, found, refused}
-use Rattle.base.specs.Limits.{levelCount}
+use Rattle.base.specs.Limits.{offsetZero, levelCount}
 use Rattle.tree.specs.Component.{upto}
-use Rattle.plan.specs.declared.Plan.{Plan}
+use Rattle.plan.specs.Plan.{Plan}
 use Rattle.plan.specs.Positions.{rangePlan, noPlan}
 use Rattle.plan.specs.Reading.{planOf}
 use Rattle.component.specs.Component.{centreOf, degreeOf, neighbourOf, portOf}
@@ -16,12 +16,10 @@ use Rattle.message.specs.declared.Body.{Body}
 use Rattle.message.specs.declared.Body.the-variants.{FirstEcho, FirstProposal, SecondEcho, SecondProposal, Side, Centre}
 use Rattle.message.specs.declared.Message.{Message}
 use Rattle.message.specs.Message.{noneValue}
-use Rattle.level.specs.declared.Level.{Level}
-use Rattle.level.specs.Level.{noOutput, blankLevel, withEntry, withPortEcho, withResult, withCentreTold}
+use Rattle.level.specs.Level.{Level, noOutput, blankLevel, withEntry, withPortEcho, withResult, withCentreTold}
 use Rattle.journal.specs.declared.Record.{Record}
 use Rattle.journal.specs.declared.Record.the-variants.{Start, Taken}
-use Rattle.party.specs.declared.Party.{Party}
-use Rattle.party.specs.Party.{newParty, withLevel, heldBy, hearing, outputOf}
+use Rattle.party.specs.Party.{Party, newParty, withLevel, heldBy, hearing, outputOf}
 use Rattle.party.specs.Run.{openAt, run, taking, resting, stepAt, ruleAt, madeBy}
 use Rattle.party_life.specs.Life.{lived}
 use Rattle.vectors.specs.Choices.{two}
@@ -43,7 +41,7 @@ passing (suc k) i f = pick (f i) (i ∷ passing k (suc i) f) (passing k (suc i) 
 
 -- readings 0 to a width, agreement number 9, own number 0
 abbrev pub onRange : ℕ → ℕ → ℕ → Party
-onRange n t width = newParty n t 0 9 (rangePlan 2147483648 width)
+onRange n t width = newParty n t 0 9 (rangePlan offsetZero width)
 
 -- four boards, one of them faulty at most
 abbrev pub ofFour : ℕ → Party

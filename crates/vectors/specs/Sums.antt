@@ -7,7 +7,8 @@ use lib.Dec.{eqb}
 use lib.IntN.{ℤ, negsuc}
 use Rattle.base.specs.Pick.{pick}
 use Rattle.tree.specs.Component.{centre, side}
-use Rattle.tree.specs.Path.{pathEdges, interval}
+use Rattle.tree.specs.Path.{pathEdges}
+use Rattle.tree.specs.Inner.{interval}
 use Rattle.varint.specs.Varint.{varintBytes}
 use Rattle.signed.specs.Signed.{signedBytes}
 use Rattle.base.specs.Found.{refused}
@@ -16,10 +17,9 @@ use Rattle.message.specs.declared.Body.{Body}
 use Rattle.message.specs.declared.Body.the-variants.{FirstEcho, FirstProposal, SecondEcho}
 use Rattle.message.specs.declared.Message.{Message}
 use Rattle.message.specs.Message.{noneValue, messageBytes}
-use Rattle.level.specs.declared.Level.{Level}
 use Rattle.level.specs.declared.Context.{Context}
 use Rattle.level.specs.declared.Effect.the-variants.{Nothing, Quiet, Send}
-use Rattle.level.specs.Level.{notYet, noOutput, blankLevel, withHeard, withFirst, withResult}
+use Rattle.level.specs.Level.{Level, notYet, noOutput, blankLevel, withHeard, withFirst, withResult}
 use Rattle.level.specs.Counts.{mayPropose}
 use Rattle.level.specs.Rules.{rule3, rule4, rule8, does, idle}
 

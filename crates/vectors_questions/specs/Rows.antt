@@ -6,7 +6,7 @@ use mathlib.Core.List.{List, [], _∷_, _++_}
 use Prim.Native.Nat.{ℕ}
 use lib.IntN.{ℤ, pos}
 use Rattle.base.specs.declared.Verdict.{Verdict}
-use Rattle.party.specs.declared.Party.{Party}
+use Rattle.party.specs.Party.{Party}
 use Rattle.board_calls.specs.Calls.{setUpOf, startQuestions, takeQuestions, calledOf, answeredOf}
 use Rattle.board_calls.specs.Restore.{restoreQuestions, restoredOf}
 

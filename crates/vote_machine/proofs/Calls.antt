@@ -12,10 +12,8 @@ use Rattle.base.specs.Sets.{Set}
 use Rattle.component.specs.Component.{wholeOf, sizeOf}
 use Rattle.message.specs.declared.Message.{Message}
 use Rattle.message.specs.Message.{inTable}
-use Rattle.level.specs.declared.Level.{Level}
-use Rattle.level.specs.Level.{withHeard}
-use Rattle.party.specs.declared.Party.{Party}
-use Rattle.party.specs.Party.{levelAt, componentOf, sending, contextOf, entering, entered, started, hearing}
+use Rattle.level.specs.Level.{Level, withHeard}
+use Rattle.party.specs.Party.{Party, levelAt, componentOf, sending, contextOf, entering, entered, started, hearing}
 use Rattle.party_laws.proofs.Laws.{level-same, level-other, level-field, board-entering, entry-level, entry-other, entry-whole, entered-sending, sending-three}
 use Rattle.party_laws.proofs.Laws.{formed-hearing, formed-entered, keeps-hearing, keeps-entered, fresh-hearing, fresh-entered, grown-hearing, grown-entered}
 use Rattle.party_laws.proofs.Calls.{table-level}

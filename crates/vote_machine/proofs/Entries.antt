@@ -7,17 +7,15 @@ use lib.Dec.{T}
 use Rattle.base.specs.Sets.{Set}
 use Rattle.base.proofs.Bools.{T-and, T-left, T-right}
 use Rattle.base.proofs.Counts.{count-mono}
-use Rattle.plan.specs.declared.Plan.{Plan}
+use Rattle.plan.specs.Plan.{Plan}
 use Rattle.component.specs.Component.{portOf}
 use Rattle.message.specs.declared.Body.{Body}
 use Rattle.message.specs.declared.Body.the-variants.{Side}
 use Rattle.message.specs.Message.{noneValue, bodyInTable}
 use Rattle.senders.specs.Senders.{isIn}
-use Rattle.level.specs.declared.Level.{Level}
-use Rattle.level.specs.Level.{senders}
+use Rattle.level.specs.Level.{Level, senders}
 use Rattle.level_laws.specs.Inner.{Present, heardFrom, Grows}
-use Rattle.party.specs.declared.Party.{Party}
-use Rattle.party.specs.Party.{levelAt, componentOf}
+use Rattle.party.specs.Party.{Party, levelAt, componentOf}
 use Rattle.party_laws.proofs.Laws.{Formed, entered-level, sending-entered}
 use Rattle.vote_machine.specs.Inner.{Way, stays, moves, leads, follows, EntryBy, Le}
 

@@ -10,18 +10,16 @@ use lib.Dec.{T, leb}
 use lib.ListN.{length, getD, replicate, length-replicate, List·getD-eq-default}
 use Rattle.base.specs.Limits.{levelCount}
 use Rattle.base.proofs.Bools.{T-right, false→not-T}
-use Rattle.plan.specs.declared.Plan.{Plan}
+use Rattle.plan.specs.Plan.{Plan}
 use Rattle.message.specs.declared.Body.{Body}
 use Rattle.message.specs.declared.Message.{Message}
 use Rattle.message.specs.Message.{inTable, bodyInTable, lastLevel}
 use Rattle.senders.specs.Senders.{isIn}
 use Rattle.senders.proofs.Laws.{in-empty}
-use Rattle.level.specs.declared.Level.{Level}
-use Rattle.level.specs.Level.{noLevel, blankLevel, senders, slot, withHeard}
+use Rattle.level.specs.Level.{Level, noLevel, blankLevel, senders, slot, withHeard}
 use Rattle.level_laws.specs.Inner.{heardFrom}
 use Rattle.level_laws.proofs.Taken.{taken-back, taken-heard}
-use Rattle.party.specs.declared.Party.{Party}
-use Rattle.party.specs.Party.{newParty, levelAt, withLevel, started, hearing}
+use Rattle.party.specs.Party.{Party, newParty, levelAt, withLevel, started, hearing}
 use Rattle.party.specs.Run.{starting, taking}
 use Rattle.party_laws.proofs.Laws.{level-same, level-other, level-past, starting-kept, taking-kept, taking-sets}
 use Rattle.party_laws.proofs.Calls.{new-level, table-level}

@@ -4,15 +4,14 @@ use mathlib.Core.Bool.{Bool, true, false}
 use Prim.Native.Nat.{ℕ, suc, _<_}
 use lib.Dec.{T}
 use Rattle.base.specs.Pick.{pick}
-use Rattle.plan.specs.declared.Plan.{Plan}
+use Rattle.plan.specs.Plan.{Plan}
 use Rattle.plan.specs.Valid.{planValid}
 use Rattle.message.specs.declared.Message.{Message}
 use Rattle.message.specs.Message.{inTable}
-use Rattle.level.specs.declared.Level.{Level}
+use Rattle.level.specs.Level.{Level}
 use Rattle.level_laws.specs.Inner.{Heard, Untouched}
 use Rattle.level_laws.proofs.Law.{blank-heard, blank-untouched}
-use Rattle.party.specs.declared.Party.{Party}
-use Rattle.party.specs.Party.{newParty, levelAt, sending, entered, started, hearing}
+use Rattle.party.specs.Party.{Party, newParty, levelAt, sending, entered, started, hearing}
 use Rattle.party.specs.Run.{Ran, openAt, stepAt, resting, run, starting, taking}
 use Rattle.party.specs.Valid.{settingsPass}
 use Rattle.party_laws.proofs.Laws.{sending-entered, entered-level, formed-new, fresh-new, run-keeps, starting-keeps, taking-keeps}

@@ -6,7 +6,7 @@ use native.Mathlib.Omega.{arith}
 use lib.Dec.{T, ltb, ltb→lt, lt→ltb}
 use Rattle.base.specs.Pick.{pick}
 use Rattle.base.specs.Limits.{maxBoards}
-use Rattle.plan.specs.declared.Plan.{Plan}
+use Rattle.plan.specs.Plan.{Plan}
 use Rattle.plan.specs.Valid.{planValid}
 use Rattle.party.specs.Party.{newParty}
 use Rattle.party.specs.Valid.{settingsPass}

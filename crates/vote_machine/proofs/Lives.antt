@@ -8,7 +8,7 @@ use Rattle.base.specs.Pick.{pick}
 use Rattle.message.specs.declared.Message.{Message}
 use Rattle.journal.specs.declared.Record.{Record}
 use Rattle.journal.specs.declared.Record.the-variants.{Start, Taken}
-use Rattle.party.specs.declared.Party.{Party}
+use Rattle.party.specs.Party.{Party}
 use Rattle.party.specs.Run.{Ran, resting}
 use Rattle.party_life.specs.Life.{replayed, lived, Fits, Life, madeAlong}
 use Rattle.party_life.proofs.Fits.{fits-start, fitting-start}

@@ -11,18 +11,16 @@ use Rattle.base.proofs.Bools.{T-and}
 use Rattle.message.specs.declared.Body.{Body}
 use Rattle.message.specs.declared.Message.{Message}
 use Rattle.message.specs.Message.{inTable, bodyInTable, lastLevel}
-use Rattle.level.specs.declared.Level.{Level}
 use Rattle.level.specs.declared.Context.{Context}
 use Rattle.level.specs.declared.Effect.{Effect}
 use Rattle.level.specs.declared.Effect.the-variants.{Nothing, Quiet, Send, Enter, SendEnter}
-use Rattle.level.specs.Level.{withEntry}
+use Rattle.level.specs.Level.{Level, withEntry}
 use Rattle.level.specs.Rules.{lowestRule}
 use Rattle.level_laws.proofs.Law.{Same, untouched-entry}
 use Rattle.level_laws.proofs.Grows.{grows-refl}
 use Rattle.level_laws.specs.Inner.{SentIn}
 use Rattle.level_laws.proofs.Messages.{Makes, sent-step, sent-grows, sent-heard, sent-table, untouched-sent}
-use Rattle.party.specs.declared.Party.{Party}
-use Rattle.party.specs.Party.{levelAt, sending, contextOf, entered, started, heldBy, hearing}
+use Rattle.party.specs.Party.{Party, levelAt, sending, contextOf, entered, started, heldBy, hearing}
 use Rattle.party.specs.Run.{Ran, ruleAt, openAt, openLevel, madeBy, stepAt, oneMore, resting, runUpTo, run, starting, taking}
 use Rattle.party_laws.proofs.Laws.{sending-entered, sending-level, entered-level, open-sending, open-level, runs-kept, runs-grown}
 use Rattle.execution.specs.Machine.{Event, start, take}

@@ -8,8 +8,7 @@ use Rattle.message.specs.declared.Message.{Message}
 use Rattle.level_laws.proofs.Law.{Same}
 use Rattle.level_laws.proofs.Messages.{sent-grows}
 use Rattle.level_laws.proofs.Output.{Later}
-use Rattle.party.specs.declared.Party.{Party}
-use Rattle.party.specs.Party.{levelAt, sending, contextOf}
+use Rattle.party.specs.Party.{Party, levelAt, sending, contextOf}
 use Rattle.party_laws.proofs.Laws.{board-refl, board-trans, Formed, Keeps, Grown, grown-refl, grown-trans, kept-component, sending-entered}
 use Rattle.party_laws.proofs.Updates.{sending-same}
 use Rattle.vote_machine.specs.Machine.{Sent}

@@ -4,13 +4,12 @@ use Prim.Native.Nat.{ℕ, _<_}
 use lib.Dec.{T}
 use Rattle.base.specs.Pick.{pick}
 use Rattle.base.proofs.Bools.{not-T→false, false→not-T}
-use Rattle.plan.specs.declared.Plan.{Plan}
+use Rattle.plan.specs.Plan.{Plan}
 use Rattle.plan.specs.Valid.{planValid}
 use Rattle.message.specs.declared.Message.{Message}
 use Rattle.message.specs.Message.{inTable}
 use Rattle.level_laws.proofs.Moves.{AtRest}
-use Rattle.party.specs.declared.Party.{Party}
-use Rattle.party.specs.Party.{newParty, levelAt, sending, contextOf, started, heldBy, hearing, entered}
+use Rattle.party.specs.Party.{Party, newParty, levelAt, sending, contextOf, started, heldBy, hearing, entered}
 use Rattle.party.specs.Run.{openAt, resting, run, starting, taking}
 use Rattle.party.specs.Valid.{settingsPass}
 use Rattle.party_laws.proofs.Laws.{open-sending}

@@ -5,16 +5,15 @@ use mathlib.Core.List.{List, [], _∷_, List·Memᴰ, List·Memᴰ·head, List·
 use Prim.Native.Nat.{ℕ, _<_}
 use native.Mathlib.Omega.{arith}
 use lib.Dec.{T}
-use Rattle.plan.specs.declared.Plan.{Plan}
+use Rattle.plan.specs.Plan.{Plan}
 use Rattle.plan.specs.Valid.{planValid}
 use Rattle.component.specs.Component.{wholeOf}
 use Rattle.message.specs.declared.Message.{Message}
 use Rattle.message.specs.Message.{inTable}
 use Rattle.journal.specs.declared.Record.{Record}
 use Rattle.journal.specs.declared.Record.the-variants.{Start, Taken}
-use Rattle.level.specs.declared.Level.{Level}
-use Rattle.party.specs.declared.Party.{Party}
-use Rattle.party.specs.Party.{newParty, levelAt, entered, started}
+use Rattle.level.specs.Level.{Level}
+use Rattle.party.specs.Party.{Party, newParty, levelAt, entered, started}
 use Rattle.party.specs.Run.{Ran, openAt, stepAt, starting, taking}
 use Rattle.party.specs.Valid.{settingsPass}
 use Rattle.party_laws.proofs.Laws.{entry-level, run-kept, taking-kept, taking-keeps, open-sending, sending-entered, entered-down}

@@ -12,17 +12,15 @@ use Rattle.base.specs.Pick.{pick}
 use Rattle.base.specs.Sets.{Set}
 use Rattle.base.proofs.Bools.{T-right}
 use Rattle.component.specs.Component.{sideOf}
-use Rattle.level.specs.declared.Level.{Level}
+use Rattle.level.specs.Level.{Level}
 use Rattle.level.specs.declared.Context.{Context}
-use Rattle.level.specs.declared.Applied.{Applied}
 use Rattle.level.specs.declared.Effect.{Effect}
 use Rattle.level.specs.declared.Effect.the-variants.{Nothing, Quiet, Send, Enter, SendEnter}
-use Rattle.level.specs.Rules.{applies, lowestRule}
+use Rattle.level.specs.Rules.{Applied, applies, lowestRule}
 use Rattle.level_laws.proofs.Grows.{Unmoved, lowest-unmoved}
 use Rattle.level_laws.proofs.Messages.{Valued, After, enters, Enters, by-sure, by-unsure, by-sides, Entry, lowest-enters}
 use Rattle.level_laws.proofs.Counted.{sided-reached}
-use Rattle.party.specs.declared.Party.{Party}
-use Rattle.party.specs.Party.{levelAt, withLevel, componentOf, sending, contextOf}
+use Rattle.party.specs.Party.{Party, levelAt, withLevel, componentOf, sending, contextOf}
 use Rattle.party.specs.Run.{ruleAt, openAt, descend, gate, afterRule, stepAt}
 use Rattle.party_laws.proofs.Laws.{level-same, level-other, level-field, level-back, entry-level, entry-other, descend-component}
 use Rattle.party_laws.proofs.Laws.{Formed, Fresh, sending-entered, sending-level, entered-level, open-sending, formed-step, step-kept, step-grown}

@@ -6,13 +6,12 @@ use Prim.Native.Nat.{ℕ, suc, _<_}
 use lib.Dec.{T}
 use Rattle.base.specs.Sets.{Set, count}
 use Rattle.base.specs.Limits.{levelCount}
-use Rattle.plan.specs.declared.Plan.{Plan}
+use Rattle.plan.specs.Plan.{Plan}
 use Rattle.component.specs.Component.{portOf, neighbourOf}
 use Rattle.message.specs.declared.Body.the-variants.{Side}
 use Rattle.message.specs.Message.{noneValue}
-use Rattle.level.specs.declared.Level.{Level}
-use Rattle.party.specs.declared.Party.{Party}
-use Rattle.party.specs.Party.{levelAt, componentOf, sending, contextOf}
+use Rattle.level.specs.Level.{Level}
+use Rattle.party.specs.Party.{Party, levelAt, componentOf, sending, contextOf}
 use Rattle.party.specs.Run.{openAt}
 use Rattle.level_laws.specs.Inner.{heardFrom, Heard, Law, Descends, OutputBy, Untouched}
 use Rattle.party_laws.specs.Inner.{Formed, SameBoard, Fresh, Grown}

@@ -5,12 +5,11 @@ use mathlib.Core.List.{List, [], _∷_}
 use Prim.Native.Nat.{ℕ}
 use lib.Dec.{T, ltb}
 use Rattle.base.specs.Pick.{pick}
-use Rattle.plan.specs.declared.Plan.{Plan}
+use Rattle.plan.specs.Plan.{Plan}
 use Rattle.message.specs.declared.Message.{Message}
 use Rattle.journal.specs.declared.Record.{Record}
 use Rattle.journal.specs.declared.Record.the-variants.{Start, Taken}
-use Rattle.party.specs.declared.Party.{Party}
-use Rattle.party.specs.Party.{newParty, levelAt, sending, contextOf}
+use Rattle.party.specs.Party.{Party, newParty, levelAt, sending, contextOf}
 use Rattle.party.specs.Run.{Ran, resting, starting, taking}
 use Rattle.party_life.specs.Life.{passes}
 use Rattle.execution.specs.Machine.{Event, start, take, Machine}

@@ -1,7 +1,7 @@
 -- a party with no settings and no plan
 use borrow.Author.Needs.{needs}
 use mathlib.Core.Path.{ap, _∙_}
-use Rattle.plan.specs.declared.Plan.{Plan}
+use Rattle.plan.specs.Plan.{Plan}
 use Rattle.party.specs.Party.{newParty}
 use Rattle.board_calls.proofs.no_party.Statement.{statement}
 use Rattle.board_calls.proofs.no_party.Tie as tie

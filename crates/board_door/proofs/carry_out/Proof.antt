@@ -5,6 +5,7 @@ use lib.ListN.{length}
 use denote.Ref.{now}
 use Rattle.journal.specs.Journal.{recordBytes}
 use Rattle.party_life.specs.Life.{replayed}
+use Rattle.party.specs.Tie.{asParty}
 use Rattle.board_laws.proofs.Questions.{full, fitted}
 use Rattle.board_door.proofs.Doors.{refused-gives, fresh-gives}
 use borrow.Author.Needs.{needs}
@@ -25,7 +26,7 @@ returns c =
     let b = c .before .before .before .before .before in
     let s = b .args in
     let l : length (now (s .journal)) < s .used + length (recordBytes (s .r)) = omega (arith, c .before .before .size .ensures, b .pre .1, c .before .if1 .taken) in
-    refused-gives (full (length (now (s .journal))) (s .used) (s .r) (replayed (s .p) (s .r)) l) (c .refuse .ensures)
+    refused-gives (full (length (now (s .journal))) (s .used) (s .r) (replayed (asParty (s .p)) (s .r)) l) (c .refuse .ensures)
 
 append-requires : tie.Need-append-requires
 append-requires c κs = let b = c .before .before .before .before .before in omega (arith, c .before .before .size .ensures, b .pre .1, c .before .if1 .left)
@@ -47,7 +48,7 @@ returns-2 c =
     let b = c .before .before .before .before .before .before .before .before .before .before .before .before .before in
     let s = b .args in
     let l : s .used + length (recordBytes (s .r)) ≤ length (now (s .journal)) = omega (arith, c .before .before .before .before .before .before .before .before .before .before .size .ensures, b .pre .1, c .before .before .before .before .before .before .before .before .before .if1 .left) in
-    fresh-gives (fitted (length (now (s .journal))) (s .used) (s .r) (replayed (s .p) (s .r)) l) (c .accept .ensures) (c .before .before .before .before .before .before .before .append .ensures .0) (c .before .before .before .before .before .before .before .append .ensures .1)
+    fresh-gives (fitted (length (now (s .journal))) (s .used) (s .r) (replayed (asParty (s .p)) (s .r)) l) (c .accept .ensures) (c .before .before .before .before .before .before .before .append .ensures .0) (c .before .before .before .before .before .before .before .append .ensures .1)
     (c .before .before .before .replay .ensures)
 
 pub carry-out-spec : {M : Type 1} → statement M

@@ -5,6 +5,7 @@ use lib.ListN.{length}
 use denote.Ref.{now}
 use Rattle.base.proofs.Bools.{true→T}
 use Rattle.message.proofs.RoundTrip.{exact-message-written}
+use Rattle.party.specs.Tie.{asParty}
 use Rattle.party_life.proofs.Fits.{fitting-taken}
 use Rattle.board_laws.proofs.Questions.{take-door, take-sender, take-no-message, take-number, take-held, take-left}
 use Rattle.board_door.proofs.Doors.{boards-most, refused-gives, again-gives, regives}
@@ -21,7 +22,7 @@ refuse-requires c κs = search needs
 returns : tie.Need-returns
 returns c =
     let s = c .before .before .before .before .before .before .before .args in
-    refused-gives (take-door (s .p) (s .sender) (now (s .bytes)) (length (now (s .journal))) (s .used) (length (now (s .out))) _ (c .before .before .before .at-door .ensures .fails (c .before .if1 .taken))) (c .refuse .ensures)
+    refused-gives (take-door (asParty (s .p)) (s .sender) (now (s .bytes)) (length (now (s .journal))) (s .used) (length (now (s .out))) _ (c .before .before .before .at-door .ensures .fails (c .before .if1 .taken))) (c .refuse .ensures)
 
 refuse-requires-2 : tie.Need-refuse-requires-2
 refuse-requires-2 c κs = search needs
@@ -30,7 +31,7 @@ returns-2 : tie.Need-returns-2
 returns-2 c =
     let s = c .before .before .before .before .before .before .before .before .before .args in
     let d = c .before .before .before .before .before .at-door .ensures .passes (c .before .before .before .if1 .left) in
-    refused-gives (take-sender (s .p) (s .sender) (now (s .bytes)) (length (now (s .journal))) (s .used) (length (now (s .out))) (d .0 .valid) (d .0 .room) (d .1) (c .before .if2 .taken)) (c .refuse2 .ensures)
+    refused-gives (take-sender (asParty (s .p)) (s .sender) (now (s .bytes)) (length (now (s .journal))) (s .used) (length (now (s .out))) (d .0 .valid) (d .0 .room) (d .1) (c .before .if2 .taken)) (c .refuse2 .ensures)
 
 read-requires : tie.Need-read-requires
 read-requires c κs = search needs
@@ -48,7 +49,7 @@ returns-3 : tie.Need-returns-3
 returns-3 c =
     let s = c .before .before .before .before .before .before .before .before .before .before .before .before .args in
     let d = c .before .before .before .before .before .before .before .before .at-door .ensures .passes (c .before .before .before .before .before .before .if1 .left) in
-    refused-gives (take-no-message (s .p) (s .sender) (now (s .bytes)) (length (now (s .journal))) (s .used) (length (now (s .out))) (d .0 .valid) (d .0 .room) (d .1) (c .before .before .before .before .if2 .left) (sym (c .before .before .before .read .ensures) ∙ c .before .enum-told .given .1)) (c .refuse3 .ensures)
+    refused-gives (take-no-message (asParty (s .p)) (s .sender) (now (s .bytes)) (length (now (s .journal))) (s .used) (length (now (s .out))) (d .0 .valid) (d .0 .room) (d .1) (c .before .before .before .before .if2 .left) (sym (c .before .before .before .read .ensures) ∙ c .before .enum-told .given .1)) (c .refuse3 .ensures)
 
 refuse-requires-4 : tie.Need-refuse-requires-4
 refuse-requires-4 c κs = search needs
@@ -57,17 +58,17 @@ returns-4 : tie.Need-returns-4
 returns-4 c =
     let s = c .before .before .before .before .before .before .before .before .before .before .before .before .before .before .before .before .args in
     let d = c .before .before .before .before .before .before .before .before .before .before .before .before .at-door .ensures .passes (c .before .before .before .before .before .before .before .before .before .before .if1 .left) in
-    refused-gives (take-number (s .p) (s .sender) (now (s .bytes)) (length (now (s .journal))) (s .used) (length (now (s .out))) (d .0 .valid) (d .0 .room) (d .1) (c .before .before .before .before .before .before .before .before .if2 .left) _ (sym (c .before .before .before .before .before .before .before .read .ensures) ∙ c .before .before .before .before .before .m .given .1) (c .before .if3 .taken)) (c .refuse4 .ensures)
+    refused-gives (take-number (asParty (s .p)) (s .sender) (now (s .bytes)) (length (now (s .journal))) (s .used) (length (now (s .out))) (d .0 .valid) (d .0 .room) (d .1) (c .before .before .before .before .before .before .before .before .if2 .left) _ (sym (c .before .before .before .before .before .before .before .read .ensures) ∙ c .before .before .before .before .before .m .given .1) (c .before .if3 .taken)) (c .refuse4 .ensures)
 
 cast-s : tie.Need-cast-s
 cast-s c =
     let d = c .before .before .before .before .before .before .before .before .before .before .before .at-door .ensures .passes (c .before .before .before .before .before .before .before .before .before .if1 .left) in
-    record { fits = omega (arith, c .before .before .before .before .before .before .before .if2 .left, boards-most (c .before .before .before .before .before .before .before .before .before .before .before .before .before .before .before .args .p) (d .0 .valid)) }
+    record { fits = omega (arith, c .before .before .before .before .before .before .before .if2 .left, boards-most (asParty (c .before .before .before .before .before .before .before .before .before .before .before .before .before .before .before .args .p)) (d .0 .valid)) }
 
 held-requires : tie.Need-held-requires
 held-requires c κs =
     let d = c .before .before .before .before .before .before .before .before .before .before .before .at-door .ensures .passes (c .before .before .before .before .before .before .before .before .before .if1 .left) in
-    (omega (arith, c .before .before .before .before .before .before .before .if2 .left, boards-most (c .before .before .before .before .before .before .before .before .before .before .before .before .before .before .before .args .p) (d .0 .valid)), exact-message-written (now (c .before .before .before .before .before .before .before .before .before .before .before .before .before .before .before .args .bytes)) _ (λ i. c .before .before .before .before .before .before .before .before .before .before .before .before .before .before .shared-slice-known .given i .fits) (sym (c .before .before .before .before .before .before .read .ensures) ∙ c .before .before .before .before .m .given .1) .0)
+    (omega (arith, c .before .before .before .before .before .before .before .if2 .left, boards-most (asParty (c .before .before .before .before .before .before .before .before .before .before .before .before .before .before .before .args .p)) (d .0 .valid)), exact-message-written (now (c .before .before .before .before .before .before .before .before .before .before .before .before .before .before .before .args .bytes)) _ (λ i. c .before .before .before .before .before .before .before .before .before .before .before .before .before .before .shared-slice-known .given i .fits) (sym (c .before .before .before .before .before .before .read .ensures) ∙ c .before .before .before .before .m .given .1) .0)
 
 accept-requires : tie.Need-accept-requires
 accept-requires c κs = search needs
@@ -77,7 +78,7 @@ returns-5 c =
     let s = c .before .before .before .before .before .before .before .before .before .before .before .before .before .before .before .before .before .before .args in
     let d = c .before .before .before .before .before .before .before .before .before .before .before .before .before .before .at-door .ensures .passes (c .before .before .before .before .before .before .before .before .before .before .before .before .if1 .left) in
     again-gives
-    (take-held (s .p) (s .sender) (now (s .bytes)) (length (now (s .journal))) (s .used) (length (now (s .out))) (d .0 .valid) (d .0 .room) (d .1) (c .before .before .before .before .before .before .before .before .before .before .if2 .left) _ (sym (c .before .before .before .before .before .before .before .before .before .read .ensures) ∙ c .before .before .before .before .before .before .before .m .given .1) (c .before .before .before .if3 .left) (sym (c .before .before .held .ensures) ∙ c .before .if4 .taken))
+    (take-held (asParty (s .p)) (s .sender) (now (s .bytes)) (length (now (s .journal))) (s .used) (length (now (s .out))) (d .0 .valid) (d .0 .room) (d .1) (c .before .before .before .before .before .before .before .before .before .before .if2 .left) _ (sym (c .before .before .before .before .before .before .before .before .before .read .ensures) ∙ c .before .before .before .before .before .before .before .m .given .1) (c .before .before .before .if3 .left) (sym (c .before .before .held .ensures) ∙ c .before .if4 .taken))
     (c .accept .ensures)
 
 carry-out-requires : tie.Need-carry-out-requires
@@ -85,7 +86,7 @@ carry-out-requires c κs =
     let s = c .before .before .before .before .before .before .before .before .before .before .before .before .before .before .before .before .before .before .before .args in
     let d = c .before .before .before .before .before .before .before .before .before .before .before .before .before .before .before .at-door .ensures .passes (c .before .before .before .before .before .before .before .before .before .before .before .before .before .if1 .left) in
     let t = exact-message-written (now (s .bytes)) _ (λ i. c .before .before .before .before .before .before .before .before .before .before .before .before .before .before .before .before .before .before .shared-slice-known .given i .fits) (sym (c .before .before .before .before .before .before .before .before .before .before .read .ensures) ∙ c .before .before .before .before .before .before .before .before .m .given .1) .0 in
-    (d .0, d .1, fitting-taken (s .p) (s .sender) (c .before .before .before .before .before .before .before .before .m .given .0 .0) (c .before .before .before .before .if3 .left, c .before .before .before .before .before .before .before .before .before .before .before .if2 .left, true→T t))
+    (d .0, d .1, fitting-taken (asParty (s .p)) (s .sender) (c .before .before .before .before .before .before .before .before .m .given .0 .0) (c .before .before .before .before .if3 .left, c .before .before .before .before .before .before .before .before .before .before .before .if2 .left, true→T t))
 
 same-length : tie.Need-same-length
 same-length c = search needs
@@ -98,7 +99,7 @@ returns-6 c =
     let s = c .before .before .before .before .before .before .before .before .before .before .before .before .before .before .before .before .before .before .before .before .before .before .before .before .args in
     let d = c .before .before .before .before .before .before .before .before .before .before .before .before .before .before .before .before .before .before .before .before .at-door .ensures .passes (c .before .before .before .before .before .before .before .before .before .before .before .before .before .before .before .before .before .before .if1 .left) in
     regives
-    (take-left (s .p) (s .sender) (now (s .bytes)) (length (now (s .journal))) (s .used) (length (now (s .out))) (d .0 .valid) (d .0 .room) (d .1) (c .before .before .before .before .before .before .before .before .before .before .before .before .before .before .before .before .if2 .left) _ (sym (c .before .before .before .before .before .before .before .before .before .before .before .before .before .before .before .read .ensures) ∙ c .before .before .before .before .before .before .before .before .before .before .before .before .before .m .given .1) (c .before .before .before .before .before .before .before .before .before .if3 .left) (sym (c .before .before .before .before .before .before .before .before .held .ensures) ∙ c .before .before .before .before .before .before .before .if4 .left))
+    (take-left (asParty (s .p)) (s .sender) (now (s .bytes)) (length (now (s .journal))) (s .used) (length (now (s .out))) (d .0 .valid) (d .0 .room) (d .1) (c .before .before .before .before .before .before .before .before .before .before .before .before .before .before .before .before .if2 .left) _ (sym (c .before .before .before .before .before .before .before .before .before .before .before .before .before .before .before .read .ensures) ∙ c .before .before .before .before .before .before .before .before .before .before .before .before .before .m .given .1) (c .before .before .before .before .before .before .before .before .before .if3 .left) (sym (c .before .before .before .before .before .before .before .before .held .ensures) ∙ c .before .before .before .before .before .before .before .if4 .left))
     (c .before .before .before .before .carry-out .ensures)
 
 pub take-spec : {M : Type 1} → statement M

@@ -5,6 +5,7 @@ use mir.ValLaws.{toZ-ofZ}
 use Rattle.board_calls.specs.Answers.{vertexOf, rangePosition}
 use Rattle.board_laws.proofs.Inputs.{of-tree, of-range}
 use borrow.Author.Needs.{needs}
+use Rattle.plan.specs.Tie.{asPlan}
 use Rattle.board_positions.proofs.position_of.Statement.{statement}
 use Rattle.board_positions.proofs.position_of.Tie as tie
 
@@ -15,8 +16,8 @@ returns : tie.Need-returns
 returns c =
     let s = c .before .before .before in
     c .vertex-position .ensures
-    ∙ ap (vertexOf (s .args .plan)) (toZ-ofZ w64 (s .args .input) (s .fits .input))
-    ∙ of-tree (s .args .plan) (s .args .input) (c .before .if1 .taken)
+    ∙ ap (vertexOf (asPlan (s .args .plan))) (toZ-ofZ w64 (s .args .input) (s .fits .input))
+    ∙ of-tree (asPlan (s .args .plan)) (s .args .input) (c .before .if1 .taken)
 
 range-position-requires : tie.Need-range-position-requires
 range-position-requires c κs = search needs
@@ -25,8 +26,8 @@ returns-2 : tie.Need-returns-2
 returns-2 c =
     let s = c .before .before .before in
     c .range-position .ensures
-    ∙ ap (rangePosition (s .args .plan)) (toZ-ofZ w64 (s .args .input) (s .fits .input))
-    ∙ of-range (s .args .plan) (s .args .input) (c .before .if1 .left)
+    ∙ ap (rangePosition (asPlan (s .args .plan))) (toZ-ofZ w64 (s .args .input) (s .fits .input))
+    ∙ of-range (asPlan (s .args .plan)) (s .args .input) (c .before .if1 .left)
 
 pub position-of-spec : {M : Type 1} → statement M
 position-of-spec = tie.close (tie.spec vertex-position-requires returns range-position-requires returns-2)

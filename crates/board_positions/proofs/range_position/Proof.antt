@@ -4,7 +4,9 @@ use Prim.Native.Nat.{ℕ, _+_, _-_}
 use native.Mathlib.Omega.{arith}
 use lib.Signed.{mag}
 use mir.Syntax.{w64}
+use Rattle.base.specs.Limits.{offsetZero}
 use Rattle.board_calls.specs.Answers.{onPlan}
+use Rattle.plan.specs.Tie.{asPlan}
 use Rattle.board_positions.proofs.Signs.{below-zero, from-zero, mag-back}
 use Rattle.board_laws.proofs.Inputs.{range-below, range-negative, range-under, range-natural}
 use borrow.Author.Needs.{needs}
@@ -31,7 +33,7 @@ returns : tie.Need-returns
 returns c =
     let s = c .before .before .before .before in
     let m : c .before .before .before .magnitude .result ≡ mag (s .args .input) = c .before .before .before .magnitude .ensures ∙ mag-back w64 (s .args .input) (s .fits .input) in
-    range-below (s .args .plan) (s .args .input) (mag (s .args .input)) (below-zero w64 (s .args .input) (s .fits .input) (c .before .if1 .taken)) (omega arith)
+    range-below (asPlan (s .args .plan)) (s .args .input) (mag (s .args .input)) (below-zero w64 (s .args .input) (s .fits .input) (c .before .if1 .taken)) (omega arith)
 
 add-on-plan : tie.Need-add-on-plan
 add-on-plan c = search needs
@@ -50,8 +52,8 @@ returns-2 c =
     let s = c .before .before .before .before .before in
     let m : c .before .before .before .before .magnitude .result ≡ mag (s .args .input) = c .before .before .before .before .magnitude .ensures ∙ mag-back w64 (s .args .input) (s .fits .input) in
     c .on-plan .ensures
-    ∙ ap (λ (x : ℕ). onPlan (s .args .plan) (2147483648 - (x + 1) - s .args .plan .low)) m
-    ∙ range-negative (s .args .plan) (s .args .input) (mag (s .args .input)) (below-zero w64 (s .args .input) (s .fits .input) (c .before .before .if1 .taken)) (omega arith)
+    ∙ ap (λ (x : ℕ). onPlan (asPlan (s .args .plan)) (offsetZero - (x + 1) - s .args .plan .low)) m
+    ∙ range-negative (asPlan (s .args .plan)) (s .args .input) (mag (s .args .input)) (below-zero w64 (s .args .input) (s .fits .input) (c .before .before .if1 .taken)) (omega arith)
 
 add-if3 : tie.Need-add-if3
 add-if3 c =
@@ -62,7 +64,7 @@ returns-3 : tie.Need-returns-3
 returns-3 c =
     let s = c .before .before .before .before in
     let m : c .before .before .before .magnitude .result ≡ mag (s .args .input) = c .before .before .before .magnitude .ensures ∙ mag-back w64 (s .args .input) (s .fits .input) in
-    range-under (s .args .plan) (s .args .input) (mag (s .args .input)) (from-zero w64 (s .args .input) (s .fits .input) (c .before .if1 .left)) (omega arith)
+    range-under (asPlan (s .args .plan)) (s .args .input) (mag (s .args .input)) (from-zero w64 (s .args .input) (s .fits .input) (c .before .if1 .left)) (omega arith)
 
 add-on-plan-2 : tie.Need-add-on-plan-2
 add-on-plan-2 c =
@@ -80,8 +82,8 @@ returns-4 c =
     let s = c .before .before .before .before .before in
     let m : c .before .before .before .before .magnitude .result ≡ mag (s .args .input) = c .before .before .before .before .magnitude .ensures ∙ mag-back w64 (s .args .input) (s .fits .input) in
     c .«on-plan2» .ensures
-    ∙ ap (λ (x : ℕ). onPlan (s .args .plan) (x + 2147483648 - s .args .plan .low)) m
-    ∙ range-natural (s .args .plan) (s .args .input) (mag (s .args .input)) (from-zero w64 (s .args .input) (s .fits .input) (c .before .before .if1 .left)) (omega arith)
+    ∙ ap (λ (x : ℕ). onPlan (asPlan (s .args .plan)) (x + offsetZero - s .args .plan .low)) m
+    ∙ range-natural (asPlan (s .args .plan)) (s .args .input) (mag (s .args .input)) (from-zero w64 (s .args .input) (s .fits .input) (c .before .before .if1 .left)) (omega arith)
 
 pub range-position-spec : {M : Type 1} → statement M
 range-position-spec =

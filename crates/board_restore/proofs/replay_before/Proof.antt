@@ -4,19 +4,20 @@ use lib.ListN.{length}
 use Prim.Native.Nat.{_-_}
 use native.Mathlib.Omega.{arith}
 use Rattle.journal.proofs.Further.{record-place}
+use Rattle.party.specs.Tie.{asParty}
 use Rattle.board_restore.proofs.Befores.{Replaying, NoRecord, replaying-start, replaying-read, replaying-asks, replaying-sum, replaying-next, replaying-end}
 use borrow.Author.Needs.{needs}
 use Rattle.board_restore.proofs.replay_before.Statement.{statement}
 use Rattle.board_restore.proofs.replay_before.Tie as tie
 
 abbrev Inv-loop : tie.InvT-loop
-Inv-loop journal last out₀ q₀ d₀ rules₀ at₀ out q d rules at = Replaying q₀ journal last out₀ q d rules at out
+Inv-loop journal last out₀ q₀ d₀ rules₀ at₀ out q d rules at = Replaying (asParty q₀) journal last out₀ (asParty q) d rules at out
 
 abbrev μ-loop : tie.MeasureT-loop
 μ-loop journal last out₀ q₀ d₀ rules₀ at₀ out q d rules at = last - at
 
 loop-holds : tie.Need-loop-holds Inv-loop μ-loop
-loop-holds c = replaying-start (c .before .before .args .p) (c .before .before .args .c) (c .before .before .args .journal .now) (c .before .before .args .last) (c .before .before .args .out .now) (c .before .before .pre .charts) (c .before .before .pre .b) (c .before .before .pre .before)
+loop-holds c = replaying-start (asParty (c .before .before .args .p)) (c .before .before .args .c) (c .before .before .args .journal .now) (c .before .before .args .last) (c .before .before .args .out .now) (c .before .before .pre .charts) (c .before .before .pre .b) (c .before .before .pre .before)
 
 read-at-requires : tie.Need-read-at-requires Inv-loop μ-loop
 read-at-requires c κs = search needs

@@ -2,7 +2,7 @@
 use mathlib.Core.Path.{sym, ap, _∙_, subst}
 use lib.ListN.{length}
 use denote.Ref.{now}
-use Rattle.party.specs.declared.Party.{Party}
+use Rattle.party.specs.Party.{Party}
 use Rattle.party.specs.Run.{resting}
 use Rattle.board_laws.specs.Inner.{New}
 use Rattle.board_calls.specs.Restore.{replayFrom}

@@ -3,6 +3,7 @@ use mathlib.Core.Path.{sym, _∙_, subst}
 use native.Mathlib.Omega.{arith}
 use Rattle.base.proofs.Bools.{T→true, true→T}
 use Rattle.board_laws.proofs.Replays.{new-sized}
+use Rattle.party.specs.Tie.{asParty}
 use Rattle.board_restore.proofs.Befores.{NoRecord}
 use Rattle.board_restore.proofs.Restores.{unrestored-gives, empty-gives, last-read, last-asks, last-sum, last-gives}
 use borrow.Author.Needs.{needs}
@@ -34,7 +35,7 @@ replay-before-requires c κs =
     let h = c .before .before .before .before .before .before .scan-journal .ensures .passes (c .before .before .before .before .if1 .left) in
     record {
       new = s .pre .0;
-      charts = i .ensures .1 .0 (true→T (i .ensures .0 ∙ T→true _ (new-sized (s .args .p) (s .pre .0) .formed .valid)));
+      charts = i .ensures .1 .0 (true→T (i .ensures .0 ∙ T→true _ (new-sized (asParty (s .args .p)) (s .pre .0) .formed .valid)));
       room = s .pre .1;
       b = h .0;
       before = h .2 .before;

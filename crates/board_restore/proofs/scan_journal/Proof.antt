@@ -4,19 +4,20 @@ use Prim.Native.Nat.{_-_}
 use native.Mathlib.Omega.{arith}
 use lib.ListN.{length}
 use Rattle.journal.proofs.Further.{record-place}
+use Rattle.party.specs.Tie.{asParty}
 use Rattle.board_restore.proofs.Scans.{Scanning, scanning-start, scanning-next, scanned-end, scanned-torn, scanned-bad, scanned-fault}
 use borrow.Author.Needs.{needs}
 use Rattle.board_restore.proofs.scan_journal.Statement.{statement}
 use Rattle.board_restore.proofs.scan_journal.Tie as tie
 
 abbrev Inv-loop : tie.InvT-loop
-Inv-loop p journal started₀ last₀ at₀ started last at = Scanning p journal started last at
+Inv-loop p journal started₀ last₀ at₀ started last at = Scanning (asParty p) journal started last at
 
 abbrev μ-loop : tie.MeasureT-loop
 μ-loop p journal started₀ last₀ at₀ started last at = length journal - at
 
 loop-holds : tie.Need-loop-holds Inv-loop μ-loop
-loop-holds c = scanning-start (c .before .args .p) (c .before .pre) (c .before .args .journal .now)
+loop-holds c = scanning-start (asParty (c .before .args .p)) (c .before .pre) (c .before .args .journal .now)
 
 read-at-requires : tie.Need-read-at-requires Inv-loop μ-loop
 read-at-requires c κs = search needs

@@ -1,6 +1,6 @@
 -- `journal::read_message` meets its contract.
 use mathlib.Core.Path.{sym, ap, _∙_}
-use Rattle.journal.specs.Journal.{withMessage}
+use Rattle.journal.specs.Reading.{withMessage}
 use borrow.Author.Needs.{needs}
 use Rattle.journal.proofs.read_message.Statement.{statement}
 use Rattle.journal.proofs.read_message.Tie as tie

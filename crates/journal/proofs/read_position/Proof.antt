@@ -1,6 +1,6 @@
 -- `journal::read_position` meets its contract.
 use mathlib.Core.Path.{sym, ap, _∙_}
-use Rattle.journal.specs.Journal.{withPosition}
+use Rattle.journal.specs.Reading.{withPosition}
 use borrow.Author.Needs.{needs}
 use Rattle.journal.proofs.read_position.Statement.{statement}
 use Rattle.journal.proofs.read_position.Tie as tie

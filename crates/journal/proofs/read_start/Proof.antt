@@ -1,7 +1,7 @@
 -- `journal::read_start` meets its contract.
 use mathlib.Core.Path.{sym, ap, _∙_}
 use denote.Ref.{now}
-use Rattle.journal.specs.Journal.{withAgreement}
+use Rattle.journal.specs.Reading.{withAgreement}
 use borrow.Author.Needs.{needs}
 use Rattle.journal.proofs.read_start.Statement.{statement}
 use Rattle.journal.proofs.read_start.Tie as tie

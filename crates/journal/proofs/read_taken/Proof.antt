@@ -3,7 +3,7 @@ use mathlib.Core.Path.{sym, ap, _∙_}
 use native.Mathlib.Omega.{arith}
 use denote.Ref.{now}
 use Rattle.varint.proofs.Laws.{value-within}
-use Rattle.journal.specs.Journal.{withSender}
+use Rattle.journal.specs.Reading.{withSender}
 use borrow.Author.Needs.{needs}
 use Rattle.journal.proofs.read_taken.Statement.{statement}
 use Rattle.journal.proofs.read_taken.Tie as tie

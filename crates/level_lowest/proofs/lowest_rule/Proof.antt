@@ -4,19 +4,20 @@ use mathlib.Core.Path.{_≡_, sym, _∙_}
 use Prim.Native.Nat.{ℕ, suc, _+_, _-_, _≤_}
 use native.Mathlib.Omega.{arith}
 use Rattle.level.specs.Rules.{lowestRule}
+use Rattle.level.specs.Tie.{asLevel}
 use Rattle.level_lowest.specs.Inner.{ruleCount, lowestFrom}
 use Rattle.level_lowest.proofs.Laws.{from-first, at-last, taken, passed}
 use Rattle.level_lowest.proofs.lowest_rule.Statement.{statement}
 use Rattle.level_lowest.proofs.lowest_rule.Tie as tie
 
 abbrev Inv-loop : tie.InvT-loop
-Inv-loop l c i₀ i = (i ≤ ruleCount) × (lowestRule c l ≡ lowestFrom c l (ruleCount - i) i)
+Inv-loop l c i₀ i = (i ≤ ruleCount) × (lowestRule c (asLevel l) ≡ lowestFrom c (asLevel l) (ruleCount - i) i)
 
 abbrev μ-loop : tie.MeasureT-loop
 μ-loop l c i₀ i = ruleCount - i
 
 loop-holds : tie.Need-loop-holds Inv-loop μ-loop
-loop-holds c = (omega arith, from-first (c .args .c) (c .args .l))
+loop-holds c = (omega arith, from-first (c .args .c) (asLevel (c .args .l)))
 
 rule-requires : tie.Need-rule-requires Inv-loop μ-loop
 rule-requires c κs = search needs
@@ -29,7 +30,7 @@ returns c =
     let a = c .before .before .before .before .before .args in
     let i = c .before .before .before .before .loop in
     let e : ruleCount - i .i ≡ suc (ruleCount - (i .i + 1)) = omega arith in
-    taken (a .c) (a .l) (ruleCount - i .i) (ruleCount - (i .i + 1)) (i .i) e _ _ (c .before .before .rule .ensures) (c .before .applies .ensures) (c .if1 .taken)
+    taken (a .c) (asLevel (a .l)) (ruleCount - i .i) (ruleCount - (i .i + 1)) (i .i) e _ _ (c .before .before .rule .ensures) (c .before .applies .ensures) (c .if1 .taken)
     ∙ sym (i .inv .1)
 
 add-i : tie.Need-add-i Inv-loop μ-loop
@@ -44,7 +45,7 @@ loop-again c =
     let i = c .before .before .before .before .loop in
     let e : ruleCount - i .i ≡ suc (ruleCount - (i .i + 1)) = omega arith in (
       omega arith,
-      i .inv .1 ∙ passed (a .c) (a .l) (ruleCount - i .i) (ruleCount - (i .i + 1)) (i .i) e _ _ (c .before .before .rule .ensures) (c .before .applies .ensures) (c .if1 .left),
+      i .inv .1 ∙ passed (a .c) (asLevel (a .l)) (ruleCount - i .i) (ruleCount - (i .i + 1)) (i .i) e _ _ (c .before .before .rule .ensures) (c .before .applies .ensures) (c .if1 .left),
     )
 
 rule-requires-2 : tie.Need-rule-requires-2 Inv-loop μ-loop
@@ -55,7 +56,7 @@ returns-2 c =
     let a = c .before .before .before .args in
     let i = c .before .before .loop in
     let e : ruleCount - i .i ≡ 0 = omega arith in
-    c .rule2 .ensures ∙ at-last (a .c) (a .l) (ruleCount - i .i) (i .i) e ∙ sym (i .inv .1)
+    c .rule2 .ensures ∙ at-last (a .c) (asLevel (a .l)) (ruleCount - i .i) (i .i) e ∙ sym (i .inv .1)
 
 pub lowest-rule-spec : {M : Type 1} → statement M
 lowest-rule-spec =

@@ -1,7 +1,7 @@
 -- `message::read_kind` meets its contract.
 use mathlib.Core.Path.{sym, ap, _∙_}
 use denote.Ref.{now}
-use Rattle.message.specs.Message.{withBody, withKind}
+use Rattle.message.specs.Reading.{withBody, withKind}
 use borrow.Author.Needs.{needs}
 use Rattle.message.proofs.read_kind.Statement.{statement}
 use Rattle.message.proofs.read_kind.Tie as tie

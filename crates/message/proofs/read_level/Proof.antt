@@ -3,7 +3,7 @@ use mathlib.Core.Path.{sym, ap, _∙_}
 use native.Mathlib.Omega.{arith}
 use denote.Ref.{now}
 use Rattle.varint.proofs.Laws.{value-within}
-use Rattle.message.specs.Message.{withLevel}
+use Rattle.message.specs.Reading.{withLevel}
 use borrow.Author.Needs.{needs}
 use Rattle.message.proofs.read_level.Statement.{statement}
 use Rattle.message.proofs.read_level.Tie as tie

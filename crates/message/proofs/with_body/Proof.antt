@@ -1,6 +1,6 @@
 -- `message::with_body` meets its contract.
 use mathlib.Core.Path.{sym, ap}
-use Rattle.message.specs.Message.{withBody}
+use Rattle.message.specs.Reading.{withBody}
 use borrow.Author.Needs.{needs}
 use Rattle.message.proofs.with_body.Statement.{statement}
 use Rattle.message.proofs.with_body.Tie as tie

@@ -1,6 +1,7 @@
 use Prim.Native.Nat.{_-_}
 use native.Mathlib.Omega.{arith}
 use borrow.Author.Needs.{needs}
+use Rattle.plan.specs.Tie.{asPlan}
 use Rattle.party_inspect.proofs.Entries.{Below, before, enters-whole, enters-not, enters-side, side-asks}
 use Rattle.party_inspect.proofs.enter.Statement.{statement}
 use Rattle.party_inspect.proofs.enter.Tie as tie
@@ -11,12 +12,12 @@ whole-requires c κs = search needs
 returns : tie.Need-returns
 returns c =
     let a = c .before .before .before .args in
-    enters-whole (a .plan) (a .t3) (a .i) (a .k) (c .before .if1 .taken) (c .whole .result) (c .whole .ensures)
+    enters-whole (asPlan (a .plan)) (a .t3) (a .i) (a .k) (c .before .if1 .taken) (c .whole .result) (c .whole .ensures)
 
 returns-2 : tie.Need-returns-2
 returns-2 c =
     let a = c .before .before .before .args in
-    enters-not (a .plan) (a .t3) (a .i) (a .k) (c .before .if1 .left) _ (λ b. omega (arith, b .sends, c .if2 .taken, c .before .if1 .left))
+    enters-not (asPlan (a .plan)) (a .t3) (a .i) (a .k) (c .before .if1 .left) _ (λ b. omega (arith, b .sends, c .if2 .taken, c .before .if1 .left))
 
 sub-s : tie.Need-sub-s
 sub-s c = search needs
@@ -30,12 +31,12 @@ element-copy-out-s c = search needs
 returns-3 : tie.Need-returns-3
 returns-3 c =
     let a = c .before .before .before .before .before .args in
-    enters-not (a .plan) (a .t3) (a .i) (a .k) (c .before .before .before .if1 .left) _ (λ b. omega (arith, b .low, c .if3 .taken))
+    enters-not (asPlan (a .plan)) (a .t3) (a .i) (a .k) (c .before .before .before .if1 .left) _ (λ b. omega (arith, b .low, c .if3 .taken))
 
 returns-4 : tie.Need-returns-4
 returns-4 c =
     let a = c .before .before .before .before .before .before .before .args in
-    enters-not (a .plan) (a .t3) (a .i) (a .k) (c .before .before .before .before .before .if1 .left) _ (λ b. omega (arith, b .high, c .if4 .taken))
+    enters-not (asPlan (a .plan)) (a .t3) (a .i) (a .k) (c .before .before .before .before .before .if1 .left) _ (λ b. omega (arith, b .high, c .if4 .taken))
 
 side-requires : tie.Need-side-requires
 side-requires c κs =
@@ -46,7 +47,7 @@ side-requires c κs =
       low = omega (arith, c .before .before .if3 .left);
       high = omega (arith, c .if4 .left);
     } in
-    side-asks (a .plan) (a .t3) (a .i) (a .k) (s .pre) b
+    side-asks (asPlan (a .plan)) (a .t3) (a .i) (a .k) (s .pre) b
 
 returns-5 : tie.Need-returns-5
 returns-5 c =
@@ -57,7 +58,7 @@ returns-5 c =
       low = omega (arith, c .before .before .before .if3 .left);
       high = omega (arith, c .before .if4 .left);
     } in
-    enters-side (a .plan) (a .t3) (a .i) (a .k) (c .before .before .before .before .before .before .if1 .left) (c .side .result) b (c .side .ensures)
+    enters-side (asPlan (a .plan)) (a .t3) (a .i) (a .k) (c .before .before .before .before .before .before .if1 .left) (c .side .result) b (c .side .ensures)
 
 pub enter-spec : {M : Type 1} → statement M
 enter-spec =

@@ -3,6 +3,8 @@ use lib.ListN.{length}
 use borrow.Author.Needs.{needs}
 use borrow.Author.Tests.{not-true, not-false}
 use Rattle.level.specs.Level.{valueCount}
+use Rattle.plan.specs.Tie.{asPlan}
+use Rattle.level.specs.Tie.{asLevel}
 use Rattle.party_inspect.proofs.Places.{answers-sets, answers-output, answers-level}
 use Rattle.party_inspect.proofs.inspect_level.Statement.{statement}
 use Rattle.party_inspect.proofs.inspect_level.Tie as tie
@@ -21,7 +23,7 @@ returns : tie.Need-returns
 returns c =
     let a = c .before .before .before .before .args in
     let s = c .before .sets-pass in
-    (answers-sets (a .plan) (a .l) (a .chart) (a .i) (a .n) (s .result) (s .ensures) (not-true _ (c .if1 .taken)), places (c .before .before .before .before))
+    (answers-sets (asPlan (a .plan)) (asLevel (a .l)) (a .chart) (a .i) (a .n) (s .result) (s .ensures) (not-true _ (c .if1 .taken)), places (c .before .before .before .before))
 
 output-passes-requires : tie.Need-output-passes-requires
 output-passes-requires c κs = search needs
@@ -31,7 +33,7 @@ returns-2 c =
     let a = c .before .before .before .before .before .before .args in
     let s = c .before .before .before .sets-pass in
     let o = c .before .output-passes in
-    (answers-output (a .plan) (a .l) (a .chart) (a .i) (a .n) (s .result) (s .ensures) (o .result) (o .ensures) (not-false _ (c .before .before .if1 .left)) (not-true _ (c .if2 .taken)), places (c .before .before .before .before .before .before))
+    (answers-output (asPlan (a .plan)) (asLevel (a .l)) (a .chart) (a .i) (a .n) (s .result) (s .ensures) (o .result) (o .ensures) (not-false _ (c .before .before .if1 .left)) (not-true _ (c .if2 .taken)), places (c .before .before .before .before .before .before))
 
 inspect-place-requires : tie.Need-inspect-place-requires
 inspect-place-requires c κs = search needs
@@ -41,7 +43,7 @@ returns-3 c =
     let a = c .before .before .before .before .before .before .before .args in
     let s = c .before .before .before .before .sets-pass in
     let o = c .before .before .output-passes in (
-      answers-level (a .plan) (a .l) (a .chart) (a .i) (a .n) (s .result) (s .ensures) (o .result) (o .ensures) (c .inspect-place .result)
+      answers-level (asPlan (a .plan)) (asLevel (a .l)) (a .chart) (a .i) (a .n) (s .result) (s .ensures) (o .result) (o .ensures) (c .inspect-place .result)
           (not-false _ (c .before .before .before .if1 .left)) (not-false _ (c .before .if2 .left)) (c .inspect-place .ensures),
       places (c .before .before .before .before .before .before .before),
     )

@@ -24,7 +24,7 @@ use denote.Triple.Statement.{Contract, Triple}
 use denote.Triple.Call.{calls-at}
 use denote.Triple.Spec.{Meets, tripleOf}
 use denote.Triple.Table.{entered, cited}
-use Rattle.varint.specs.Varint.{varintAt}
+use Rattle.varint.specs.Reading.{varintAt}
 use Rattle.varint.proofs.VarintRead as S
 use Rattle.varint.proofs.VarintRead.Laws as S′
 use Rattle.varint.proofs.read as step

@@ -28,8 +28,9 @@ use denote.Triple.Statement.{Contract, Triple}
 use denote.Triple.Call.{calls-at}
 use denote.Triple.Spec.{Meets, tripleOf}
 use denote.Triple.Table.{entered, cited}
-use Rattle.plan.specs.Reading.{planFrom, planOf, answered}
-use Rattle.plan.specs.declared.PlanRead.{PlanRead}
+use Rattle.plan.specs.Reading.{planFrom, planOf}
+use Rattle.plan.specs.Inner.{PlanRead, answered}
+use Rattle.plan.specs.Tie.{asPlanRead}
 use Rattle.plan.proofs.PlanRead as S
 use Rattle.plan.proofs.PlanRead.Laws as S′
 use Rattle.plan_reader.specs.declared.PlanReader.{PlanReader}
@@ -87,11 +88,11 @@ module _ {M : Type 1} (𝓤 : URA M) (H : Heap 𝓤) (A : Atoms 𝓤) (W : Given
         land ! (from ! (stop !)) (init ! 3 refl (LL.lawful (T.the-type αᵉ) (T′.the-laws αᵉ) 𝓤 H A W .typed d _ reader-is .0)) $
         move ! (1 ∷ 0 ∷ []) $ use2 W (raw (Plan 𝓤 H A mem run .pre (to-plan d u))) (asks-one W (token κ q) (Reader (κ, tt) .own d (u ∷ []))) $
         calls-at ! fm (Plan 𝓤 H A mem run) known-plan (to-plan d u) (and-then ! (load ! (from ! (stop !)) (look ! 2 refl)) (no-more !)) (λ v.
-        returned W (token κ q) read-plan.ended (κ, tt) (d, tt) (λ p. p ≡ answered (planFrom (now (d .bytes)) (d .at))) v ! tt (λ p i plan-is.
+        returned W (token κ q) read-plan.ended (κ, tt) (d, tt) (λ p. asPlanRead p ≡ answered (planFrom (now (d .bytes)) (d .at))) v ! tt (λ p i plan-is.
         -- [the result; the token; what s owns; _2; …; _1; …; room for _0; …]
         land ! (from ! (stop !)) (init ! 7 refl (LL.lawful S.the-type S′.the-laws 𝓤 H A W .typed p _ plan-is .0)) $
         returns ! (look ! 7 refl) $ forget ! 3 refl $ forget ! 5 refl $ forget ! 7 refl $ move ! (7 ∷ 8 ∷ []) $ free1 ! $ move ! (5 ∷ 6 ∷ []) $ free1 ! $ move ! (3 ∷ 4 ∷ []) $ free1 ! $ free0 ! $
-        by ! (ends 𝓤 H A W Bytes (λ _. S.the-row) (reads.clauses 𝓤 H A mem run) κ q s (slice-vals s) tt tt p v (factI 𝓤 (p ≡ answered (planOf (now s))) (emp 𝓤) (from-first d s (e .0) (e .1) i))))))))))
+        by ! (ends 𝓤 H A W Bytes (λ _. S.the-row) (reads.clauses 𝓤 H A mem run) κ q s (slice-vals s) tt tt p v (factI 𝓤 (asPlanRead p ≡ answered (planOf (now s))) (emp 𝓤) (from-first d s (e .0) (e .1) i))))))))))
 
 read-meets : {M : Type 1} (𝓤 : URA M) (H : Heap 𝓤) (A : Atoms 𝓤) (W : Given 𝓤 H A) (mem : Memory → SProp 𝓤) (run : Routine → Fun 𝓤) (𝓣 : Tables 𝓤 H)
     → Triple 𝓤 (𝓣 .C #plan-reader·open) (Open 𝓤 H A mem run) → Triple 𝓤 (𝓣 .C #plan-reader·read-plan) (Plan 𝓤 H A mem run)

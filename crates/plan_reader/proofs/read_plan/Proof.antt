@@ -38,12 +38,13 @@ use denote.Triple.Statement.{Contract, Triple}
 use denote.Triple.Call.{calls-at, calls-at-last}
 use denote.Triple.Spec.{Meets, tripleOf}
 use denote.Triple.Table.{entered, cited}
-use Rattle.varint.specs.Varint.{varintAt}
+use Rattle.varint.specs.Reading.{varintAt}
 use Rattle.varint.specs.declared.VarintRead.{VarintRead}
 use Rattle.varint.proofs.VarintRead as K
 use Rattle.varint.proofs.VarintRead.Laws as K′
-use Rattle.plan.specs.Reading.{planFrom, answered}
-use Rattle.plan.specs.declared.PlanRead.{PlanRead}
+use Rattle.plan.specs.Reading.{planFrom}
+use Rattle.plan.specs.Inner.{answered}
+use Rattle.plan.specs.Tie.{asPlanRead}
 use Rattle.plan.proofs.PlanRead as S
 use Rattle.plan.proofs.PlanRead.Laws as S′
 use Rattle.plan_groups.specs.declared.Next.{Next}
@@ -237,12 +238,12 @@ module _ {M : Type 1} (𝓤 : URA M) (H : Heap 𝓤) (A : Atoms 𝓤) (W : Given
           use2 W (raw (Finish 𝓤 H A mem run .pre (to-finish (x .p) (x .u) (x .d)))) (asks-with W (token κ q) (fsep (P.the-row .own (x .p) (x .u ∷ [])) (fields κ (x .d))) (Sound (x .p .next) (x .p .edges)) (x .sound)) $
           -- [what `finish` asks; what the readers own; the locals]
           calls-at ! fm (Finish 𝓤 H A mem run) known-finish (to-finish (x .p) (x .u) (x .d)) (and-then ! (load ! (from ! (stop !)) (look ! 17 refl)) (and-then ! (load ! (from ! (stop !)) (look ! 5 refl)) (and-then ! (load ! (from ! (stop !)) (look ! 3 refl)) (no-more !)))) (λ u.
-          returned W (token κ q) finish.ended (κ, tt) (x .p, (x .d .bytes, (x .d .at, tt))) (λ r. Holds (not (wanting (x .p .next))) → r ≡ answered (restOf (x .p .next) (x .p .edges) (now (x .d .bytes)) (x .d .at))) u ! tt (λ r e r-is.
+          returned W (token κ q) finish.ended (κ, tt) (x .p, (x .d .bytes, (x .d .at, tt))) (λ r. Holds (not (wanting (x .p .next))) → asPlanRead r ≡ answered (restOf (x .p .next) (x .p .edges) (now (x .d .bytes)) (x .d .at))) u ! tt (λ r e r-is.
           -- [the result; the token; what the readers own; the locals]
           land ! (from ! (stop !)) (init ! 24 refl (LL.lawful S.the-type S′.the-laws 𝓤 H A W .typed r _ r-is .0)) $
           returns ! (look ! 24 refl) $ forget ! 24 refl $ forget ! 22 refl $ forget ! 20 refl $ forget ! 18 refl $ forget ! 6 refl $ forget ! 4 refl $
           move ! (24 ∷ 25 ∷ []) $ free1 ! $ move ! (22 ∷ 23 ∷ []) $ free1 ! $ move ! (20 ∷ 21 ∷ []) $ free1 ! $ move ! (18 ∷ 19 ∷ []) $ free1 ! $ move ! (16 ∷ 17 ∷ []) $ free1 ! $ move ! (14 ∷ 15 ∷ []) $ free1 ! $ move ! (12 ∷ 13 ∷ []) $ free1 ! $ move ! (10 ∷ 11 ∷ []) $ free1 ! $ move ! (8 ∷ 9 ∷ []) $ free1 ! $ move ! (6 ∷ 7 ∷ []) $ free1 ! $ move ! (4 ∷ 5 ∷ []) $ free1 ! $ free0 ! $ keep ! (0 ∷ 1 ∷ 3 ∷ []) $
-          by ! (ends 𝓤 H A W Reader (λ _. S.the-row) (read-plan.clauses 𝓤 H A mem run) κ q d₀ (mach d₀ ∷ []) tt tt r u (factI 𝓤 (r ≡ answered (planFrom (now (d₀ .bytes)) (d₀ .at))) (emp 𝓤) (e no-more-groups ∙ ap answered (x .same))))))
+          by ! (ends 𝓤 H A W Reader (λ _. S.the-row) (read-plan.clauses 𝓤 H A mem run) κ q d₀ (mach d₀ ∷ []) tt tt r u (factI 𝓤 (asPlanRead r ≡ answered (planFrom (now (d₀ .bytes)) (d₀ .at))) (emp 𝓤) (e no-more-groups ∙ ap answered (x .same))))))
 
       -- a further group
       goes-on : (x : Point κ d₀) → Holds (wanting (x .p .next)) → Sq W (Inv x) (runs (𝓣 .C) (𝓣 .Λ) En more-body (anyQ (afterTurn 𝓤 H (Below 𝓤 H A less Inv x) Left)))

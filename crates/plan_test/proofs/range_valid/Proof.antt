@@ -1,5 +1,5 @@
 -- `plan_test::range_valid` meets its contract: each question is a part of `rangeValid`.
-use Rattle.plan.specs.declared.Plan.{Plan}
+use Rattle.plan.specs.Plan.{Plan}
 use native.Mathlib.Omega.{arith}
 use borrow.Author.Tests.{not-true, not-false}
 use Rattle.plan_test.proofs.Answers.{no-range, last-range, refuted, passed}

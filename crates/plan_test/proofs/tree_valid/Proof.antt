@@ -1,6 +1,6 @@
 -- `plan_test::tree_valid` meets its contract: each question is a part of `treeValid`.
 use Rattle.base.specs.Limits.{maxVertices}
-use Rattle.plan.specs.declared.Plan.{Plan}
+use Rattle.plan.specs.Plan.{Plan}
 use native.Mathlib.Omega.{arith}
 use borrow.Author.Tests.{not-true, not-false}
 use Rattle.plan_test.proofs.Answers.{no-tree, last-tree, refuted, passed, noted-none}

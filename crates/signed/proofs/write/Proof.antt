@@ -4,7 +4,8 @@ use mir.ValLaws.{toZ-ofZ}
 use Rattle.signed.specs.Signed.{zigzag}
 use mathlib.Core.Path.{ap, _∙_}
 use denote.Ref.{now}
-use Rattle.varint.specs.Varint.{varintBytes, writtenOf, bufferOf}
+use Rattle.varint.specs.Varint.{varintBytes}
+use Rattle.varint.specs.Writing.{writtenOf, bufferOf}
 use borrow.Author.Needs.{needs}
 use Rattle.signed.proofs.write.Statement.{statement}
 use Rattle.signed.proofs.write.Tie as tie

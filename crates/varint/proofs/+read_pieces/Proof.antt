@@ -3,7 +3,7 @@ use borrow.Author.Needs.{needs}
 use native.Mathlib.Omega.{arith}
 use denote.Ref.{now}
 use mathlib.Core.Path.{sym, ap, _∙_}
-use Rattle.varint.specs.Varint.{prefixed}
+use Rattle.varint.specs.Reading.{prefixed}
 use Rattle.varint.proofs.Laws.{at-none, at-end, at-last, at-more}
 use Prim.Native.Nat.{ℕ, _<_}
 use borrow.Fn.Kinds.{In}

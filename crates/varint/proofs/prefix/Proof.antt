@@ -4,7 +4,7 @@ use Rattle.varint.specs.declared.VarintRead.the-variants.{Short}
 use mathlib.Core.Path.{_≡_, sym, ap, _∙_}
 use Prim.Native.Nat.{ℕ, _-_, _+_, _*_, max}
 use native.Mathlib.Omega.{arith}
-use Rattle.varint.specs.Varint.{prefixed}
+use Rattle.varint.specs.Reading.{prefixed}
 use Rattle.varint.proofs.Laws.{prefixed-large, prefixed-value, prefixed-short, prefixed-short-large}
 use borrow.Author.Needs.{needs}
 use Rattle.varint.proofs.prefix.Statement.{statement}

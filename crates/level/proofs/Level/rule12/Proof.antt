@@ -11,6 +11,7 @@ use Rattle.level.specs.declared.Effect.the-variants.{Enter}
 use Rattle.level.specs.Level.{senders, slot}
 use Rattle.level.specs.Counts.{sided}
 use Rattle.level.specs.Rules.{does, rule12}
+use Rattle.level.specs.Tie.{asLevel}
 use Rattle.level.proofs.Choices.{chosen, no-side}
 use Rattle.level.proofs.Level.rule12.Statement.{statement}
 use Rattle.level.proofs.Level.rule12.Tie as tie
@@ -41,15 +42,15 @@ returns-3 c =
     let a = c .before .before .before .before .before .before .before .args in
     c .idle3 .ensures
     ∙ rw (eq-eqb _ _ (c .before .before .before .before .before .before .if1 .left), c .before .before .before .before .before .if2 .left)
-    (no-side (a .c .degree) (smallest (a .c .degree) (λ i. sided (a .c) (a .t1) (i + 1))) _ (omega arith) (c .before .before .side .ensures) (c .before .if3 .taken) _ _)
+    (no-side (a .c .degree) (smallest (a .c .degree) (λ i. sided (a .c) (asLevel (a .t1)) (i + 1))) _ (omega arith) (c .before .before .side .ensures) (c .before .if3 .taken) _ _)
 
 returns-4 : tie.Need-returns-4
 unfolding rule12 sided senders slot
 returns-4 c =
     let a = c .before .before .before .before .before .before .args in
-    let i = smallest (a .c .degree) (λ i. sided (a .c) (a .t1) (i + 1)) in
+    let i = smallest (a .c .degree) (λ i. sided (a .c) (asLevel (a .t1)) (i + 1)) in
     rw (eq-eqb _ _ (c .before .before .before .before .before .if1 .left), c .before .before .before .before .if2 .left)
-    (chosen (ltb i (a .c .degree)) (i + 1) _ (c .before .side .ensures) (c .if3 .left) (λ k. does (a .t1) (Enter k false)) _)
+    (chosen (ltb i (a .c .degree)) (i + 1) _ (c .before .side .ensures) (c .if3 .left) (λ k. does (asLevel (a .t1)) (Enter k false)) _)
 
 pub rule12-spec : {M : Type 1} → statement M
 rule12-spec =

@@ -6,6 +6,7 @@ use native.Mathlib.Omega.{arith}
 use borrow.Author.Tests.{eq-eqb, ne-eqb, lt-leb, le-leb, lt-ltb, le-ltb}
 use Rattle.message.specs.Message.{noneValue}
 use Rattle.level.specs.Rules.{unanswered, rule14}
+use Rattle.level.specs.Tie.{asLevel}
 use Rattle.level.proofs.Level.rule14.Statement.{statement}
 use Rattle.level.proofs.Level.rule14.Tie as tie
 
@@ -36,7 +37,7 @@ returns-3 c =
     let a = c .before .before .before .before .before .args in
     let v = a .self .result in
     c .idle3 .ensures
-    ∙ rw (le-leb 1 v (omega (arith, c .before .before .before .before .if1 .left)), lt-ltb v noneValue (omega (arith, c .before .before .before .if2 .left)), eq-eqb _ _ (c .before .if3 .taken), and-false (unanswered (a .self)))
+    ∙ rw (le-leb 1 v (omega (arith, c .before .before .before .before .if1 .left)), lt-ltb v noneValue (omega (arith, c .before .before .before .if2 .left)), eq-eqb _ _ (c .before .if3 .taken), and-false (unanswered (asLevel (a .self))))
 
 answer-requires : tie.Need-answer-requires
 answer-requires c κs = search needs
@@ -46,7 +47,7 @@ unfolding rule14
 returns-4 c =
     let a = c .before .before .before .before .before .args in
     let v = a .self .result in
-    rw (le-leb 1 v (omega (arith, c .before .before .before .before .if1 .left)), lt-ltb v noneValue (omega (arith, c .before .before .before .if2 .left)), ne-eqb _ _ (c .before .if3 .left), and-true (unanswered (a .self))) (c .answer .ensures)
+    rw (le-leb 1 v (omega (arith, c .before .before .before .before .if1 .left)), lt-ltb v noneValue (omega (arith, c .before .before .before .if2 .left)), ne-eqb _ _ (c .before .if3 .left), and-true (unanswered (asLevel (a .self)))) (c .answer .ensures)
 
 pub rule14-spec : {M : Type 1} → statement M
 rule14-spec =

@@ -8,6 +8,7 @@ use Rattle.level.specs.declared.Effect.the-variants.{Send}
 use Rattle.level.specs.Level.{senders, slot, withProposal}
 use Rattle.level.specs.Counts.{mayPropose}
 use Rattle.level.specs.Rules.{does, smallestValue, isValue, rule3}
+use Rattle.level.specs.Tie.{asLevel}
 use Rattle.level.proofs.Choices.{chosen, no-value}
 use Rattle.level.proofs.Level.rule3.Statement.{statement}
 use Rattle.level.proofs.Level.rule3.Tie as tie
@@ -31,14 +32,14 @@ returns-2 c =
     let a = c .before .before .before .before .before .before .args in
     c .idle2 .ensures
     ∙ rw (eq-eqb _ _ (c .before .before .before .before .before .if1 .left))
-    (no-value (a .c .degree) (smallestValue (a .c) (mayPropose (a .c) (a .t1))) _ (omega arith) (c .before .before .proposal .ensures) (c .before .if2 .taken) _ _)
+    (no-value (a .c .degree) (smallestValue (a .c) (mayPropose (a .c) (asLevel (a .t1)))) _ (omega arith) (c .before .before .proposal .ensures) (c .before .if2 .taken) _ _)
 
 returns-3 : tie.Need-returns-3
 unfolding rule3 mayPropose senders slot
 returns-3 c =
     let a = c .before .before .before .before .before .args in
     rw (eq-eqb _ _ (c .before .before .before .before .if1 .left))
-    (chosen (isValue (a .c) (smallestValue (a .c) (mayPropose (a .c) (a .t1)))) (smallestValue (a .c) (mayPropose (a .c) (a .t1))) _ (c .before .proposal .ensures) (c .if2 .left) (λ v. does (withProposal (a .t1) v) (Send (FirstProposal v))) _)
+    (chosen (isValue (a .c) (smallestValue (a .c) (mayPropose (a .c) (asLevel (a .t1))))) (smallestValue (a .c) (mayPropose (a .c) (asLevel (a .t1)))) _ (c .before .proposal .ensures) (c .if2 .left) (λ v. does (withProposal (asLevel (a .t1)) v) (Send (FirstProposal v))) _)
 
 pub rule3-spec : {M : Type 1} → statement M
 rule3-spec = tie.close (tie.spec idle-requires returns proposal-requires idle-requires-2 returns-2 returns-3)

@@ -7,6 +7,7 @@ use Rattle.level.specs.declared.Effect.the-variants.{Quiet}
 use Rattle.level.specs.Level.{senders, slot, withFirst}
 use Rattle.level.specs.Counts.{proposed, split, splitAt, digitEchoes}
 use Rattle.level.specs.Rules.{does, smallestValue, isValue, rule4}
+use Rattle.level.specs.Tie.{asLevel}
 use Rattle.level.proofs.Choices.{chosen-or, no-value-or}
 use Rattle.level.proofs.Level.rule4.Statement.{statement}
 use Rattle.level.proofs.Level.rule4.Tie as tie
@@ -30,14 +31,14 @@ returns-2 c =
     let a = c .before .before .before .before .before .before .args in
     c .idle2 .ensures
     ∙ rw (eq-eqb _ _ (c .before .before .before .before .before .if1 .left))
-    (no-value-or (a .c .degree) (smallestValue (a .c) (proposed (a .c) (a .t1))) _ (split (a .c) (a .t1)) (omega arith) (c .before .before .result .ensures) (c .before .if2 .taken) _ _ _)
+    (no-value-or (a .c .degree) (smallestValue (a .c) (proposed (a .c) (asLevel (a .t1)))) _ (split (a .c) (asLevel (a .t1))) (omega arith) (c .before .before .result .ensures) (c .before .if2 .taken) _ _ _)
 
 returns-3 : tie.Need-returns-3
 unfolding rule4 proposed split splitAt digitEchoes senders slot
 returns-3 c =
     let a = c .before .before .before .before .before .args in
     rw (eq-eqb _ _ (c .before .before .before .before .if1 .left))
-    (chosen-or (isValue (a .c) (smallestValue (a .c) (proposed (a .c) (a .t1)))) (split (a .c) (a .t1)) (smallestValue (a .c) (proposed (a .c) (a .t1))) _ (c .before .result .ensures) (c .if2 .left) (λ v. does (withFirst (a .t1) v) Quiet) _)
+    (chosen-or (isValue (a .c) (smallestValue (a .c) (proposed (a .c) (asLevel (a .t1))))) (split (a .c) (asLevel (a .t1))) (smallestValue (a .c) (proposed (a .c) (asLevel (a .t1)))) _ (c .before .result .ensures) (c .if2 .left) (λ v. does (withFirst (asLevel (a .t1)) v) Quiet) _)
 
 pub rule4-spec : {M : Type 1} → statement M
 rule4-spec = tie.close (tie.spec idle-requires returns result-requires idle-requires-2 returns-2 returns-3)

@@ -10,6 +10,7 @@ use Rattle.level.specs.declared.Effect.the-variants.{Send}
 use Rattle.level.specs.Level.{senders, slot, withSecondEcho}
 use Rattle.level.specs.Counts.{weak, candidate, echoedBy}
 use Rattle.level.specs.Rules.{does, firstCandidate, isCandidate, rule6}
+use Rattle.level.specs.Tie.{asLevel}
 use Rattle.level.proofs.Choices.{chosen, no-candidate}
 use Rattle.level.proofs.Level.rule6.Statement.{statement}
 use Rattle.level.proofs.Level.rule6.Tie as tie
@@ -33,7 +34,7 @@ returns-2 c =
     let a = c .before .before .before .before .before .before .before .before .args in
     c .idle2 .ensures
     ∙ rw (ne-eqb _ _ (c .before .before .before .before .before .before .before .if1 .left))
-    (no-candidate (a .c .degree) (firstCandidate (a .c) (λ w. echoedBy (weak (a .c)) (a .t1) w && not (getD (a .t1 .echoed) w false))) _ (omega arith) (c .before .before .echo .ensures .0) (c .before .if2 .taken) _ _)
+    (no-candidate (a .c .degree) (firstCandidate (a .c) (λ w. echoedBy (weak (a .c)) (asLevel (a .t1)) w && not (getD (a .t1 .echoed) w false))) _ (omega arith) (c .before .before .echo .ensures .0) (c .before .if2 .taken) _ _)
 
 cast-i : tie.Need-cast-i
 cast-i c = search needs
@@ -45,9 +46,9 @@ returns-3 : tie.Need-returns-3
 unfolding rule6 echoedBy senders slot
 returns-3 c =
     let a = c .before .before .before .before .before .before .before .args in
-    let i = firstCandidate (a .c) (λ w. echoedBy (weak (a .c)) (a .t1) w && not (getD (a .t1 .echoed) w false)) in
+    let i = firstCandidate (a .c) (λ w. echoedBy (weak (a .c)) (asLevel (a .t1)) w && not (getD (a .t1 .echoed) w false)) in
     rw (ne-eqb _ _ (c .before .before .before .before .before .before .if1 .left))
-    (chosen (isCandidate (a .c) i) (candidate (a .c) i) _ (c .before .echo .ensures .0) (c .if2 .left) (λ w. does (withSecondEcho (a .t1) w) (Send (SecondEcho w))) _)
+    (chosen (isCandidate (a .c) i) (candidate (a .c) i) _ (c .before .echo .ensures .0) (c .if2 .left) (λ w. does (withSecondEcho (asLevel (a .t1)) w) (Send (SecondEcho w))) _)
 
 pub rule6-spec : {M : Type 1} → statement M
 rule6-spec =

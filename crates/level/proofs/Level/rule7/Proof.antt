@@ -8,6 +8,7 @@ use Rattle.level.specs.declared.Effect.the-variants.{Send}
 use Rattle.level.specs.Level.{senders, slot, withSecondProposal}
 use Rattle.level.specs.Counts.{strong, candidate, echoedBy}
 use Rattle.level.specs.Rules.{does, firstCandidate, isCandidate, rule7}
+use Rattle.level.specs.Tie.{asLevel}
 use Rattle.level.proofs.Choices.{chosen, no-candidate}
 use Rattle.level.proofs.Level.rule7.Statement.{statement}
 use Rattle.level.proofs.Level.rule7.Tie as tie
@@ -38,15 +39,15 @@ returns-3 c =
     let a = c .before .before .before .before .before .before .before .args in
     c .idle3 .ensures
     ∙ rw (ne-eqb _ _ (c .before .before .before .before .before .before .if1 .left), eq-eqb _ _ (c .before .before .before .before .before .if2 .left))
-    (no-candidate (a .c .degree) (firstCandidate (a .c) (echoedBy (strong (a .c)) (a .t1))) _ (omega arith) (c .before .before .proposal .ensures) (c .before .if3 .taken) _ _)
+    (no-candidate (a .c .degree) (firstCandidate (a .c) (echoedBy (strong (a .c)) (asLevel (a .t1)))) _ (omega arith) (c .before .before .proposal .ensures) (c .before .if3 .taken) _ _)
 
 returns-4 : tie.Need-returns-4
 unfolding rule7 echoedBy senders slot
 returns-4 c =
     let a = c .before .before .before .before .before .before .args in
-    let i = firstCandidate (a .c) (echoedBy (strong (a .c)) (a .t1)) in
+    let i = firstCandidate (a .c) (echoedBy (strong (a .c)) (asLevel (a .t1))) in
     rw (ne-eqb _ _ (c .before .before .before .before .before .if1 .left), eq-eqb _ _ (c .before .before .before .before .if2 .left))
-    (chosen (isCandidate (a .c) i) (candidate (a .c) i) _ (c .before .proposal .ensures) (c .if3 .left) (λ w. does (withSecondProposal (a .t1) w) (Send (SecondProposal w))) _)
+    (chosen (isCandidate (a .c) i) (candidate (a .c) i) _ (c .before .proposal .ensures) (c .if3 .left) (λ w. does (withSecondProposal (asLevel (a .t1)) w) (Send (SecondProposal w))) _)
 
 pub rule7-spec : {M : Type 1} → statement M
 rule7-spec =

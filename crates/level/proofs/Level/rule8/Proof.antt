@@ -12,6 +12,7 @@ use Rattle.level.specs.declared.Effect.the-variants.{Quiet}
 use Rattle.level.specs.Level.{senders, slot, withResult}
 use Rattle.level.specs.Counts.{weak, candidate, echoedBy, secondProposed, echoedValues}
 use Rattle.level.specs.Rules.{does, firstCandidate, isCandidate, smallestValue, isValue, rule8}
+use Rattle.level.specs.Tie.{asLevel}
 use Rattle.level.proofs.Choices.{rated, unrated}
 use Rattle.level.proofs.Level.rule8.Statement.{statement}
 use Rattle.level.proofs.Level.rule8.Tie as tie
@@ -42,15 +43,15 @@ returns-3 c =
     let a = c .before .before .before .before .before .before .before .before .args in
     c .idle3 .ensures
     ∙ rw (ne-eqb _ _ (c .before .before .before .before .before .before .before .if1 .left), eq-eqb _ _ (c .before .before .before .before .before .before .if2 .left))
-    (unrated (a .c .degree) (firstCandidate (a .c) (secondProposed (a .c) (a .t1))) (echoedBy (weak (a .c)) (a .t1) noneValue && eqb (echoedValues (a .c) (a .t1)) 1) (echoedBy (weak (a .c)) (a .t1)) _ (omega arith) (c .before .before .before .result .ensures) (c .before .if3 .taken) _ _ _)
+    (unrated (a .c .degree) (firstCandidate (a .c) (secondProposed (a .c) (asLevel (a .t1)))) (echoedBy (weak (a .c)) (asLevel (a .t1)) noneValue && eqb (echoedValues (a .c) (asLevel (a .t1))) 1) (echoedBy (weak (a .c)) (asLevel (a .t1))) _ (omega arith) (c .before .before .before .result .ensures) (c .before .if3 .taken) _ _ _)
 
 returns-4 : tie.Need-returns-4
 unfolding rule8 secondProposed echoedBy echoedValues senders slot
 returns-4 c =
     let a = c .before .before .before .before .before .before .before .args in
-    let i = firstCandidate (a .c) (secondProposed (a .c) (a .t1)) in
+    let i = firstCandidate (a .c) (secondProposed (a .c) (asLevel (a .t1))) in
     rw (ne-eqb _ _ (c .before .before .before .before .before .before .if1 .left), eq-eqb _ _ (c .before .before .before .before .before .if2 .left))
-    (rated (isCandidate (a .c) i) (echoedBy (weak (a .c)) (a .t1) noneValue && eqb (echoedValues (a .c) (a .t1)) 1) (graded (candidate (a .c) i) (isValue (a .c) i)) (smallestValue (a .c) (echoedBy (weak (a .c)) (a .t1))) _ (c .before .before .result .ensures) (c .if3 .left) (λ (g : Graded). does (withResult (a .t1) (g .value) (g .sure)) Quiet) _)
+    (rated (isCandidate (a .c) i) (echoedBy (weak (a .c)) (asLevel (a .t1)) noneValue && eqb (echoedValues (a .c) (asLevel (a .t1))) 1) (graded (candidate (a .c) i) (isValue (a .c) i)) (smallestValue (a .c) (echoedBy (weak (a .c)) (asLevel (a .t1)))) _ (c .before .before .result .ensures) (c .if3 .left) (λ (g : Graded). does (withResult (asLevel (a .t1)) (g .value) (g .sure)) Quiet) _)
 
 pub rule8-spec : {M : Type 1} → statement M
 rule8-spec =

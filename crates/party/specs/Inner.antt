@@ -5,10 +5,9 @@ use lib.Dec.{ltb}
 use lib.ListN.{getD}
 use Rattle.base.specs.Limits.{levelCount}
 use Rattle.component.specs.declared.Survey.{Survey}
-use Rattle.component.specs.Component.{members, surveyOf}
-use Rattle.party.specs.declared.Party.{Party}
+use Rattle.component.specs.Inner.{members, surveyOf}
 use Rattle.party.specs.declared.Chart.{Chart}
-use Rattle.party.specs.Party.{levelAt, componentOf, sending}
+use Rattle.party.specs.Party.{Party, levelAt, componentOf, sending}
 
 -- what reading past the last survey gives
 abbrev pub noSurvey : Survey
