@@ -12,14 +12,11 @@ use lib.Signed.{leZ, _≤ℤ_}
 use Rattle.base.specs.Sets.{Set}
 use Rattle.signed.specs.Signed.{fromOffset}
 use Rattle.tree.specs.Walk.{OnPath}
-use Rattle.tree.specs.Edges.{Edges, Adjacent}
-use Rattle.tree.specs.Path.{pathEdges}
-use Rattle.tree.proofs.PathEdges.{Next, Along, path-adjacent, path-along}
-use Rattle.tree.proofs.PathWalk.{between}
+use Rattle.tree.specs.Edges.{Adjacent}
 use Rattle.plan.specs.Plan.{Plan}
 use Rattle.plan.specs.Positions.{edgesOf}
 use Rattle.plan_laws.proofs.Readings.{reading-sum}
-use Rattle.plan_laws.proofs.Shape.{edges-range}
+use Rattle.component_laws.proofs.Ranges.{range-adjacent, range-between}
 use Rattle.agreement.specs.History.{Instance, History}
 use Rattle.agreement.specs.Demand.{Near, Stands, Holds, Premises}
 use Rattle.agreement.specs.Ranges.{apart, Between, Input, HoldsOnRange}
@@ -74,26 +71,23 @@ module _ (p : Plan) (k : p .kind ≡ 2) where
 
   -- one edge apart at most
   near-close : (x w : ℕ) → x < p .count → w < p .count → Near p x w ↔ Close x w
-  near-close x w l m = (λ h. to (subst Joined (edges-range p k) h), λ h. subst Joined (sym (edges-range p k)) (from (h .0) (h .1) (ℕ-discrete x w)))
+  near-close x w l m = (to, λ h. from (h .0) (h .1) (ℕ-discrete x w))
     where
-      Joined : Edges → Type 0
-      Joined E = (x ≡ w) ⊎ Adjacent E x w
-
-      next : Next x w → Close x w
+      next : (w ≡ suc x) ⊎ (x ≡ suc w) → Close x w
       next (inl e) = (omega arith, omega arith)
       next (inr e) = (omega arith, omega arith)
 
-      to : Joined (pathEdges (p .count - 1)) → Close x w
+      to : Near p x w → Close x w
       to (inl e) = (omega arith, omega arith)
-      to (inr h) = next (path-adjacent (p .count - 1) x w .0 h .0)
+      to (inr h) = next (range-adjacent p k x w l m .0 h)
 
-      beside : x ≤ suc w → w ≤ suc x → (x ≡ w → ⊥) → Dec (x ≤ w) → Next x w
+      beside : x ≤ suc w → w ≤ suc x → (x ≡ w → ⊥) → Dec (x ≤ w) → (w ≡ suc x) ⊎ (x ≡ suc w)
       beside a b d (yes i) = inl (omega arith)
       beside a b d (no i) = inr (omega arith)
 
-      from : x ≤ suc w → w ≤ suc x → Dec (x ≡ w) → Joined (pathEdges (p .count - 1))
+      from : x ≤ suc w → w ≤ suc x → Dec (x ≡ w) → Near p x w
       from a b (yes e) = inl e
-      from a b (no d) = inr (path-adjacent (p .count - 1) x w .1 (beside a b d (decLe x w), omega arith, omega arith))
+      from a b (no d) = inr (range-adjacent p k x w l m .1 (beside a b d (decLe x w)))
 
   -- At most one edge apart on a range is readings at most 1 apart.
   pub near-readings : (x w : ℕ) (y z : ℤ) → Stands p x y → Stands p w z → Near p x w ↔ (apart y z ≤ 1)
@@ -111,14 +105,8 @@ module _ (p : Plan) (k : p .kind ≡ 2) where
   pub path-readings : (a b x : ℕ) (c d y : ℤ) → Stands p a c → Stands p b d → Stands p x y → OnPath (Adjacent (edgesOf p)) a b x ↔ Between c d y
   path-readings a b x c d y s t u = (λ h. to (inside .0 h) (decLe a b), λ h. inside .1 (from h))
     where
-      n : suc (p .count - 1) ≡ p .count
-      n = omega (arith, s .0)
-
-      along : Along (p .count) (edgesOf p)
-      along = subst₂ Along n (sym (edges-range p k)) (path-along (p .count - 1))
-
       inside : OnPath (Adjacent (edgesOf p)) a b x ↔ ((min a b ≤ x) × (x ≤ max a b))
-      inside = between (p .count) (edgesOf p) along a b x (s .0) (t .0)
+      inside = range-between p k a b x (s .0) (t .0)
 
       to : (min a b ≤ x) × (x ≤ max a b) → Dec (a ≤ b) → Between c d y
       to h (yes l) = inl (readings-order a x c y s u .1 (omega (arith, h .0)), readings-order x b y d u t .1 (omega (arith, h .1)))

@@ -16,6 +16,7 @@ use Rattle.plan.specs.Positions.{rangePlan}
 use Rattle.plan.specs.Reading.{planFrom, planOf}
 use Rattle.plan.specs.Valid.{planValid}
 use Rattle.component.specs.Component.{sizeOf}
+use Rattle.component_laws.proofs.Ranges.{upper-wide}
 use Rattle.journal.specs.declared.Record.{Record}
 use Rattle.party.specs.Party.{Party, newParty, componentOf, sending}
 use Rattle.party.specs.Valid.{partyValid}
@@ -28,7 +29,7 @@ use Rattle.agreement.proofs.Words.{made-records}
 use Rattle.agreement_levels.specs.Alone.{aloneInstance, nobody, echoAt, widest}
 use Rattle.agreement_levels.proofs.Alone.{goes-down}
 use Rattle.agreement_levels.proofs.Histories.{told}
-use Rattle.agreement_levels.proofs.Sizes.{size-at, some, wide}
+use Rattle.agreement_levels.proofs.Sizes.{size-at}
 
 -- A board sends at level i only on a plan of 3 · 2 ^ i positions or more, whatever tree it is: at level 14 on 49,152 or more.
 pub sending-needs : (p : Party) → T (partyValid p) → length (p .levels) ≡ levelCount → (i : ℕ) → T (sending p i) → 3 * 2 ^ i ≤ p .plan .count
@@ -45,7 +46,7 @@ pub range-uses : (a : ℕ) (bytes : List ℕ) (plan : Plan) → Shared (aloneIns
 unfolding count
 range-uses a bytes plan f range L most big =
     let valid : T (planValid plan) = plan-valid (aloneInstance a bytes) plan f 0 (omega arith) in
-    let r = goes-down plan valid a (plan .count - 1) L most (λ i k. wide plan valid range i (smaller i k)) (omega (arith, some plan valid range)) in
+    let r = goes-down plan valid a (plan .count - 1) L most (λ i k. upper-wide plan range valid i (smaller i k)) (omega (arith, smaller 0 (omega arith))) in
     let w = told a bytes plan f (r .0) (r .1) (r .2) in (
       w .h,
       record { shared = f; few = omega arith; allowed = w .allowed },

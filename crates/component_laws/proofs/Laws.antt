@@ -9,9 +9,12 @@ use lib.ListN.{length}
 use Rattle.base.specs.Sets.{Set, count}
 use Rattle.base.specs.Limits.{maxDegree, levelCount}
 use Rattle.base.proofs.Counts.{member, count-pos, count-one}
+use Rattle.tree.specs.Walk.{Walk}
+use Rattle.tree.specs.Edges.{Adjacent}
 use Rattle.tree.specs.Inner.{Acyclic}
 use Rattle.tree.specs.Component.{upto}
 use Rattle.tree.proofs.Laws as tree
+use Rattle.tree.proofs.Walks.{mono}
 use Rattle.plan.specs.Plan.{Plan}
 use Rattle.plan.specs.Positions.{edgesOf}
 use Rattle.plan.specs.Valid.{planValid}
@@ -44,6 +47,10 @@ whole-plan p h = let s = shape p h in of-plan p (wholeOf p) h (tree.whole (p .co
 pub whole-in : (p : Plan) (x : ℕ) → x < p .count → T (wholeOf p x)
 unfolding upto
 whole-in p x h = lt→ltb x (p .count) h
+
+-- a walk joins any two
+pub whole-joined : (p : Plan) → T (planValid p) → (x y : ℕ) → T (wholeOf p x) → T (wholeOf p y) → Walk (Adjacent (edgesOf p)) (λ _. Unit {0}) x y
+whole-joined p h x y a b = mono (Adjacent (edgesOf p)) (λ z _. tt) (whole-plan p h .joins x y a b)
 
 pub whole-size : (p : Plan) → sizeOf p (wholeOf p) ≡ p .count
 whole-size p = tree.count-upto (p .count)

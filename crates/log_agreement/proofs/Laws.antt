@@ -8,18 +8,14 @@ use lib.Dec.{T}
 use Rattle.base.specs.Sets.{Set, count, Sound}
 use Rattle.base.proofs.Bools.{T-dec}
 use Rattle.tree.specs.Walk.{Walk, OnPath}
-use Rattle.tree.specs.Edges.{Edges, Adjacent}
-use Rattle.tree.specs.Inner.{Acyclic}
-use Rattle.tree.proofs.Laws.{Component}
-use Rattle.tree.proofs.Walks.{mono}
+use Rattle.tree.specs.Edges.{Adjacent}
 use Rattle.plan.specs.Plan.{Plan}
 use Rattle.plan.specs.Positions.{edgesOf}
 use Rattle.message.specs.declared.Message.{Message}
 use Rattle.level.specs.Level.{noOutput}
 use Rattle.party.specs.Party.{Party, levelAt, componentOf}
 use Rattle.component.specs.Component.{wholeOf}
-use Rattle.component_laws.proofs.Laws.{plan-component, whole-plan}
-use Rattle.party_laws.proofs.Laws.{shape}
+use Rattle.component_laws.proofs.Laws.{plan-component, acyclic, whole-plan, whole-joined}
 use Rattle.execution.specs.History.{HStep, log, after}
 use Rattle.execution.specs.Inner.{ValidH}
 use Rattle.vote_machine.specs.Machine.{voteMachine, Heard, Sent}
@@ -50,13 +46,8 @@ module _ (n t agreement : ℕ) (plan : Plan) (v : Passes n t plan) (bad : Set) (
   abbrev J : Joint n t agreement plan bad st
   J = joint n t agreement plan v bad few h ok
 
-  abbrev E : Edges
-  E = edgesOf plan
-
-  acyclic : Acyclic (edgesOf plan)
-  acyclic = shape plan (v .valid) .acyclic
-
-  whole : Component (edgesOf plan) (plan .count) (wholeOf plan)
+  -- all positions are a component
+  whole : planShape plan .Proper (wholeOf plan)
   whole = plan-component plan (wholeOf plan) (whole-plan plan (v .valid))
 
   -- an output at level 0 is there only if it is entered
@@ -73,7 +64,7 @@ module _ (n t agreement : ℕ) (plan : Plan) (v : Passes n t plan) (bad : Set) (
       → (levelAt (st i) 0 .output ≡ levelAt (st j) 0 .output)
       ⊎ Adjacent (edgesOf plan) (levelAt (st i) 0 .output) (levelAt (st j) 0 .output)
   near i j gi gj di dj =
-      tree-near E acyclic (plan .count) (levelsOf plan st) n bad (wholeOf plan) whole (facts J)
+      tree-near (edgesOf plan) (acyclic plan (v .valid)) (plan .count) (levelsOf plan st) n bad (wholeOf plan) whole (facts J)
       i j (levelAt (st i) 0 .output) (levelAt (st j) 0 .output) gi gj (answer i di) (answer j dj)
 
   -- Each lies on the path between two inputs of sound boards, which may be the same one.
@@ -81,7 +72,7 @@ module _ (n t agreement : ℕ) (plan : Plan) (v : Passes n t plan) (bad : Set) (
       → (a : ℕ) × (b : ℕ) × InputAt n bad st a × InputAt n bad st b
       × OnPath (Adjacent (edgesOf plan)) a b (levelAt (st i) 0 .output)
   between i g d =
-      let r = tree-between E acyclic (plan .count) (levelsOf plan st) n bad (wholeOf plan) whole (facts J) i (levelAt (st i) 0 .output) g (answer i d) in
+      let r = tree-between (edgesOf plan) (acyclic plan (v .valid)) (plan .count) (levelsOf plan st) n bad (wholeOf plan) whole (facts J) i (levelAt (st i) 0 .output) g (answer i d) in
       (r .0, r .1, input (r .0) (r .2), input (r .1) (r .3), r .4)
     where
       input : (x : ℕ) → Input (planShape plan) (levelsOf plan st) n bad x → InputAt n bad st x
@@ -95,7 +86,7 @@ module _ (n t agreement : ℕ) (plan : Plan) (v : Passes n t plan) (bad : Set) (
 
   pub joined : (x y : ℕ) → InputAt n bad (stateOf n t agreement plan h) x → InputAt n bad (stateOf n t agreement plan h) y
       → Walk (Adjacent (edgesOf plan)) (λ _. Unit {0}) x y
-  joined x y a b = mono (Adjacent (edgesOf plan)) (λ z _. tt) (whole .connected x y (input-on x a) (input-on y b))
+  joined x y a b = whole-joined plan (v .valid) x y (input-on x a) (input-on y b)
 
   -- Once every sound board has started and has taken all that sound boards made, each has an output.
   pub ends : ((i : ℕ) → Sound n bad i → T (levelAt (st i) 0 .entered))
@@ -103,6 +94,6 @@ module _ (n t agreement : ℕ) (plan : Plan) (v : Passes n t plan) (bad : Set) (
       → (i : ℕ) → Sound n bad i → levelAt (st i) 0 .output ≡ noOutput → ⊥
   ends started delivered i g e =
       let r =
-      tree-ends E acyclic (plan .count) (levelsOf plan st) n bad (wholeOf plan) whole (facts J) t (v .faults) few (quiet J delivered)
+      tree-ends (edgesOf plan) (acyclic plan (v .valid)) (plan .count) (levelsOf plan st) n bad (wholeOf plan) whole (facts J) t (v .faults) few (quiet J delivered)
       (λ j s. (componentOf (st j) 0, levelAt (st j) 0 .position, record { entered = started j s; over = refl; place = refl })) i g in
       r .1 .there (sym (r .1 .output) ∙ e)
