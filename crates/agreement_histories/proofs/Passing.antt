@@ -20,7 +20,7 @@ use Rattle.board_calls.specs.declared.Answer.{Answer}
 use Rattle.board_calls.specs.Calls.{answeredOf}
 use Rattle.agreement.specs.History.{Instance, History, Board, boardAfter}
 use Rattle.agreement.specs.Allowed.{Sound, Handed, Continues, Ours, recordsIn, TornAfter, May, Allowed}
-use Rattle.agreement.specs.Demand.{partyBy, answerNow, Premises}
+use Rattle.agreement.specs.Demand.{partyBy, answerNow, Shared, Premises}
 use Rattle.agreement_histories.specs.Scripts.{Action, sets-up, starts, takes, reads, sends, cuts, restores, restores-torn, tries, actor, lent, stepOf, followed, historyOf, RefusedIn, Refusing}
 use Rattle.agreement_histories.proofs.Worlds.{World, boardOf, beginning, acted, worldAfter, same, among, sentBy, sound, isWaiting, isRunning, tornBehind, fitsBoard, fits, allFit}
 use Rattle.agreement_histories.proofs.Tests.{among→, sentBy→, sound→, →sound, waiting→, running→, not-waiting→, torn-behind→, isRefused→}
@@ -30,13 +30,13 @@ use Rattle.agreement_histories.proofs.Shows.{Shows, shows-beginning, sh
 continues : (b : Board) → T (isRunning (b .stage)) → Continues b (b .party) (lent (b .journal)) (length (b .journal))
 continues b h = record { up = running→ (b .stage) h; same = refl; at = refl; kept = take-append-seam (b .journal) (replicate 32 0) }
 
-module _ (v : Instance) (bad : Set) (w : World) (h : History) (s : Shows v w h) where
-  -- the settings of the vote
-  ours : (i : ℕ) → Ours v i (v .n) (v .t) i (v .agreement) (v .plan)
-  ours i = record { boards = refl; faults = refl; seat = refl; number = refl; bytes = refl }
+-- the settings of the vote
+pub ours : (v : Instance) (i : ℕ) → Ours v i (v .n) (v .t) i (v .agreement) (v .plan)
+ours v i = record { boards = refl; faults = refl; seat = refl; number = refl; bytes = refl }
 
+module _ (v : Instance) (bad : Set) (w : World) (h : History) (s : Shows v w h) where
   may-board : (b : Board) (a : Action) → b ≡ boardAfter h (actor a) → Sound v bad (actor a) → T (fitsBoard v bad (w .sent) b a) → May v bad (stepOf v b a) h
-  may-board b (sets-up i) e o f = (o, inr (ap (λ (c : Board). c .stage) (sym e) ∙ waiting→ (b .stage) f, ours i))
+  may-board b (sets-up i) e o f = (o, inr (ap (λ (c : Board). c .stage) (sym e) ∙ waiting→ (b .stage) f, ours v i))
   may-board b (starts i z) e o f = (o, inr (subst (λ (c : Board). Continues c (b .party) (lent (b .journal)) (length (b .journal))) e (continues b f)))
   may-board b (takes i j m) e o f = (
     o,
@@ -63,12 +63,12 @@ module _ (v : Instance) (bad : Set) (w : World) (h : History) (s : Shows v w h) 
   )
   may-board b (cuts i k) e o f = (o, subst (λ (c : Board). c .guarded ≤ k) e (leb→le (b .guarded) k f))
   may-board b (restores i) e o f =
-      (o, inr (λ x. not-waiting→ (b .stage) f (ap (λ (c : Board). c .stage) e ∙ x), ours i, inl (ap (λ (c : Board). c .journal) e)))
+      (o, inr (λ x. not-waiting→ (b .stage) f (ap (λ (c : Board). c .stage) e ∙ x), ours v i, inl (ap (λ (c : Board). c .journal) e)))
   may-board b (restores-torn i tail) e o f = (
     o,
     inr (
       λ x. not-waiting→ (b .stage) (T-left up torn f) (ap (λ (c : Board). c .stage) e ∙ x),
-      ours i,
+      ours v i,
       inr (subst (λ (c : Board). TornAfter (c .journal) (b .journal ++ tail)) e (torn-behind→ (b .journal) (b .journal ++ tail) (T-right up torn f))),
     ),
   )
@@ -130,6 +130,36 @@ passes v bad script = allFit v bad (beginning v) script
 abbrev pub settled : Instance → Set → Bool
 settled v bad = (leb (v .n) maxBoards && ltb (3 * v .t) (v .n)) && (leb (v .agreement) maxNumber && leb (count (v .n) bad) (v .t))
 
+-- settings that pass
+pub sharing : (v : Instance) (plan : Plan) (bad : Set) → T (settled v bad) → planOf (v .plan) ≡ found plan → Shared v plan × (count (v .n) bad ≤ v .t)
+sharing v plan bad f g = (
+  record {
+    boards = leb→le (v .n) maxBoards (T-left one two ones);
+    faults = ltb→lt (3 * v .t) (v .n) (T-right one two ones);
+    number = leb→le (v .agreement) maxNumber (T-left three four twos);
+    reads = g;
+  },
+  leb→le (count (v .n) bad) (v .t) (T-right three four twos),
+)
+  where
+    one : Bool
+    one = leb (v .n) maxBoards
+
+    two : Bool
+    two = ltb (3 * v .t) (v .n)
+
+    three : Bool
+    three = leb (v .agreement) maxNumber
+
+    four : Bool
+    four = leb (count (v .n) bad) (v .t)
+
+    ones : T (one && two)
+    ones = T-left (one && two) (three && four) f
+
+    twos : T (three && four)
+    twos = T-right (one && two) (three && four) f
+
 -- f at, f (at + 1), ..: k of them
 unfoldable pub listed : ℕ → ℕ → (ℕ → Answer) → List Answer
 listed at zero f = []
@@ -158,34 +188,7 @@ module _ (v : Instance) (bad : Set) (script : List Action) (f : passes v bad scr
 
   -- with settings and a plan that pass, demand 3's premises hold
   pub premises-of : (plan : Plan) → settled v bad ≡ true → planOf (v .plan) ≡ found plan → Premises v plan bad (historyOf v script)
-  premises-of plan e g = record {
-    shared = record {
-      boards = leb→le (v .n) maxBoards (T-left one two ones);
-      faults = ltb→lt (3 * v .t) (v .n) (T-right one two ones);
-      number = leb→le (v .agreement) maxNumber (T-left three four twos);
-      reads = g;
-    };
-    few = leb→le (count (v .n) bad) (v .t) (T-right three four twos);
-    allowed = allowed;
-  }
-    where
-      one : Bool
-      one = leb (v .n) maxBoards
-
-      two : Bool
-      two = ltb (3 * v .t) (v .n)
-
-      three : Bool
-      three = leb (v .agreement) maxNumber
-
-      four : Bool
-      four = leb (count (v .n) bad) (v .t)
-
-      ones : T (one && two)
-      ones = T-left (one && two) (three && four) (true→T e)
-
-      twos : T (three && four)
-      twos = T-right (one && two) (three && four) (true→T e)
+  premises-of plan e g = let c = sharing v plan bad (true→T e) g in record { shared = c .0; few = c .1; allowed = allowed }
 
   -- the answers are those of the boards 0, 1, .. at the end
   pub answers : (l : List Answer) → listed 0 (length l) (answerIn v (ending v script)) ≡ l

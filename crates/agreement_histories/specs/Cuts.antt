@@ -1,25 +1,11 @@
 -- Two boards vote on the readings 0 to 2, with three cuts. Board 0 starts at 0, and the cut tears the start's record: it starts again at 2.
 -- Board 1 starts at 2, and a cut tears the record of the first message that it takes. Both answer 2; board 0 reads its answer and is cut once more.
 use mathlib.Core.List.{List, [], _∷_, _++_}
-use mathlib.Core.Bool.{false}
 use lib.IntN.{pos}
-use Rattle.base.specs.Limits.{offsetZero}
-use Rattle.base.specs.Sets.{Set}
-use Rattle.plan.specs.Plan.{Plan}
-use Rattle.plan.specs.Positions.{rangePlan}
 use Rattle.message.specs.declared.Body.the-variants.{FirstEcho, FirstProposal}
-use Rattle.agreement.specs.History.{Instance}
 use Rattle.agreement_histories.specs.Scripts.{Action, sets-up, starts, takes, reads, sends, cuts, restores, says}
 use Rattle.agreement_histories.specs.OneSide.{agreeing}
-
-abbrev pub vote : Instance
-vote = record { n = 2; t = 0; agreement = 1; plan = 2 ∷ 0 ∷ 2 ∷ [] }
-
-abbrev pub plan : Plan
-plan = rangePlan offsetZero 2
-
-abbrev pub bad : Set
-bad = λ _. false
+pub use Rattle.agreement_histories.specs.TwoBoards.{vote, plan, bad}
 
 -- board 0 starts at 0, and hands nothing over
 unfoldable pub lost : List Action

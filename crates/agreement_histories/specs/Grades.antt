@@ -1,25 +1,11 @@
 -- Two boards vote on the readings 0 to 2, centre 1, and start at 2 and 0. The order of delivery gives board 0 the result none, so that it answers the centre,
 -- and board 1 side 2 at grade 1, so that it answers 2: all is delivered, and the answers differ by an edge.
 use mathlib.Core.List.{List, [], _∷_}
-use mathlib.Core.Bool.{false}
 use lib.IntN.{pos}
-use Rattle.base.specs.Limits.{offsetZero}
-use Rattle.base.specs.Sets.{Set}
-use Rattle.plan.specs.Plan.{Plan}
-use Rattle.plan.specs.Positions.{rangePlan}
 use Rattle.message.specs.declared.Body.the-variants.{FirstEcho, FirstProposal, SecondEcho, SecondProposal, Side, Centre}
 use Rattle.message.specs.Message.{noneValue}
-use Rattle.agreement.specs.History.{Instance}
 use Rattle.agreement_histories.specs.Scripts.{Action, sets-up, starts, takes, sends, says}
-
-abbrev pub vote : Instance
-vote = record { n = 2; t = 0; agreement = 1; plan = 2 ∷ 0 ∷ 2 ∷ [] }
-
-abbrev pub plan : Plan
-plan = rangePlan offsetZero 2
-
-abbrev pub bad : Set
-bad = λ _. false
+pub use Rattle.agreement_histories.specs.TwoBoards.{vote, plan, bad}
 
 unfoldable pub script : List Action
 script =

@@ -1,5 +1,7 @@
 pub mod Scripts
 pub mod OneSide
+pub mod TwoBoards
+pub mod OneFaulty
 pub mod Alone
 pub mod Deep
 pub mod Cuts

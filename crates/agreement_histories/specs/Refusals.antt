@@ -3,27 +3,24 @@
 -- loses its start at 0. Both end at 2.
 use mathlib.Core.List.{List, [], _∷_, _++_}
 use Prim.Native.Nat.{ℕ}
-use lib.Dec.{eqb}
 use lib.IntN.{ℤ, pos}
 use lib.ListN.{length}
 use Rattle.base.specs.Limits.{offsetZero}
-use Rattle.base.specs.Sets.{Set}
 use Rattle.plan.specs.Plan.{Plan}
 use Rattle.plan.specs.Positions.{rangePlan}
 use Rattle.message.specs.declared.Message.{Message}
-use Rattle.message.specs.declared.Body.the-variants.{FirstEcho, FirstProposal, SecondEcho, SecondProposal}
+use Rattle.message.specs.declared.Body.the-variants.{FirstEcho}
 use Rattle.message.specs.Message.{messageBytes}
 use Rattle.agreement.specs.History.{Instance, Call, set-up, start, take-message, read-answer, restore, Board}
 use Rattle.agreement_histories.specs.Scripts.{Action, sets-up, starts, takes, reads, sends, cuts, restores, tries, lent, lentBack, saying, says}
+use Rattle.agreement_histories.specs.OneFaulty.{echoing, answering}
+pub use Rattle.agreement_histories.specs.OneFaulty.{bad}
 
 abbrev pub vote : Instance
 vote = record { n = 4; t = 1; agreement = 1; plan = 2 ∷ 0 ∷ 2 ∷ [] }
 
 abbrev pub plan : Plan
 plan = rangePlan offsetZero 2
-
-abbrev pub bad : Set
-bad = λ i. eqb i 3
 
 -- a start and a take with what the board has
 abbrev pub startAt : ℤ → Board → Call
@@ -82,41 +79,7 @@ rubbish =
 
 -- boards 0, 1 and 3 make every quorum
 unfoldable pub rest : List Action
-rest =
-    takes 0 0 (says (FirstEcho 2))
-    ∷ takes 0 1 (says (FirstEcho 2))
-    ∷ takes 0 3 (says (FirstEcho 2))
-    ∷ sends 0 (says (FirstProposal 2))
-    ∷ takes 1 0 (says (FirstEcho 2))
-    ∷ takes 1 1 (says (FirstEcho 2))
-    ∷ takes 1 3 (says (FirstEcho 2))
-    ∷ sends 1 (says (FirstProposal 2))
-    ∷ takes 0 0 (says (FirstProposal 2))
-    ∷ takes 0 1 (says (FirstProposal 2))
-    ∷ takes 0 3 (says (FirstProposal 2))
-    ∷ sends 0 (says (SecondEcho 2))
-    ∷ takes 1 0 (says (FirstProposal 2))
-    ∷ takes 1 1 (says (FirstProposal 2))
-    ∷ takes 1 3 (says (FirstProposal 2))
-    ∷ sends 1 (says (SecondEcho 2))
-    ∷ takes 0 0 (says (SecondEcho 2))
-    ∷ takes 0 1 (says (SecondEcho 2))
-    ∷ takes 0 3 (says (SecondEcho 2))
-    ∷ sends 0 (says (SecondProposal 2))
-    ∷ takes 1 0 (says (SecondEcho 2))
-    ∷ takes 1 1 (says (SecondEcho 2))
-    ∷ takes 1 3 (says (SecondEcho 2))
-    ∷ sends 1 (says (SecondProposal 2))
-    ∷ takes 0 0 (says (SecondProposal 2))
-    ∷ takes 0 1 (says (SecondProposal 2))
-    ∷ takes 0 3 (says (SecondProposal 2))
-    ∷ takes 1 0 (says (SecondProposal 2))
-    ∷ takes 1 1 (says (SecondProposal 2))
-    ∷ takes 1 3 (says (SecondProposal 2))
-    ∷ reads 0
-    ∷ cuts 0 75
-    ∷ cuts 0 75
-    ∷ []
+rest = echoing (takes 1 3 (says (FirstEcho 2)) ∷ answering (reads 0 ∷ cuts 0 75 ∷ cuts 0 75 ∷ []))
 
 abbrev pub early : List Action
 early = (opening ++ back) ++ lost

@@ -2,25 +2,11 @@
 -- tears a record, and after a second one before it wrote anything, where it is lent the torn record again; and once more when it has taken that message
 -- again. It goes on, all is delivered, and both answer 2.
 use mathlib.Core.List.{List, [], _∷_, _++_}
-use mathlib.Core.Bool.{false}
 use lib.IntN.{pos}
-use Rattle.base.specs.Limits.{offsetZero}
-use Rattle.base.specs.Sets.{Set}
-use Rattle.plan.specs.Plan.{Plan}
-use Rattle.plan.specs.Positions.{rangePlan}
 use Rattle.message.specs.declared.Body.the-variants.{FirstEcho, FirstProposal}
-use Rattle.agreement.specs.History.{Instance}
 use Rattle.agreement_histories.specs.Scripts.{Action, sets-up, starts, takes, sends, cuts, restores, restores-torn, says}
 use Rattle.agreement_histories.specs.OneSide.{agreeing}
-
-abbrev pub vote : Instance
-vote = record { n = 2; t = 0; agreement = 1; plan = 2 ∷ 0 ∷ 2 ∷ [] }
-
-abbrev pub plan : Plan
-plan = rangePlan offsetZero 2
-
-abbrev pub bad : Set
-bad = λ _. false
+pub use Rattle.agreement_histories.specs.TwoBoards.{vote, plan, bad}
 
 -- both start; board 1, whose record has three bytes, is cut and restored, and again before it writes anything
 unfoldable pub opening : List Action

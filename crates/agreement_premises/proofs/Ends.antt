@@ -19,14 +19,14 @@ use Rattle.agreement_histories.specs.Alone as alone-vote
 use Rattle.agreement_histories.proofs.Alone as alone-run
 use Rattle.agreement_histories.proofs.Worlds.{World, boardOf}
 use Rattle.agreement_histories.proofs.Shows.{Shows}
-use Rattle.agreement_histories.proofs.Passing.{passes, ending, shown, premises-of}
+use Rattle.agreement_histories.proofs.Passing.{passes, ending, shown, premises-of, sharing}
 use Rattle.agreement_histories.proofs.Delivery.{startsIn}
 use Rattle.agreement_histories.proofs.Delivered.{started}
 use Rattle.agreement_histories.proofs.Computing.{computing}
 use Rattle.agreement_premises.specs.Edits.{isCut, without}
 use Rattle.agreement_premises.specs.Examples.{three, threePlan, alone, nobody}
 use Rattle.agreement_premises.specs.Claims.{NotStarted, NotHanded, OwnCopyUntaken, AllStarted, AllHanded, AllTaken, begins, echoes, LostCounted, cutLast}
-use Rattle.agreement_premises.proofs.Failing.{sharing, sound-alone, unanswered}
+use Rattle.agreement_premises.proofs.Failing.{sound-alone, unanswered}
 
 -- the one board is board 0
 lone : (P : ℕ → Type 0) (i : ℕ) → Sound (alone three) nobody i → P 0 → P i

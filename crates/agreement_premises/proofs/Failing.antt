@@ -3,12 +3,11 @@ use mathlib.Core.Path.{_≡_, refl, sym, _∙_, subst}
 use mathlib.Core.Logic.{inl, inr}
 use mathlib.Core.Bool.{Bool, true, false, _&&_}
 use mathlib.Core.List.{List, []}
-use Prim.Native.Nat.{ℕ, _*_, _≤_}
+use Prim.Native.Nat.{ℕ}
 use native.Mathlib.Omega.{arith}
-use lib.Dec.{T, leb, ltb, leb→le, ltb→lt}
+use lib.Dec.{T}
 use lib.IntN.{ℤ}
-use Rattle.base.specs.Sets.{Set, count}
-use Rattle.base.specs.Limits.{maxBoards, maxNumber}
+use Rattle.base.specs.Sets.{Set}
 use Rattle.base.specs.Found.{found}
 use Rattle.base.proofs.Bools.{T-left, T-right, true→T}
 use Rattle.plan.specs.Plan.{Plan}
@@ -16,13 +15,13 @@ use Rattle.plan.specs.Reading.{planOf}
 use Rattle.board_calls.specs.declared.Answer.{Answer}
 use Rattle.board_calls.specs.Calls.{answeredOf}
 use Rattle.agreement.specs.History.{Instance, set-up, calls, History, Stage, waiting, running, Board, boardAfter}
-use Rattle.agreement.specs.Allowed.{Sound, Ours, May}
-use Rattle.agreement.specs.Demand.{partyBy, answerNow, Answers, Holds, Shared}
+use Rattle.agreement.specs.Allowed.{Sound, May}
+use Rattle.agreement.specs.Demand.{partyBy, answerNow, Answers, Holds}
 use Rattle.agreement_histories.specs.Scripts.{Action, historyOf}
 use Rattle.agreement_histories.proofs.Worlds.{World, sound, isRunning}
 use Rattle.agreement_histories.proofs.Tests.{sound→}
 use Rattle.agreement_histories.proofs.Shows.{Shows}
-use Rattle.agreement_histories.proofs.Passing.{answerIn, settled, passes, ending, shown}
+use Rattle.agreement_histories.proofs.Passing.{answerIn, settled, passes, ending, shown, ours, sharing}
 use Rattle.agreement_histories.proofs.Delivery.{full}
 use Rattle.agreement_histories.proofs.Delivered.{completed}
 use Rattle.agreement_premises.specs.Edits.{Edit}
@@ -42,44 +41,10 @@ sound-four plan = (omega arith, tt)
 pub not-waiting : running ≡ waiting → ⊥
 not-waiting e = subst (λ (s : Stage). T (isRunning s)) e tt
 
--- the settings of the vote
-pub ours : (v : Instance) (i : ℕ) → Ours v i (v .n) (v .t) i (v .agreement) (v .plan)
-ours v i = record { boards = refl; faults = refl; seat = refl; number = refl; bytes = refl }
-
 -- a first set-up of a vote
 pub may-set-up : (v : Instance) (bad : Set) (i : ℕ) → Sound v bad i → May v bad (calls i (set-up (v .n) (v .t) i (v .agreement) (v .plan))) []
 unfolding boardAfter
 may-set-up v bad i o = (o, inr (refl, ours v i))
-
--- settings that pass
-pub sharing : (v : Instance) (plan : Plan) (bad : Set) → T (settled v bad) → planOf (v .plan) ≡ found plan → Shared v plan × (count (v .n) bad ≤ v .t)
-sharing v plan bad f g = (
-  record {
-    boards = leb→le (v .n) maxBoards (T-left one two ones);
-    faults = ltb→lt (3 * v .t) (v .n) (T-right one two ones);
-    number = leb→le (v .agreement) maxNumber (T-left three four twos);
-    reads = g;
-  },
-  leb→le (count (v .n) bad) (v .t) (T-right three four twos),
-)
-  where
-    one : Bool
-    one = leb (v .n) maxBoards
-
-    two : Bool
-    two = ltb (3 * v .t) (v .n)
-
-    three : Bool
-    three = leb (v .agreement) maxNumber
-
-    four : Bool
-    four = leb (count (v .n) bad) (v .t)
-
-    ones : T (one && two)
-    ones = T-left (one && two) (three && four) f
-
-    twos : T (three && four)
-    twos = T-right (one && two) (three && four) f
 
 -- ---- answers
 

@@ -6,11 +6,12 @@ use lib.IntN.{pos}
 use Rattle.agreement.specs.History.{boardAfter}
 use Rattle.agreement_histories.specs.Scripts.{lent, lentBack}
 use Rattle.agreement_histories.proofs.Computing.{computing}
+use Rattle.agreement_histories.proofs.Passing.{ours}
 use Rattle.agreement_premises.specs.Edits.{journal-overwritten, record-altered, other-record-read, other-journal-restored, overwritten, altered, misread, restored}
 use Rattle.agreement_premises.specs.Examples.{two, alone, exampleOf, Fails}
 use Rattle.agreement_premises.proofs.Running.{historyBefore, Strays}
 use Rattle.agreement_premises.proofs.Starts.{allIn}
-use Rattle.agreement_premises.proofs.Failing.{sound-alone, sound-four, ours, not-waiting, invalid, invalid-now}
+use Rattle.agreement_premises.proofs.Failing.{sound-alone, sound-four, not-waiting, invalid, invalid-now}
 
 overwritten-strays : Strays journal-overwritten (exampleOf journal-overwritten)
 unfolding computing

@@ -5,14 +5,14 @@ use native.Mathlib.Omega.{arith}
 use lib.IntN.{pos}
 use Rattle.board_calls.specs.declared.Answer.{Answer}
 use Rattle.agreement_histories.specs.Scripts.{historyOf}
-use Rattle.agreement_histories.proofs.Passing.{passes, ending, answerIn, allowed, shown}
+use Rattle.agreement_histories.proofs.Passing.{passes, ending, answerIn, allowed, shown, sharing}
 use Rattle.agreement_histories.proofs.Delivery.{full}
 use Rattle.agreement_histories.proofs.Delivered.{complete}
 use Rattle.agreement_histories.proofs.Computing.{computing}
 use Rattle.agreement_premises.specs.Examples.{two, three, twoPlan, threePlan, elsewherePlan, alone, four, nobody}
 use Rattle.agreement_premises.specs.Claims.{TwiceTheFaults, half, deceived, NumberTooLarge, unreadable, cutAfter, PlanNotRead, begins}
 use Rattle.agreement_premises.proofs.Starts.{allIn, misplaced}
-use Rattle.agreement_premises.proofs.Failing.{sound-alone, sharing, now, unanswered, script-fails}
+use Rattle.agreement_premises.proofs.Failing.{sound-alone, now, unanswered, script-fails}
 
 -- ---- twice the faults
 

@@ -9,11 +9,12 @@ use Rattle.agreement.specs.Allowed.{May}
 use Rattle.agreement_histories.specs.Scripts.{lentBack}
 use Rattle.agreement_histories.specs.Alone.{script}
 use Rattle.agreement_histories.proofs.Computing.{computing}
+use Rattle.agreement_histories.proofs.Passing.{ours}
 use Rattle.agreement_premises.specs.Edits.{second-set-up, other-boards, other-faults, other-number, other-plan, again, boards, faults, number, plan}
 use Rattle.agreement_premises.specs.Examples.{two, three, elsewhere, alone, nobody, last, exampleOf, Fails}
 use Rattle.agreement_premises.proofs.Running.{historyBefore, Strays}
 use Rattle.agreement_premises.proofs.Starts.{allIn}
-use Rattle.agreement_premises.proofs.Failing.{sound-alone, sound-four, ours, not-waiting, may-set-up, invalid, invalid-now, unended}
+use Rattle.agreement_premises.proofs.Failing.{sound-alone, sound-four, not-waiting, may-set-up, invalid, invalid-now, unended}
 
 again-strays : Strays second-set-up (exampleOf second-set-up)
 unfolding computing

@@ -1,1 +1,2 @@
 pub mod TreeLaws
+pub mod Room

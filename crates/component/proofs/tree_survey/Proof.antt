@@ -14,7 +14,6 @@ sub-centre c = search needs
 centre-requires : tie.Need-centre-requires
 centre-requires c κs =
     let s = c .before .before in
-    let S = marked (s .args .t3) in
     let O = s .pre .0 in
     (O .grows, O .most)
 
@@ -30,7 +29,6 @@ sub-neighbours c = search needs
 neighbours-requires : tie.Need-neighbours-requires
 neighbours-requires c κs =
     let s = c .before .before .before .before .before in
-    let S = marked (s .args .t3) in
     let O = s .pre .0 in
     (O .grows, omega (arith, O .most), omega (arith, O .most))
 
@@ -40,7 +38,6 @@ slice-aggregate-count c = search needs
 count-requires : tie.Need-count-requires
 count-requires c κs =
     let s = c .before .before .before .before .before .before .before .before in
-    let S = marked (s .args .t3) in
     let O = s .pre .0 in
     omega (arith, O .most)
 
@@ -50,31 +47,27 @@ slice-aggregate-tree-port c = search needs
 tree-port-requires : tie.Need-tree-port-requires
 tree-port-requires c κs =
     let s = c .before .before .before .before .before .before .before .before .before .before in
-    let S = marked (s .args .t3) in
     let O = s .pre .0 in
-    let at = tree-centre (s .args .ps .now) (s .args .cs .now) (s .args .n) S O (c .before .before .before .before .before .before .before .centre .result) (c .before .before .before .before .before .before .before .centre .ensures) in
-    (O, s .pre .1, at, (near-is (s .args .ps .now) (s .args .cs .now) (s .args .n) S O (c .before .before .before .before .before .before .before .centre .result) at (c .before .before .before .before .neighbours .last .1 .1 .1 .0) maxVertices (c .before .before .before .before .neighbours .ensures)), omega (arith, O .most))
+    let at = tree-centre O (c .before .before .before .before .before .before .before .centre .ensures) in
+    (O, s .pre .1, at, (near-is O at (c .before .before .before .before .neighbours .last .1 .1 .1 .0) maxVertices (c .before .before .before .before .neighbours .ensures)), omega (arith, O .most))
 
 cast-t22 : tie.Need-cast-t22
 cast-t22 c =
     let s = c .before .before .before .before .before .before .before .before .before .before .before in
-    let S = marked (s .args .t3) in
     let O = s .pre .0 in
-    let at = tree-centre (s .args .ps .now) (s .args .cs .now) (s .args .n) S O (c .before .before .before .before .before .before .before .before .centre .result) (c .before .before .before .before .before .before .before .before .centre .ensures) in
-    let l = centre-below (s .args .ps .now) (s .args .cs .now) (s .args .n) S O (c .before .before .before .before .before .before .before .before .centre .result) at in
+    let at = tree-centre O (c .before .before .before .before .before .before .before .before .centre .ensures) in
+    let l = centre-below O at in
     record { fits = omega (arith, O .most) }
 
 cast-t23 : tie.Need-cast-t23
 cast-t23 c =
     let s = c .before .before .before .before .before .before .before .before .before .before .before in
-    let S = marked (s .args .t3) in
     let O = s .pre .0 in
     record { fits = omega (arith, count-le (s .args .n) (marked (c .before .before .before .before .before .neighbours .last .1 .1 .1 .0)), c .before .before .count .ensures, O .most) }
 
 cast-t24 : tie.Need-cast-t24
 cast-t24 c =
     let s = c .before .before .before .before .before .before .before .before .before .before .before in
-    let S = marked (s .args .t3) in
     let O = s .pre .0 in
     record { fits = omega (arith, c .tree-port .ensures .1, O .most) }
 
@@ -83,8 +76,8 @@ returns c =
     let s = c .before .before .before .before .before .before .before .before .before .before .before in
     let S = marked (s .args .t3) in
     let O = s .pre .0 in
-    let at = tree-centre (s .args .ps .now) (s .args .cs .now) (s .args .n) S O (c .before .before .before .before .before .before .before .before .centre .result) (c .before .before .before .before .before .before .before .before .centre .ensures) in
-    survey-tree (s .args .ps .now) (s .args .cs .now) (s .args .n) S (s .args .x) _ at (degree-is (s .args .ps .now) (s .args .cs .now) (s .args .n) S O (c .before .before .before .before .before .neighbours .last .1 .1 .1 .0) (c .before .before .count .result) (near-is (s .args .ps .now) (s .args .cs .now) (s .args .n) S O (c .before .before .before .before .before .before .before .before .centre .result) at (c .before .before .before .before .before .neighbours .last .1 .1 .1 .0) maxVertices (c .before .before .before .before .before .neighbours .ensures)) (c .before .before .count .ensures)) (c .tree-port .ensures .0)
+    let at = tree-centre O (c .before .before .before .before .before .before .before .before .centre .ensures) in
+    survey-tree (s .args .ps .now) (s .args .cs .now) (s .args .n) S (s .args .x) _ at (degree-is O (c .before .before .before .before .before .neighbours .last .1 .1 .1 .0) (near-is O at (c .before .before .before .before .before .neighbours .last .1 .1 .1 .0) maxVertices (c .before .before .before .before .before .neighbours .ensures)) (c .before .before .count .ensures)) (c .tree-port .ensures .0)
 
 pub tree-survey-spec : {M : Type 1} → statement M
 tree-survey-spec =

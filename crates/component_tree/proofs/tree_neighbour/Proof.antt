@@ -1,7 +1,6 @@
 use native.Mathlib.Omega.{arith}
 use borrow.Author.Needs.{needs}
 use Rattle.base.specs.Limits.{maxVertices}
-use Rattle.marks.specs.Marks.{marked}
 use Rattle.component_tree.proofs.TreeLaws.{near-is, nth-is}
 use Rattle.component_tree.proofs.tree_neighbour.Statement.{statement}
 use Rattle.component_tree.proofs.tree_neighbour.Tie as tie
@@ -15,7 +14,6 @@ sub-neighbours c = search needs
 neighbours-requires : tie.Need-neighbours-requires
 neighbours-requires c κs =
     let s = c .before .before .before .before in
-    let S = marked (s .args .inside .now) in
     let O = s .pre .0 in
     (O .grows, s .pre .1, omega (arith, O .most))
 
@@ -25,17 +23,15 @@ slice-aggregate-nth c = search needs
 nth-requires : tie.Need-nth-requires
 nth-requires c κs =
     let s = c .before .before .before .before .before .before .before in
-    let S = marked (s .args .inside .now) in
     let O = s .pre .0 in
     (omega (arith, O .most), s .pre .3)
 
 returns : tie.Need-returns
 returns c =
     let s = c .before .before .before .before .before .before .before .before in
-    let S = marked (s .args .inside .now) in
     let O = s .pre .0 in
     let near = c .before .before .before .neighbours .last .1 .1 .1 .0 in
-    nth-is (s .args .ps .now) (s .args .cs .now) (s .args .n) S O (s .args .c) (s .pre .2) near (s .args .k) (c .nth .result) (near-is (s .args .ps .now) (s .args .cs .now) (s .args .n) S O (s .args .c) (s .pre .2) near maxVertices (c .before .before .before .neighbours .ensures)) (c .nth .ensures)
+    nth-is O (s .pre .2) near (s .args .k) (near-is O (s .pre .2) near maxVertices (c .before .before .before .neighbours .ensures)) (c .nth .ensures)
 
 pub tree-neighbour-spec : {M : Type 1} → statement M
 tree-neighbour-spec =
