@@ -92,7 +92,7 @@ module _ (n t agreement : ℕ) (plan : Plan) (v : Passes n t plan) where
   invariant i l = inv-after M W i l
 
   -- calls keep the settings
-  settings : (i : ℕ) (l : List (Event Message ℕ)) → Seated n t agreement plan (after (voteMachine n t agreement plan) i l)
+  pub settings : (i : ℕ) (l : List (Event Message ℕ)) → Seated n t agreement plan (after (voteMachine n t agreement plan) i l)
   unfolding after
   settings i [] = record { boards = refl; faults = refl; number = refl; on = refl }
   settings i (e ∷ l) =

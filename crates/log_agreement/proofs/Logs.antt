@@ -8,7 +8,7 @@ use Rattle.base.specs.Sets.{Set}
 use Rattle.base.proofs.Bools.{T-and, T-right}
 use Rattle.plan.specs.Plan.{Plan}
 use Rattle.message.specs.declared.Message.{Message}
-use Rattle.message.specs.Message.{bodyInTable, lastLevel}
+use Rattle.message.specs.Message.{inTable, bodyInTable, lastLevel}
 use Rattle.senders.specs.Senders.{isIn}
 use Rattle.level.specs.Level.{noOutput, senders, held}
 use Rattle.party.specs.Party.{Party, levelAt, heldBy, outputOf}
@@ -19,7 +19,7 @@ use Rattle.execution.specs.Inner.{Seen, ValidH}
 use Rattle.execution.proofs.Logs.{seen-mark, inv-still}
 use Rattle.vote_machine.specs.Machine.{called, voteMachine, Heard, Sent, seat}
 use Rattle.vote_machine.specs.Inner.{Inv, Regular}
-use Rattle.vote_machine.proofs.Laws.{le-sent, le-called, new-sending, tells-called, sent-proper, Passes, seat-settings, vote-lawful}
+use Rattle.vote_machine.proofs.Laws.{le-sent, le-called, new-sending, tells-called, Passes, seat-settings, vote-lawful}
 use Rattle.log_agreement.specs.Logs.{Steps, partyBy, messagesBy, Allowed, AnswersNow, Answers}
 use Rattle.log_agreement.proofs.Joint.{invariant}
 
@@ -29,14 +29,13 @@ pub heard-held : (p : Party) (s : ℕ) (m : Message) → Heard p s m → T (held
 unfolding heldBy held
 heard-held p s m h = T-right (bodyInTable (m .body)) (isIn (senders (levelAt p (m .level)) (m .body)) s) (h .body)
 
--- one that board q made, in the same vote
-pub held-heard : (p q : Party) → q .agreement ≡ p .agreement → Regular q → (s : ℕ) (m : Message) → Sent q m → T (heldBy p s m) → Heard p s m
+-- one of this vote and of the table
+pub held-heard : (p : Party) (s : ℕ) (m : Message) → m .number ≡ p .agreement → T (inTable m) → T (heldBy p s m) → Heard p s m
 unfolding heldBy held
-held-heard p q e r s m x h = record {
-  number = x .number ∙ e;
+held-heard p s m e t h = record {
+  number = e;
   body =
-      T-and (bodyInTable (m .body)) (isIn (senders (levelAt p (m .level)) (m .body)) s)
-      (T-right (leb (m .level) lastLevel) (bodyInTable (m .body)) (sent-proper q r m x)) h;
+      T-and (bodyInTable (m .body)) (isIn (senders (levelAt p (m .level)) (m .body)) s) (T-right (leb (m .level) lastLevel) (bodyInTable (m .body)) t) h;
 }
 
 module _ (n t agreement : ℕ) (plan : Plan) (v : Passes n t plan) where
@@ -45,7 +44,7 @@ module _ (n t agreement : ℕ) (plan : Plan) (v : Passes n t plan) where
 
   -- ---- what a log's calls made
 
-  regular : (i : ℕ) (l : List (Event Message ℕ)) → Regular (partyBy n t agreement plan i l)
+  pub regular : (i : ℕ) (l : List (Event Message ℕ)) → Regular (partyBy n t agreement plan i l)
   regular i l = invariant n t agreement plan v i l .regular
 
   pub made-tells : (i : ℕ) (l : List (Event Message ℕ)) (m : Message) → List·Memᴰ m (messagesBy n t agreement plan i l) → Sent (partyBy n t agreement plan i l) m

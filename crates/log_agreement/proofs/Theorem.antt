@@ -12,7 +12,7 @@ use Rattle.level.specs.Level.{noOutput}
 use Rattle.party.specs.Party.{Party, outputOf}
 use Rattle.execution.specs.Inner.{ValidH}
 use Rattle.vote_machine.specs.Machine.{voteMachine, Heard, Sent}
-use Rattle.vote_machine.proofs.Laws.{Passes}
+use Rattle.vote_machine.proofs.Laws.{sent-proper, Passes}
 use Rattle.log_agreement.specs.Logs.{Steps, logOf, partyOf, AnswersNow, Answers, Complete, Holds, Premises, LogDemand3}
 use Rattle.log_agreement.proofs.Joint.{Joint, joint}
 use Rattle.log_agreement.proofs.Logs.{held-heard, tells-made, allowed-valid, answer-stays}
@@ -42,7 +42,7 @@ module _ (n t agreement : ℕ) (plan : Plan) (bad : Set) (h : Steps n t agreemen
   delivered : Complete n t agreement plan bad h → (i j : ℕ) (m : Message) → Sound n bad i → Sound n bad j
       → Sent (partyOf n t agreement plan h j) m → Heard (partyOf n t agreement plan h i) j m
   delivered c i j m g k s =
-      held-heard (st i) (st j) (J .seated j .number ∙ sym (J .seated i .number)) (J .inv j .regular) j m s
+      held-heard (st i) j m (s .number ∙ J .seated j .number ∙ sym (J .seated i .number)) (sent-proper (st j) (J .inv j .regular) m s)
       (c .taken i j m g k (c .handed j m k (tells-made n t agreement plan passes j (logOf n t agreement plan h j) m s)))
 
   holds : Holds n t agreement plan bad h

@@ -17,7 +17,7 @@ use Rattle.party.specs.Valid.{settingsPass}
 use Rattle.party_laws.proofs.Laws.{sending-entered, entered-level, formed-new, fresh-new, run-keeps, starting-keeps, taking-keeps}
 use Rattle.party_laws.proofs.Laws.{starting-kept, taking-kept, starting-grown, taking-grown}
 use Rattle.party_laws.proofs.Calls.{new-level}
-use Rattle.party_life.proofs.Fits.{fits-start, fits-taken}
+use Rattle.party_life.proofs.Fits.{fits-start, fitting-start, fits-taken, fitting-taken}
 use Rattle.execution.specs.Machine.{Event, start, take}
 use Rattle.vote_machine.specs.Machine.{accepts, accepted, called}
 use Rattle.vote_machine.specs.Inner.{Regular, Le}
@@ -93,12 +93,31 @@ called-cases P p e f g = go (accepts p e) refl
     go true i = f (subst T (sym i) tt)
     go false i = g
 
+-- which of the two
+pub called-accepted : (p : Party) (e : Event Message ℕ) → T (accepts p e) → called p e ≡ accepted p e
+unfolding called
+called-accepted p e h = go (accepts p e) h
+  where
+    go : (b : Bool) → T b → pick b (accepted p e) (resting p) ≡ accepted p e
+    go true h = refl
+    go false h = absurd h
+
+pub called-refused : (p : Party) (e : Event Message ℕ) → (T (accepts p e) → ⊥) → called p e ≡ resting p
+called-refused p e d = called-cases (λ a. a ≡ resting p) p e (λ f. absurd (d f)) refl
+
 -- what an accepted start, and an accepted message, is
 pub start-fits : (p : Party) (x : ℕ) → T (accepts p (start x)) → (T (started p) → ⊥) × (x < p .plan .count)
 start-fits p x h = let f = fits-start p (p .agreement) x h in (f .1, f .2)
 
 pub take-fits : (p : Party) (s : ℕ) (m : Message) → T (accepts p (take s m)) → (s < p .n) × T (inTable m) × (m .number ≡ p .agreement)
 take-fits p s m h = let f = fits-taken p s m h in (f .1, f .2, f .0)
+
+-- and what is enough for it
+pub start-accepted : (p : Party) (x : ℕ) → (T (started p) → ⊥) → x < p .plan .count → T (accepts p (start x))
+start-accepted p x new k = fitting-start p (p .agreement) x (refl, new, k)
+
+pub take-accepted : (p : Party) (s : ℕ) (m : Message) → s < p .n → T (inTable m) → m .number ≡ p .agreement → T (accepts p (take s m))
+take-accepted p s m k t e = fitting-taken p s m (e, k, t)
 
 regular-accepted : (p : Party) → Regular p → (e : Event Message ℕ) → T (accepts p e) → Regular (accepted p e .party)
 regular-accepted p r (start x) h = let f = start-fits p x h in regular-starting p r x (f .0) (f .1)

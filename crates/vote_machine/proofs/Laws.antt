@@ -22,14 +22,14 @@ pub use Rattle.vote_machine.proofs.Quiet.{at-rest}
 pub use Rattle.vote_machine.proofs.Lawful.{seat-low, seat-own, Passes, seat-settings}
 unfoldable pub use Rattle.vote_machine.proofs.Lawful.{vote-lawful}
 -- accepted calls
-pub use Rattle.vote_machine.proofs.Kept.{called-cases, start-fits, take-fits}
+pub use Rattle.vote_machine.proofs.Kept.{called-cases, called-accepted, called-refused, start-fits, take-fits, start-accepted, take-accepted}
 pub use Rattle.vote_machine.proofs.Lives.{fits-accepts, replayed-called}
 -- ---- messages
 
 -- what a call makes is what its party has made and the one before had not
 pub use Rattle.vote_machine.proofs.Made.{Tells, tells-resting, tells-run, tells-starting, tells-taking, tells-called, sent-proper}
 -- what is heard after a call was heard before or taken
-pub use Rattle.vote_machine.proofs.Heard.{heard-new, heard-start, heard-take, taking-heard}
+pub use Rattle.vote_machine.proofs.Heard.{heard-new, heard-start, heard-taking, heard-take, taking-heard}
 -- ---- lives
 
 pub use Rattle.vote_machine.proofs.Lives.{regular-replayed, inv-replayed, le-replayed, tells-replayed, regular-lived, inv-lived, le-record, le-lived}

@@ -1,28 +1,26 @@
 -- Whole lives: each record's call is the machine's, and the messages that the calls made are those that the party has made.
 use mathlib.Core.Path.{_≡_, refl, _∙_, subst}
 use mathlib.Core.Logic.{_⊎_, inl, inr}
-use mathlib.Core.Bool.{Bool, true, false}
 use mathlib.Core.List.{List, [], _∷_, _++_, List·Memᴰ, List·Memᴰ·not-nil, List·Memᴰ·append-cases, Memᴰ·append-left, Memᴰ·append-right}
 use lib.Dec.{T}
-use Rattle.base.specs.Pick.{pick}
 use Rattle.message.specs.declared.Message.{Message}
 use Rattle.journal.specs.declared.Record.{Record}
 use Rattle.journal.specs.declared.Record.the-variants.{Start, Taken}
 use Rattle.party.specs.Party.{Party}
-use Rattle.party.specs.Run.{Ran, resting}
+use Rattle.party.specs.Run.{Ran}
 use Rattle.party_life.specs.Life.{replayed, lived, Fits, Life, madeAlong}
-use Rattle.party_life.proofs.Fits.{fits-start, fitting-start}
+use Rattle.party_life.proofs.Fits.{fits-start}
 use Rattle.vote_machine.specs.Machine.{accepts, accepted, called, Sent, eventOf}
 use Rattle.vote_machine.specs.Inner.{Regular, Inv, Le}
 use Rattle.vote_machine.proofs.Order.{le-refl, le-trans, le-sent}
-use Rattle.vote_machine.proofs.Kept.{regular-called, le-called}
+use Rattle.vote_machine.proofs.Kept.{called-accepted, start-accepted, regular-called, le-called}
 use Rattle.vote_machine.proofs.Quiet.{inv-called}
 use Rattle.vote_machine.proofs.Made.{Tells, tells-called}
 
 -- ---- a record's call
 
 pub fits-accepts : (p : Party) (r : Record) → Fits p r → T (accepts p (eventOf r))
-fits-accepts p (Start a x) f = let g = fits-start p a x f in fitting-start p (p .agreement) x (refl, g .1, g .2)
+fits-accepts p (Start a x) f = let g = fits-start p a x f in start-accepted p x (g .1) (g .2)
 fits-accepts p (Taken s m) f = f
 
 accepted-replayed : (p : Party) (r : Record) → accepted p (eventOf r) ≡ replayed p r
@@ -30,14 +28,9 @@ unfolding replayed
 accepted-replayed p (Start a x) = refl
 accepted-replayed p (Taken s m) = refl
 
-picked : (b : Bool) (x y : Ran) → T b → pick b x y ≡ x
-picked true x y h = refl
-picked false x y h = absurd h
-
 -- it is the machine's
 pub replayed-called : (p : Party) (r : Record) → Fits p r → called p (eventOf r) ≡ replayed p r
-unfolding called
-replayed-called p r f = picked (accepts p (eventOf r)) (accepted p (eventOf r)) (resting p) (fits-accepts p r f) ∙ accepted-replayed p r
+replayed-called p r f = called-accepted p (eventOf r) (fits-accepts p r f) ∙ accepted-replayed p r
 
 module _ (p : Party) (r : Record) (f : Fits p r) where
   pub regular-replayed : Regular p → Regular (replayed p r .party)
