@@ -105,7 +105,7 @@ pub fn all_limits() -> Limits
 // A call's answer: accepted, or refused by the number and at the place that document 01's questions give.
 pub enum Verdict {
     Accepted,
-    Refused(u8, usize),
+    Refused { number: u8, place: usize },
 }
 
 // A number of 16 bits as an index.

@@ -30,7 +30,10 @@ pub struct Settings {
 pub fn accepted(v: base::Verdict) -> bool {
     match v {
         base::Verdict::Accepted => true,
-        base::Verdict::Refused(_, _) => false,
+        base::Verdict::Refused {
+            number: _,
+            place: _,
+        } => false,
     }
 }
 

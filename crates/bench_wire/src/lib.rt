@@ -40,7 +40,7 @@ pub fn keep_all(wire: &mut [u8; SIZE], k: usize, maker: u8, out: &[u8], end: usi
         if end <= at {
             return count;
         }
-        let message::MessageRead::Read(m, next) = message::read_at(out, at) else {
+        let message::MessageRead::Read { message: m, next } = message::read_at(out, at) else {
             return count;
         };
         keep(wire, count, maker, m);
@@ -55,7 +55,7 @@ pub fn message_end(wire: &[u8], a: usize) -> usize
     requires { ⌜ a ≤ length (now wire) ⌝ }
     ensures { λ r. ⌜ (a ≤ r) × (r ≤ length (now (wire .entry))) ⌝ }
 {
-    let message::MessageRead::Read(_, next) = message::read_at(wire, a) else {
+    let message::MessageRead::Read { message: _, next } = message::read_at(wire, a) else {
         return a;
     };
     next

@@ -46,7 +46,7 @@ pub fn no_party() -> party::Party
 pub fn refuse(p: party::Party, used: usize, number: u8) -> Called
     ensures { λ r. ⌜ asCalled r ≡ calledOf (asParty p) used (refused number 0) ⌝ }
 {
-    let v = base::Verdict::Refused(number, 0);
+    let v = base::Verdict::Refused { number, place: 0 };
     Called {
         verdict: v,
         party: p,
@@ -60,7 +60,7 @@ pub fn refuse(p: party::Party, used: usize, number: u8) -> Called
 pub fn unrestored(number: u8, place: usize) -> Called
     ensures { λ r. ⌜ asCalled r ≡ restoredOf (refused number place) ⌝ }
 {
-    let v = base::Verdict::Refused(number, place);
+    let v = base::Verdict::Refused { number, place };
     let p = no_party();
     Called {
         verdict: v,

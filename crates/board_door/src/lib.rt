@@ -35,7 +35,10 @@ pub fn set_up(n: u32, t: u32, own: u32, agreement: u32, bytes: &[u8]) -> SetUp
             verdict: v,
             party: party::Party::new(n, t, own, agreement, plan),
         },
-        base::Verdict::Refused(_, _) => SetUp {
+        base::Verdict::Refused {
+            number: _,
+            place: _,
+        } => SetUp {
             verdict: v,
             party: no_party(),
         },
@@ -157,7 +160,10 @@ pub fn read_answer(p: party::Party) -> Answered
 {
     let i = party_inspect::inspect(p);
     if !i.ok {
-        let v = base::Verdict::Refused(19, 0);
+        let v = base::Verdict::Refused {
+            number: 19,
+            place: 0,
+        };
         let none = Answer::None;
         return Answered {
             verdict: v,

@@ -205,6 +205,6 @@ pub fn restore(
             let p = party::Party::new(n, t, own, agreement, plan);
             restore_on(p, journal, out)
         }
-        base::Verdict::Refused(number, place) => unrestored(number, place),
+        base::Verdict::Refused { number, place } => unrestored(number, place),
     }
 }

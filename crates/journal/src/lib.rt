@@ -34,14 +34,17 @@ fn read_position(s: &[u8], at: usize, agreement: u32) -> RecordRead
     ensures { λ r. ⌜ r ≡ withPosition agreement (varintWithin 0 maxPosition (now (s .entry)) at) ⌝ }
 {
     match varint::read_within(s, at, 0, base::MAX_POSITION) {
-        varint::VarintRead::Value(x, end) => RecordRead::Read {
+        varint::VarintRead::Value {
+            value: x,
+            next: end,
+        } => RecordRead::Read {
             record: Record::Start {
                 agreement: agreement,
                 position: x,
             },
             next: end,
         },
-        varint::VarintRead::Short(_) => RecordRead::Torn,
+        varint::VarintRead::Short { least: _ } => RecordRead::Torn,
         varint::VarintRead::Malformed => RecordRead::Bad,
     }
 }
@@ -51,8 +54,11 @@ fn read_start(s: &[u8], at: usize) -> RecordRead
     ensures { λ r. ⌜ r ≡ withAgreement (now (s .entry)) (varintAt (now (s .entry)) at) ⌝ }
 {
     match varint::read(s, at) {
-        varint::VarintRead::Value(agreement, next) => read_position(s, next, agreement),
-        varint::VarintRead::Short(_) => RecordRead::Torn,
+        varint::VarintRead::Value {
+            value: agreement,
+            next,
+        } => read_position(s, next, agreement),
+        varint::VarintRead::Short { least: _ } => RecordRead::Torn,
         varint::VarintRead::Malformed => RecordRead::Bad,
     }
 }
@@ -62,7 +68,10 @@ fn read_message(s: &[u8], at: usize, sender: u8) -> RecordRead
     ensures { λ r. ⌜ r ≡ withMessage sender (messageAt (now (s .entry)) at) ⌝ }
 {
     match message::read_at(s, at) {
-        message::MessageRead::Read(m, end) => RecordRead::Read {
+        message::MessageRead::Read {
+            message: m,
+            next: end,
+        } => RecordRead::Read {
             record: Record::Taken {
                 sender: sender,
                 message: m,
@@ -79,8 +88,11 @@ fn read_taken(s: &[u8], at: usize) -> RecordRead
     ensures { λ r. ⌜ r ≡ withSender (now (s .entry)) (varintWithin 0 maxSender (now (s .entry)) at) ⌝ }
 {
     match varint::read_within(s, at, 0, base::MAX_SENDER) {
-        varint::VarintRead::Value(sender, next) => read_message(s, next, sender as u8),
-        varint::VarintRead::Short(_) => RecordRead::Torn,
+        varint::VarintRead::Value {
+            value: sender,
+            next,
+        } => read_message(s, next, sender as u8),
+        varint::VarintRead::Short { least: _ } => RecordRead::Torn,
         varint::VarintRead::Malformed => RecordRead::Bad,
     }
 }
@@ -90,13 +102,13 @@ pub fn read_at(s: &[u8], at: usize) -> RecordRead
     ensures { λ r. ⌜ r ≡ recordAt (now (s .entry)) at ⌝ }
 {
     match varint::read_within(s, at, 1, 2) {
-        varint::VarintRead::Value(k, next) => {
+        varint::VarintRead::Value { value: k, next } => {
             if k == 1 {
                 return read_start(s, next);
             }
             read_taken(s, next)
         }
-        varint::VarintRead::Short(_) => RecordRead::Torn,
+        varint::VarintRead::Short { least: _ } => RecordRead::Torn,
         varint::VarintRead::Malformed => RecordRead::Bad,
     }
 }

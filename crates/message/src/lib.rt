@@ -32,13 +32,13 @@ pub struct Message {
 
 // What reading a body, or a message, finds: it and the place past it; that only further bytes could make it whole; or neither.
 pub enum BodyRead {
-    Read(Body, usize),
+    Read { body: Body, next: usize },
     Short,
     Bad,
 }
 
 pub enum MessageRead {
-    Read(Message, usize),
+    Read { message: Message, next: usize },
     Short,
     Bad,
 }
@@ -123,13 +123,19 @@ fn read_body(s: &[u8], at: usize, kind: u32) -> BodyRead
     ensures { λ r. ⌜ r ≡ bodyAt (now (s .entry)) at kind ⌝ }
 {
     if kind == 6 {
-        return BodyRead::Read(Body::Centre, at);
+        return BodyRead::Read {
+            body: Body::Centre,
+            next: at,
+        };
     }
     let low = value_low(kind);
     let high = value_high(kind);
     match varint::read_within(s, at, low, high) {
-        varint::VarintRead::Value(v, next) => BodyRead::Read(body_of(kind, v as u8), next),
-        varint::VarintRead::Short(_) => BodyRead::Short,
+        varint::VarintRead::Value { value: v, next } => BodyRead::Read {
+            body: body_of(kind, v as u8),
+            next,
+        },
+        varint::VarintRead::Short { least: _ } => BodyRead::Short,
         varint::VarintRead::Malformed => BodyRead::Bad,
     }
 }
@@ -139,13 +145,13 @@ fn with_body(number: u32, level: u8, b: BodyRead) -> MessageRead
     ensures { λ r. ⌜ r ≡ withBody number level b ⌝ }
 {
     match b {
-        BodyRead::Read(body, next) => {
+        BodyRead::Read { body, next } => {
             let m = Message {
                 number: number,
                 level: level,
                 body: body,
             };
-            MessageRead::Read(m, next)
+            MessageRead::Read { message: m, next }
         }
         BodyRead::Short => MessageRead::Short,
         BodyRead::Bad => MessageRead::Bad,
@@ -157,8 +163,12 @@ fn read_kind(s: &[u8], at: usize, number: u32, level: u8) -> MessageRead
     ensures { λ r. ⌜ r ≡ withKind (now (s .entry)) number level (varintWithin 1 6 (now (s .entry)) at) ⌝ }
 {
     match varint::read_within(s, at, 1, 6) {
-        varint::VarintRead::Value(kind, next) => with_body(number, level, read_body(s, next, kind)),
-        varint::VarintRead::Short(_) => MessageRead::Short,
+        varint::VarintRead::Value { value: kind, next } => with_body(
+            number,
+            level,
+            read_body(s, next, kind),
+        ),
+        varint::VarintRead::Short { least: _ } => MessageRead::Short,
         varint::VarintRead::Malformed => MessageRead::Bad,
     }
 }
@@ -168,8 +178,8 @@ fn read_level(s: &[u8], at: usize, number: u32) -> MessageRead
     ensures { λ r. ⌜ r ≡ withLevel (now (s .entry)) number (varintWithin 0 lastLevel (now (s .entry)) at) ⌝ }
 {
     match varint::read_within(s, at, 0, base::LAST_LEVEL) {
-        varint::VarintRead::Value(level, next) => read_kind(s, next, number, level as u8),
-        varint::VarintRead::Short(_) => MessageRead::Short,
+        varint::VarintRead::Value { value: level, next } => read_kind(s, next, number, level as u8),
+        varint::VarintRead::Short { least: _ } => MessageRead::Short,
         varint::VarintRead::Malformed => MessageRead::Bad,
     }
 }
@@ -179,8 +189,11 @@ pub fn read_at(s: &[u8], at: usize) -> MessageRead
     ensures { λ r. ⌜ r ≡ messageAt (now (s .entry)) at ⌝ }
 {
     match varint::read(s, at) {
-        varint::VarintRead::Value(number, next) => read_level(s, next, number),
-        varint::VarintRead::Short(_) => MessageRead::Short,
+        varint::VarintRead::Value {
+            value: number,
+            next,
+        } => read_level(s, next, number),
+        varint::VarintRead::Short { least: _ } => MessageRead::Short,
         varint::VarintRead::Malformed => MessageRead::Bad,
     }
 }
@@ -190,7 +203,7 @@ pub fn read(s: &[u8]) -> Exactly
     ensures { λ r. ⌜ r ≡ exactMessage (now (s .entry)) ⌝ }
 {
     match read_at(s, 0) {
-        MessageRead::Read(m, next) => {
+        MessageRead::Read { message: m, next } => {
             if next == s.len() {
                 return Exactly::One(m);
             }

@@ -46,7 +46,7 @@ pub fn no_plan() -> Plan
 pub fn refuse(number: u8, place: usize) -> PlanRead
     ensures { λ r. ⌜ asPlanRead r ≡ answered (refused number place) ⌝ }
 {
-    let v = base::Verdict::Refused(number, place);
+    let v = base::Verdict::Refused { number, place };
     let p = no_plan();
     PlanRead {
         verdict: v,

@@ -38,8 +38,8 @@ pub fn past(found: varint::VarintRead, at: usize) -> usize
     ensures { λ r. ⌜ r ≡ pastOf found at ⌝ }
 {
     match found {
-        varint::VarintRead::Value(_, next) => next,
-        varint::VarintRead::Short(_) => at,
+        varint::VarintRead::Value { value: _, next } => next,
+        varint::VarintRead::Short { least: _ } => at,
         varint::VarintRead::Malformed => at,
     }
 }
@@ -169,7 +169,7 @@ pub fn take(p: PlanSoFar, found: varint::VarintRead, at: usize) -> PlanSoFar
 {
     let l = p.edges;
     let next = p.next;
-    let varint::VarintRead::Value(x, _) = found else {
+    let varint::VarintRead::Value { value: x, next: _ } = found else {
         let n = refused(4, at);
         return PlanSoFar { next: n, edges: l };
     };

@@ -35,7 +35,7 @@ fn wide_byte(x: u8) -> usize {
 pub fn number_of(v: base::Verdict) -> usize {
     match v {
         base::Verdict::Accepted => 0,
-        base::Verdict::Refused(number, _) => wide_byte(number),
+        base::Verdict::Refused { number, place: _ } => wide_byte(number),
     }
 }
 
@@ -43,6 +43,6 @@ pub fn number_of(v: base::Verdict) -> usize {
 pub fn place_of(v: base::Verdict) -> usize {
     match v {
         base::Verdict::Accepted => 0,
-        base::Verdict::Refused(_, place) => place,
+        base::Verdict::Refused { number: _, place } => place,
     }
 }

@@ -9,7 +9,7 @@ const MINUS_ONE: u32 = base::OFFSET_ZERO - 1;
 
 // What reading a signed number finds: as for a varint.
 pub enum SignedRead {
-    Value(i32, usize),
+    Value { value: i32, next: usize },
     Short,
     Malformed,
 }
@@ -50,8 +50,11 @@ pub fn read(s: &[u8], at: usize) -> SignedRead
     ensures { λ r. ⌜ r ≡ signedAt (now (s .entry)) at ⌝ }
 {
     match varint::read(s, at) {
-        varint::VarintRead::Value(v, next) => SignedRead::Value(number_of(v), next),
-        varint::VarintRead::Short(_) => SignedRead::Short,
+        varint::VarintRead::Value { value: v, next } => SignedRead::Value {
+            value: number_of(v),
+            next,
+        },
+        varint::VarintRead::Short { least: _ } => SignedRead::Short,
         varint::VarintRead::Malformed => SignedRead::Malformed,
     }
 }

@@ -15,7 +15,7 @@ fn verdict(r: plan::PlanRead) {
     let v = r.verdict;
     match v {
         base::Verdict::Accepted => number(0),
-        base::Verdict::Refused(k, place) => {
+        base::Verdict::Refused { number: k, place } => {
             number(k as u64);
             number(place as u64);
         }

@@ -21,9 +21,9 @@ const MAX_REST: u32 = base::MAX_NUMBER / PIECE;
 // What reading a varint finds.
 pub enum VarintRead {
     // The value, and the place past its last byte.
-    Value(u32, usize),
+    Value { value: u32, next: usize },
     // The bytes end inside it: the least value that further bytes could make of it.
-    Short(u32),
+    Short { least: u32 },
     // No further bytes could make it whole, in the fewest bytes and within its limits.
     Malformed,
 }
@@ -42,21 +42,26 @@ fn prefix(b: u8, rest: VarintRead) -> VarintRead
     ensures { λ r. ⌜ r ≡ prefixed b rest ⌝ }
 {
     match rest {
-        VarintRead::Value(high, next) => {
+        VarintRead::Value { value: high, next } => {
             if high == 0 {
                 return VarintRead::Malformed;
             }
             if MAX_REST < high {
                 return VarintRead::Malformed;
             }
-            VarintRead::Value((b - TOP) as u32 + PIECE * high, next)
+            VarintRead::Value {
+                value: (b - TOP) as u32 + PIECE * high,
+                next,
+            }
         }
-        VarintRead::Short(least) => {
+        VarintRead::Short { least } => {
             let high = if least == 0 { 1 } else { least };
             if MAX_REST < high {
                 return VarintRead::Malformed;
             }
-            VarintRead::Short((b - TOP) as u32 + PIECE * high)
+            VarintRead::Short {
+                least: (b - TOP) as u32 + PIECE * high,
+            }
         }
         VarintRead::Malformed => VarintRead::Malformed,
     }
@@ -70,11 +75,14 @@ fn read_pieces(s: &[u8], at: usize, left: u32) -> VarintRead
         return VarintRead::Malformed;
     }
     if s.len() <= at {
-        return VarintRead::Short(0);
+        return VarintRead::Short { least: 0 };
     }
     let b = s[at];
     if b < TOP {
-        return VarintRead::Value(b as u32, at + 1);
+        return VarintRead::Value {
+            value: b as u32,
+            next: at + 1,
+        };
     }
     let rest = read_pieces(s, at + 1, left - 1);
     prefix(b, rest)
@@ -94,7 +102,7 @@ pub fn read_within(s: &[u8], at: usize, low: u32, high: u32) -> VarintRead
 {
     let found = read(s, at);
     match found {
-        VarintRead::Value(v, _) => {
+        VarintRead::Value { value: v, next: _ } => {
             if v < low {
                 return VarintRead::Malformed;
             }
@@ -103,7 +111,7 @@ pub fn read_within(s: &[u8], at: usize, low: u32, high: u32) -> VarintRead
             }
             found
         }
-        VarintRead::Short(least) => {
+        VarintRead::Short { least } => {
             if high < least {
                 return VarintRead::Malformed;
             }
