@@ -54,7 +54,7 @@ recordMost = 10
 
 pub record-most : (r : Record) → InLimits r → length (recordBytes r) ≤ recordMost
 record-most (Start a x) (h, l) = omega (arith, start-length a x, pieces-most 4 a, length-at-most 2 4 x (omega arith))
-record-most (Taken s m) (h, t, l) = omega (arith, taken-length s m, length-last s (omega arith), message-length-most m t)
+record-most (Taken s m) (h, (t, l)) = omega (arith, taken-length s m, length-last s (omega arith), message-length-most m t)
 
 module _ (v : Instance) (plan : Plan) (bad : Set) (f : Shared v plan) where
   -- "Restore gives the party of the whole records": whatever a cut left of the journal can be restored, also with a torn record behind it

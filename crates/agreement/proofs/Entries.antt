@@ -3,7 +3,7 @@ use mathlib.Core.Path.{_≡_, refl, sym, ap, _∙_, subst}
 use mathlib.Core.Logic.{_⊎_, inl, inr}
 use mathlib.Core.Bool.{Bool, true, false, not}
 use mathlib.Core.List.{List}
-use Prim.Native.Nat.{ℕ, _+_, _-_, _^_, _≤_, _<_}
+use Prim.Native.Nat.{ℕ, _+_, _-_, _≤_, _<_}
 use native.Mathlib.Omega.{arith}
 use lib.Dec.{T, leb, ltb, eqb, T-not, leb→le, ltb→lt, eqb→eq, eqb-refl}
 use lib.IntN.{ℤ, pos, negsuc}
@@ -168,4 +168,4 @@ take-recorded p s bytes room used out r ran e = go (exactMessage bytes) refl (fo
 -- the record of an accepted call is within its limits
 pub fits-limits : (p : Party) → p .agreement ≤ maxNumber → p .n ≤ maxBoards → p .plan .count ≤ maxWidth + 1 → (r : Record) → Fits p r → InLimits r
 fits-limits p a n c (Start b x) f = let g = fits-start p b x f in (subst (λ (z : ℕ). z ≤ maxNumber) (sym (g .0)) a, omega (arith, g .2))
-fits-limits p a n c (Taken s m) f = let g = fits-taken p s m f in (omega (arith, g .1), T→true (inTable m) (g .2), subst (λ (z : ℕ). z ≤ maxNumber) (sym (g .0)) a)
+fits-limits p a n c (Taken s m) f = let g = fits-taken p s m f in (omega (arith, g .1), (T→true (inTable m) (g .2), subst (λ (z : ℕ). z ≤ maxNumber) (sym (g .0)) a))

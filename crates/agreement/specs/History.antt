@@ -28,7 +28,7 @@ pub record Lent : Type 0 where
   pub journal : List ℕ
   pub out : ℕ
 
--- a call with all that it is given; `used` is the journal's used length
+-- a call with all that it is given; p is the party that the caller's record stands for, `used` the journal's used length
 pub data Call : Type 0 where
   set-up : (n t own agreement : ℕ) (plan : List ℕ) → Call
   start : (p : Party) (input : ℤ) (lent : Lent) (used : ℕ) → Call

@@ -1,4 +1,4 @@
--- Four boards, of which board 3 is faulty: boards 0 and 1 hear each other and board 3, which says what they say. The actions that several scripts share.
+-- Four boards, of which board 3 is faulty: boards 0 and 1 hear each other and board 3, which says what the script makes it say. The actions that several scripts share.
 use mathlib.Core.List.{List, _∷_}
 use lib.Dec.{eqb}
 use Rattle.base.specs.Sets.{Set}

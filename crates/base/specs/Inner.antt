@@ -1,33 +1,7 @@
--- Definitions that serve proofs only: the limits as one record, which ties the code's names to the definitions', and a search below a bound.
+-- Definitions that serve proofs only: a search below a bound.
 use mathlib.Core.Bool.{Bool, false, _||_}
 use Prim.Native.Nat.{ℕ, zero, suc}
 use Rattle.base.specs.Sets.{Set}
-use Rattle.base.specs.Limits.{maxNumber, maxBoards, maxSender, maxVertices, maxRows, maxDegree, noneValue, maxWidth, offsetZero, maxReading, maxPosition, sendingLevels, lastLevel, levelCount, levelRules, levelMessages, messageSize, maxRules, outgoingSize}
-use Rattle.base.specs.declared.Limits as Code
-
--- the limits that the code has by name
-abbrev pub limits : Code.Limits
-limits = record {
-  number = maxNumber;
-  boards = maxBoards;
-  sender = maxSender;
-  vertices = maxVertices;
-  rows = maxRows;
-  degree = maxDegree;
-  none = noneValue;
-  width = maxWidth;
-  «offset_zero» = offsetZero;
-  reading = maxReading;
-  position = maxPosition;
-  «sending_levels» = sendingLevels;
-  «last_level» = lastLevel;
-  levels = levelCount;
-  «level_rules» = levelRules;
-  «level_messages» = levelMessages;
-  «message_size» = messageSize;
-  rules = maxRules;
-  outgoing = outgoingSize;
-}
 
 -- some number below k passes
 unfoldable pub anyBelow : ℕ → Set → Bool

@@ -4,3 +4,4 @@ pub mod Put
 pub mod Limits
 pub mod Found
 pub mod Inner
+pub mod Tie

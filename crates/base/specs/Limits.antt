@@ -1,6 +1,5 @@
 -- Document 01, "Words and sizes", "Plans", "The fourteen rules": the limits, each named once; those that follow from others are computed.
 use Prim.Native.Nat.{ℕ, _+_, _-_, _*_}
-use Rattle.base.specs.declared.Limits as Code
 
 -- "An agreement number (0 to 4,294,967,295)", and groups "at most 4,294,967,295"
 abbrev pub maxNumber : ℕ

@@ -1,7 +1,7 @@
 // What all layers share: document 01's limits, each named once; the answer of a call; and in specs/ and proofs/ choice by a test, finite sets and
 // their counts, bytes written into a buffer.
 ghost use mathlib.Core.Path.{_≡_};
-ghost use Rattle.base.specs.Inner.{limits};
+ghost use Rattle.base.specs.Tie.{limits};
 
 // Agreement numbers, and all numbers of messages and records, are at most so large.
 pub const MAX_NUMBER: u32 = 4294967295;

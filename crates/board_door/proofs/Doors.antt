@@ -12,8 +12,7 @@ use Rattle.base.specs.declared.Verdict.{Verdict}
 use Rattle.base.proofs.Bools.{true→T}
 use Rattle.base.specs.Found.{Found, found, refused}
 use Rattle.plan.specs.Plan.{Plan}
-use Rattle.plan.specs.Reading.{settledPlan}
-use Rattle.plan.specs.Inner.{PlanRead, answered}
+use Rattle.plan.specs.Reading.{settledPlan, PlanRead, answered}
 use Rattle.journal.specs.declared.Record.{Record}
 use Rattle.journal.specs.Journal.{recordBytes}
 use Rattle.party.specs.declared.Chart.{Chart}

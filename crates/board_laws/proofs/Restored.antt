@@ -10,8 +10,7 @@ use Rattle.base.specs.declared.Verdict.{Verdict}
 use Rattle.base.specs.Found.{Found, found, refused}
 use Rattle.settings.specs.Settings.{settingsFault, settingsFit}
 use Rattle.plan.specs.Plan.{Plan}
-use Rattle.plan.specs.Reading.{planOf, settledPlan}
-use Rattle.plan.specs.Inner.{PlanRead, answered}
+use Rattle.plan.specs.Reading.{planOf, settledPlan, PlanRead, answered}
 use Rattle.plan.proofs.Listed.{asked}
 use Rattle.plan_laws.proofs.Given.{found-good}
 use Rattle.party.specs.Party.{newParty}

@@ -1,4 +1,4 @@
--- "A refused call hands back the party record as given and writes to neither lent buffer."
+-- "A refused call hands back the party record as given and writes to neither lent buffer.", and results are fixed struct for struct.
 use mathlib.Core.Path.{_≡_, refl, sym, ap, _∙_}
 use mathlib.Core.List.{List}
 use Prim.Native.Nat.{ℕ}
@@ -11,9 +11,10 @@ use Rattle.party.specs.declared.Party as Code
 use Rattle.party.specs.Party.{Party}
 use Rattle.party.specs.Tie.{asParty}
 use Rattle.party.proofs.Ties.{party-one}
+use Rattle.board_calls.specs.declared.SetUp as CodeSetUp
 use Rattle.board_calls.specs.declared.Called as CodeCalled
-use Rattle.board_calls.specs.Tie.{asCalled}
-use Rattle.board_calls.specs.Calls.{Called, Entry, again, fresh, noParty, setUpAnswer, setUpOf}
+use Rattle.board_calls.specs.Tie.{asSetUp, asCalled}
+use Rattle.board_calls.specs.Calls.{SetUp, Called, Entry, again, fresh, noParty, setUpAnswer, setUpOf}
 use Rattle.board_calls.specs.Restore.{Replay}
 use Rattle.board_calls.specs.Results.{CallGives, RestoreGives}
 use Rattle.board_promises.specs.Refused.{Untouched}
@@ -41,7 +42,7 @@ refused-untouched {q} {p} {used} {j} {out} {r} {jThen} {outThen} g number place 
       rules = ap (λ (c : Called). c .rules) (g .result);
     }
 
--- The code's record is the very one that was given: it stands for one party only.
+-- The code's record is the very one that was given: a record stands for one party only.
 pub refused-back : {q : Found Entry} {p : Code.Party} {used : ℕ} {j out : List ℕ} {r : CodeCalled.Called} {jThen outThen : List ℕ}
     → CallGives q (asParty p) used j out (asCalled r) jThen outThen → (number place : ℕ) → r .verdict ≡ Verdict.Refused number place → r .party ≡ p
 refused-back {p = p} {r = r} g number place v = party-one (r .party) p (refused-untouched g number place v .party)
@@ -70,3 +71,21 @@ refused-set-up n t own a bytes number place v = go (settledPlan n t own bytes) v
     go : (f : Found Plan) → setUpAnswer n t own a f .verdict ≡ Verdict.Refused number place → setUpAnswer n t own a f .party ≡ noParty
     go (found plan) v = let z : _≡_ {A = ℕ} 0 1 = cc in absurd (omega arith)
     go (refused k at) v = refl
+
+-- ---- what a contract says of a result fixes the struct
+
+pub set-up-one : (r s : CodeSetUp.SetUp) → asSetUp r ≡ asSetUp s → r ≡ s
+set-up-one r s e =
+    let p = party-one (r .party) (s .party) (ap (λ (c : SetUp). c .party) e) in
+    λ k. record { verdict = ap (λ (c : SetUp). c .verdict) e k; party = p k }
+
+pub called-one : (r s : CodeCalled.Called) → asCalled r ≡ asCalled s → r ≡ s
+called-one r s e =
+    let p = party-one (r .party) (s .party) (ap (λ (c : Called). c .party) e) in
+    λ k. record {
+      verdict = ap (λ (c : Called). c .verdict) e k;
+      party = p k;
+      used = ap (λ (c : Called). c .used) e k;
+      sent = ap (λ (c : Called). c .sent) e k;
+      rules = ap (λ (c : Called). c .rules) e k;
+    }

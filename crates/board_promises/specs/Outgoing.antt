@@ -10,7 +10,7 @@ use Rattle.base.specs.Pick.{pick}
 use Rattle.base.specs.Limits.{maxNumber, levelCount}
 use Rattle.message.specs.declared.Message.{Message}
 use Rattle.message.specs.declared.MessageRead.{MessageRead}
-use Rattle.message.specs.Message.{inTable}
+use Rattle.message.specs.Message.{InLimits}
 use Rattle.message.specs.Reading.{messageAt}
 use Rattle.level.specs.Level.{valueCount}
 use Rattle.party.specs.Party.{Party, levelAt}
@@ -35,9 +35,9 @@ messagesFrom (suc f) s at = pick (eqb at (length s)) (some []) (withNext (messag
 abbrev pub messagesOf : List ℕ → Option (List Message)
 messagesOf s = messagesFrom (length s) s 0
 
--- messages that can be written: of the table, with an agreement number in its limits
+-- messages that can be written
 abbrev pub AllWritable : List Message → Type 0
-AllWritable ms = (m : Message) → List·Memᴰ m ms → (inTable m ≡ true) × (m .number ≤ maxNumber)
+AllWritable ms = (m : Message) → List·Memᴰ m ms → InLimits m
 
 -- what a party has by its type: all levels, in each a place for every second echo, and an agreement number in its limits
 pub record Typed (p : Party) : Type 0 where

@@ -50,7 +50,7 @@ record-read (Start agreement x) p q (ha, hx) =
     ∙ ap (withAgreement s) r2
     ∙ ap (withPosition agreement) r3
     ∙ ap (RecordRead.Read (Start agreement x)) (omega (arith, start-length agreement x, length-last 1 (omega arith)))
-record-read (Taken sender m) p q (hs, ht, hn) =
+record-read (Taken sender m) p q (hs, (ht, hn)) =
     let k : List ℕ = varintBytes 2 in
     let b : List ℕ = varintBytes sender in
     let c : List ℕ = messageBytes m in
@@ -105,7 +105,7 @@ module _ (s : List ℕ) (h : AllBytes s) (at a k : ℕ) (e : varintAt s at ≡ V
       let v = varint-was-written s a b n h (l .2) in
       let w = message-was-written s n m c h g in
       record {
-        limits = (l .1, w .0, omega (arith, w .1));
+        limits = (l .1, (w .0, omega (arith, w .1)));
         longer = omega (arith, u .1, v .1, w .2);
         inside = w .3;
         bytes = part-join s at n c (omega (arith, u .1, v .1)) (omega (arith, w .2))

@@ -1,11 +1,10 @@
--- Whole journals: the bytes of a list of records, and the records of given bytes.
+-- Whole journals: the bytes of a list of records, and the limits of a record.
 use mathlib.Core.Path.{_≡_}
-use mathlib.Core.Bool.{true}
 use mathlib.Core.List.{List, [], _∷_, _++_}
 use Prim.Native.Nat.{ℕ, _<_, _≤_}
 use lib.ListN.{length}
 use Rattle.base.specs.Limits.{maxNumber, maxPosition, maxSender}
-use Rattle.message.specs.Message.{inTable}
+use Rattle.message.specs.Message.{InLimits as MessageInLimits}
 use Rattle.journal.specs.declared.Record.{Record}
 use Rattle.journal.specs.declared.Record.the-variants.{Start, Taken}
 use Rattle.journal.specs.Journal.{recordBytes}
@@ -13,7 +12,7 @@ use Rattle.journal.specs.Journal.{recordBytes}
 -- "A whole record has every value in the limits just given and in the message table."
 abbrev pub InLimits : Record → Type 0
 InLimits (Start agreement x) = (agreement ≤ maxNumber) × (x ≤ maxPosition)
-InLimits (Taken sender m) = (sender ≤ maxSender) × (inTable m ≡ true) × (m .number ≤ maxNumber)
+InLimits (Taken sender m) = (sender ≤ maxSender) × MessageInLimits m
 
 abbrev pub AllInLimits : List Record → Type 0
 AllInLimits [] = Unit

@@ -12,7 +12,7 @@ use Rattle.journal.specs.Journal.{recordBytes}
 use Rattle.journal.specs.Records.{InLimits, AllInLimits, ProperBeginning, journalBytes}
 use Rattle.journal.specs.Reading.{recordAt, recordsFrom}
 
--- The bytes j begin with the records rs, and what stands after them is torn or bad.
+-- The bytes j begin with the records rs, and what stands after them is torn, which nothing at all is too, or bad.
 pub record Begins (j : List ℕ) (rs : List Record) : Type 0 where
   pub limits : AllInLimits rs
   pub inside : length (journalBytes rs) ≤ length j

@@ -17,10 +17,14 @@ use Rattle.vote_machine.specs.Machine.{accepts, accepted, called, voteMachine, 
 use Rattle.vote_machine.specs.Inner.{Le}
 use Rattle.vote_machine.proofs.Laws.{le-refl, le-trans, le-called, le-sent, le-heard, new-entered, called-cases, called-accepted, called-refused, start-fits, take-fits, start-accepted, take-accepted}
 use Rattle.vote_machine.proofs.Laws.{tells-called, sent-proper, heard-new, heard-start, heard-taking, taking-heard, starting-at, started-taking, Passes, seat-settings, vote-lawful}
-use Rattle.log_agreement.specs.Logs.{Steps, logOf, messagesBy}
+use Rattle.log_agreement.specs.Logs.{Steps, logOf, partyBy, messagesBy}
 use Rattle.log_agreement.specs.Words.{AcceptedCall, CallMade, Calls, Words, LogWords}
 use Rattle.log_agreement.proofs.Joint.{settings}
 use Rattle.log_agreement.proofs.Logs.{heard-held, held-heard, regular, tells-made, allowed-valid}
+
+-- the message under another number
+abbrev pub numbered : ℕ → Message → Message
+numbered k m = record { number = k; level = m .level; body = m .body }
 
 module _ (n t agreement : ℕ) (plan : Plan) (v : Passes n t plan) where
   abbrev M : Machine
@@ -201,6 +205,29 @@ module _ (n t agreement : ℕ) (plan : Plan) (v : Passes n t plan) where
     where
       l : Log
       l = logOf n t agreement plan h i
+
+  -- ---- what the words rule out
+
+  -- a second start, which would have been accepted as the first one
+  pub second-start : (i x y : ℕ) → x < plan .count → y < plan .count
+      → T (accepts (partyBy n t agreement plan i []) (start y)) × (AcceptedCall n t agreement plan i (start y ∷ (start x ∷ [])) (start y) → x ≡ y)
+  unfolding after
+  second-start i x y a b =
+      (fits y b, λ c. sym (start-shows i l x (one-more i (start y) (start x ∷ []) (start x) (newest i (start x) [] (fits x a))) .1) ∙ start-shows i l y c .1)
+    where
+      l : Log
+      l = start y ∷ (start x ∷ [])
+
+      fits : (z : ℕ) → z < plan .count → T (accepts (after M i []) (start z))
+      fits z =
+          start-accepted (after M i []) z (new-entered n t (seat n i) agreement plan (seat-settings n t agreement plan v i) (v .valid) 0)
+
+  -- a message of another vote with the level and body of one that was taken: it is held, and was not taken
+  pub other-vote : (i : ℕ) (l : List (Event Message ℕ)) (s k : ℕ) (m : Message) → AcceptedCall n t agreement plan i l (take s m) → (k ≡ agreement → ⊥)
+      → T (inTable (numbered k m)) × T (heldBy (partyBy n t agreement plan i l) s (numbered k m))
+      × (AcceptedCall n t agreement plan i l (take s (numbered k m)) → ⊥)
+  unfolding heldBy
+  other-vote i l s k m c d = let x = take-shows i l s m c in (x .1, x .2, λ e. d (take-shows i l s (numbered k m) e .0))
 
 pub log-words : LogWords
 log-words n t agreement plan boards faults valid =

@@ -1,4 +1,4 @@
--- Reading a message, left to right. `Reads` (Statement.antt) says what it finds, so that nobody needs to believe these definitions.
+-- Reading a message, left to right. `Reads` (Statement.antt) says which messages it finds; the calls and demand 3 need no more.
 use mathlib.Core.List.{List}
 use Prim.Native.Nat.{ℕ}
 use lib.Dec.{eqb}

@@ -1,21 +1,15 @@
 -- What reading a message finds, in terms of what is written: `reads` (proofs/Theorem.antt) proves it of the definitions of reading.
 use mathlib.Core.Path.{_≡_}
-use mathlib.Core.Bool.{true}
 use mathlib.Core.List.{List, _++_}
-use Prim.Native.Nat.{ℕ, _+_, _≤_}
+use Prim.Native.Nat.{ℕ, _+_}
 use lib.ListN.{length}
-use Rattle.base.specs.Limits.{maxNumber}
 use Rattle.varint.specs.Varint.{AllBytes}
 use Rattle.varint.specs.Statement.{BytesAt}
 use Rattle.message.specs.declared.Message.{Message}
 use Rattle.message.specs.declared.MessageRead.{MessageRead}
 use Rattle.message.specs.declared.Exactly.{Exactly}
-use Rattle.message.specs.Message.{inTable, messageBytes}
+use Rattle.message.specs.Message.{InLimits, messageBytes}
 use Rattle.message.specs.Reading.{messageAt, exactMessage}
-
--- "An agreement number (0 to 4,294,967,295)", and level, kind and value by the table
-abbrev pub InLimits : Message → Type 0
-InLimits m = (inTable m ≡ true) × (m .number ≤ maxNumber)
 
 pub record Reads : Type 0 where
   -- "Groups: agreement number, level (0 to 14), kind, value": such a message is read back wherever it stands

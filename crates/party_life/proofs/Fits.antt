@@ -51,4 +51,4 @@ module _ (p : Party) where
     where
       table : (r : Record) → InLimits r → T (tabled r)
       table (Start a x) l = tt
-      table (Taken s m) l = true→T (l .1)
+      table (Taken s m) l = true→T (l .1 .0)

@@ -11,8 +11,7 @@ use Rattle.settings.specs.Settings.{settingsFault}
 use Rattle.settings.proofs.Laws.{ask-all, fault-none}
 use Rattle.base.specs.Found.{Found, found, refused, ask}
 use Rattle.plan.specs.Plan.{Plan}
-use Rattle.plan.specs.Reading.{planOf, settledPlan}
-use Rattle.plan.specs.Inner.{PlanRead, answered}
+use Rattle.plan.specs.Reading.{planOf, settledPlan, PlanRead, answered}
 use Rattle.plan.proofs.Listed.{ask-yes}
 
 -- an answer, and what it is the answer of

@@ -3,4 +3,3 @@ pub mod Positions
 pub mod Reading
 pub mod Valid
 pub mod Tie
-pub mod Inner

@@ -8,11 +8,12 @@ use Rattle.base.specs.Pick.{pick}
 use Rattle.signed.specs.Signed.{offsetOfZigzag}
 use Rattle.tree.specs.Growth.{sweeps}
 use Rattle.base.specs.Found.{Found, found, refused, ask}
+use Rattle.base.specs.declared.Verdict.{Verdict}
 use Rattle.edges.specs.Reading.{varintThen, edgesFrom}
 use Rattle.plan.specs.Plan.{Plan}
 use Rattle.base.specs.Limits.{maxVertices, maxWidth, maxReading}
 use Rattle.settings.specs.Settings.{settingsFault, settingsFit}
-use Rattle.plan.specs.Positions.{treePlan, rangePlan}
+use Rattle.plan.specs.Positions.{treePlan, rangePlan, noPlan}
 
 -- "Does the plan end with its bytes? 11."
 abbrev pub ended : {A : Type 0} → List ℕ → ℕ → A → Found A
@@ -46,3 +47,13 @@ planOf s = planFrom s 0
 -- questions 1 to 3 of the settings, then the plan
 unfoldable pub settledPlan : ℕ → ℕ → ℕ → List ℕ → Found Plan
 settledPlan n t own s = ask (settingsFit n t own) (settingsFault n t own) 0 (planOf s)
+
+-- what reading a plan gives
+pub record PlanRead : Type 0 where
+  pub verdict : Verdict
+  pub plan : Plan
+
+-- the answer as the call gives it: no plan comes with a refusal
+abbrev pub answered : Found Plan → PlanRead
+answered (found p) = record { verdict = Verdict.Accepted; plan = p }
+answered (refused number place) = record { verdict = Verdict.Refused number place; plan = noPlan }

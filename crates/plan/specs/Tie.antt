@@ -1,6 +1,6 @@
 -- How the code's records stand for the definitions': this file and the code change where a plan is kept in another form.
 use Rattle.plan.specs.Plan.{Plan}
-use Rattle.plan.specs.Inner.{PlanRead}
+use Rattle.plan.specs.Reading.{PlanRead}
 use Rattle.plan.specs.declared.Plan as Code
 use Rattle.plan.specs.declared.PlanRead as CodeRead
 

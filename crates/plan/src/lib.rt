@@ -8,7 +8,7 @@ ghost use Rattle.edges.specs.Rows.{rows};
 ghost use Rattle.base.specs.Limits.{maxVertices, maxWidth};
 ghost use Rattle.base.specs.Found.{found, refused};
 ghost use Rattle.plan.specs.Positions.{noPlan, treePlan, rangePlan};
-ghost use Rattle.plan.specs.Inner.{answered};
+ghost use Rattle.plan.specs.Reading.{answered};
 ghost use Rattle.plan.specs.Tie.{asPlan, asPlanRead};
 
 // What is kept of a plan. Unused places are 0.

@@ -4,7 +4,7 @@ ghost use mathlib.Core.Bool.{not};
 ghost use Prim.Native.Nat.{ℕ};
 ghost use lib.Dec.{T};
 ghost use Rattle.varint.specs.declared.VarintRead.{VarintRead};
-ghost use Rattle.plan.specs.Inner.{answered};
+ghost use Rattle.plan.specs.Reading.{answered};
 ghost use Rattle.plan_groups.specs.declared.Next.{Next};
 ghost use Rattle.plan_groups.specs.Inner.{pastOf, wanting, Sound, restOf, kindNext, widthNext, afterEdges, Taken};
 ghost use Rattle.plan.specs.Tie.{asPlanRead};

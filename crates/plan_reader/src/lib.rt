@@ -1,8 +1,7 @@
 // The plan's reader: the lent plan bytes and the offset reached, together. It moves through the plan group by group; what each group says is asked of plain numbers.
 ghost use mathlib.Core.Path.{_≡_};
 ghost use Rattle.varint.specs.Reading.{varintAt};
-ghost use Rattle.plan.specs.Reading.{planFrom, planOf, settledPlan};
-ghost use Rattle.plan.specs.Inner.{answered};
+ghost use Rattle.plan.specs.Reading.{planFrom, planOf, settledPlan, answered};
 ghost use Rattle.plan_groups.specs.Inner.{pastOf};
 ghost use Rattle.plan.specs.Tie.{asPlanRead};
 

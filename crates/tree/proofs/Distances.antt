@@ -3,8 +3,8 @@ use mathlib.Core.Path.{_≡_, refl, subst}
 use mathlib.Core.Logic.{_⊎_, inl, inr}
 use Prim.Native.Nat.{ℕ, _≤_}
 use native.Mathlib.Omega.{arith}
-use Rattle.tree.specs.Walk.{Walk, here, step}
-use Rattle.tree.specs.Inner.{edgesIn, Distance, Acyclic}
+use Rattle.tree.specs.Walk.{Walk, here, step, edgesIn, Distance}
+use Rattle.tree.specs.Inner.{Acyclic}
 use Rattle.tree.specs.Edges.{Edges, Adjacent}
 use Rattle.tree.proofs.Acyclic.{irreflexive}
 

@@ -8,8 +8,8 @@ use lib.Dec.{T, eqb, ltb, eqb→eq}
 use Rattle.base.specs.Pick.{pick, smallest}
 use Rattle.base.specs.Sets.{Set, count}
 use Rattle.base.proofs.Bools.{T-left, T-right, T-dec, T-ext}
-use Rattle.tree.specs.Walk.{Walk, here, step, OnPath}
-use Rattle.tree.specs.Inner.{edgesIn, Distance, In}
+use Rattle.tree.specs.Walk.{Walk, here, step, OnPath, edgesIn, Distance}
+use Rattle.tree.specs.Inner.{In}
 use Rattle.tree.specs.Edges.{Edges, Adjacent, adjacent, label, joined}
 use Rattle.tree.specs.Component.{without, part, heavy, light, centre, neighbours, degree, rank, neighbour, side, gateway, port}
 use Rattle.tree.proofs.Edges.{adjacent→, adjacent←}

@@ -1,12 +1,10 @@
--- Definitions that serve proofs only: what holds of a plan's edges, distances, intervals of a path, and passes over edges in growth order.
-use mathlib.Core.Path.{_≡_}
+-- Definitions that serve proofs, and contracts of inner functions: what holds of a plan's edges, intervals of a path, and passes over edges in growth order.
 use mathlib.Core.Bool.{Bool, false, not, _&&_, _||_}
 use mathlib.Core.List.{[], _∷_}
-use Prim.Native.Nat.{ℕ, suc, _+_, _-_, _*_, _/_, _≤_, _<_}
+use Prim.Native.Nat.{ℕ, _+_, _-_, _*_, _/_, _<_}
 use lib.Dec.{T, eqb, leb, ltb}
 use Rattle.base.specs.Pick.{pick}
 use Rattle.base.specs.Sets.{Set, bit, count}
-use Rattle.tree.specs.Walk.{Walk, here, step}
 use Rattle.tree.specs.Edges.{Edge, Edges, all, joined}
 use Rattle.tree.specs.Growth.{reached}
 
@@ -28,17 +26,6 @@ Below n (e ∷ E) = (e .one < n) × (e .two < n) × Below n E
 abbrev pub Grown : Edges → Type 0
 Grown [] = Unit {0}
 Grown (e ∷ E) = T (reached E (e .one)) × (T (reached E (e .two)) → ⊥) × Grown E
-
--- how many edges a walk has
-unfoldable pub edgesIn : {Adj : ℕ → ℕ → Type 0} {P : ℕ → Type 0} {x y : ℕ} → Walk Adj P x y → ℕ
-edgesIn (here p) = 0
-edgesIn (step p e w) = suc (edgesIn w)
-
--- "Distance counts a path's edges": the least number of edges of a walk
-pub record Distance (Adj : ℕ → ℕ → Type 0) (a b k : ℕ) : Type 0 where
-  pub walk : Walk Adj (λ _. Unit {0}) a b
-  pub long : edgesIn walk ≡ k
-  pub least : (w : Walk Adj (λ _. Unit {0}) a b) → k ≤ edgesIn w
 
 -- the positions a to b
 unfoldable pub interval : ℕ → ℕ → Set

@@ -1,4 +1,4 @@
--- Reading a varint. `Reads` (Statement.antt) says what it finds, so that nobody needs to believe these definitions.
+-- Reading a varint. `Reads` (Statement.antt) says which values it finds; the calls and demand 3 need no more.
 use mathlib.Core.List.{List}
 use Prim.Native.Nat.{ℕ, zero, suc, _+_, _-_, _*_, _/_, max}
 use lib.Dec.{ltb, eqb}

@@ -1,7 +1,7 @@
 use mathlib.Core.Path.{ap}
 use borrow.Author.Needs.{needs}
 use Rattle.plan.specs.Plan.{Plan}
-use Rattle.plan.specs.Inner.{PlanRead}
+use Rattle.plan.specs.Reading.{PlanRead}
 use Rattle.base.specs.declared.Verdict.{Verdict}
 use Rattle.plan.proofs.refuse.Statement.{statement}
 use Rattle.plan.proofs.refuse.Tie as tie

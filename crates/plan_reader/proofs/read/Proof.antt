@@ -28,8 +28,7 @@ use denote.Triple.Statement.{Contract, Triple}
 use denote.Triple.Call.{calls-at}
 use denote.Triple.Spec.{Meets, tripleOf}
 use denote.Triple.Table.{entered, cited}
-use Rattle.plan.specs.Reading.{planFrom, planOf}
-use Rattle.plan.specs.Inner.{PlanRead, answered}
+use Rattle.plan.specs.Reading.{planFrom, planOf, PlanRead, answered}
 use Rattle.plan.specs.Tie.{asPlanRead}
 use Rattle.plan.proofs.PlanRead as S
 use Rattle.plan.proofs.PlanRead.Laws as S′

@@ -42,8 +42,7 @@ use Rattle.varint.specs.Reading.{varintAt}
 use Rattle.varint.specs.declared.VarintRead.{VarintRead}
 use Rattle.varint.proofs.VarintRead as K
 use Rattle.varint.proofs.VarintRead.Laws as K′
-use Rattle.plan.specs.Reading.{planFrom}
-use Rattle.plan.specs.Inner.{answered}
+use Rattle.plan.specs.Reading.{planFrom, answered}
 use Rattle.plan.specs.Tie.{asPlanRead}
 use Rattle.plan.proofs.PlanRead as S
 use Rattle.plan.proofs.PlanRead.Laws as S′
