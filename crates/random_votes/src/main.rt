@@ -3,10 +3,10 @@ mod beside;
 mod calls;
 mod codes;
 mod first;
+mod given;
 mod limits;
 mod note;
 mod report;
-mod terms;
 
 use random_buffers::Out;
 use random_calls::Pair;
