@@ -6,7 +6,7 @@ use lib.Dec.{leb, eqb}
 use lib.ListN.{length}
 use Rattle.base.specs.Pick.{pick}
 use Rattle.signed.specs.Signed.{offsetOfZigzag}
-use Rattle.tree.specs.Growth.{sweeps}
+use Rattle.tree.specs.Growth.{growthOrder}
 use Rattle.base.specs.Found.{Found, found, refused, ask}
 use Rattle.base.specs.declared.Verdict.{Verdict}
 use Rattle.edges.specs.Reading.{varintThen, edgesFrom}
@@ -24,7 +24,7 @@ abbrev pub treeFrom : List ℕ → ℕ → Found Plan
 treeFrom s at =
     varintThen s at (λ v next.
     ask (leb 1 v && leb v maxVertices) 6 at
-    (edgesFrom v (v - 1) s next [] (λ E end. ended s end (treePlan v (sweeps (v - 1) E)))))
+    (edgesFrom v (v - 1) s next [] (λ E end. ended s end (treePlan v (growthOrder E)))))
 
 -- kind 2: signed low reading, then the width; "Are low, width and high in their limits? 10." (every signed low is)
 abbrev pub rangeFrom : List ℕ → ℕ → Found Plan

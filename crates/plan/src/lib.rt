@@ -3,13 +3,13 @@ ghost use mathlib.Core.Path.{_≡_};
 ghost use Prim.Native.Nat.{_-_, _≤_};
 ghost use lib.ListN.{length};
 ghost use Rattle.tree.specs.Inner.{Below};
-ghost use Rattle.tree.specs.Growth.{sweeps};
+ghost use Rattle.tree.specs.Growth.{growthOrder};
 ghost use Rattle.edges.specs.Rows.{rows};
 ghost use Rattle.base.specs.Limits.{maxVertices, maxWidth};
 ghost use Rattle.base.specs.Found.{found, refused};
 ghost use Rattle.plan.specs.Positions.{noPlan, treePlan, rangePlan};
 ghost use Rattle.plan.specs.Reading.{answered};
-ghost use Rattle.plan.specs.Tie.{asPlan, asPlanRead};
+ghost use Rattle.plan.specs.Tie.{shaped, asPlan, asPlanRead};
 
 // What is kept of a plan. Unused places are 0.
 pub struct Plan {
@@ -24,9 +24,29 @@ pub struct Plan {
     pub child: [u16; base::MAX_ROWS],
 }
 
+// A plan without its rows.
+pub struct Shape {
+    pub kind: u32,
+    pub count: u32,
+    pub low: u32,
+}
+
 pub struct PlanRead {
     pub verdict: base::Verdict,
     pub plan: Plan,
+}
+
+impl Plan {
+    // The plan without its rows, which are lent beside it.
+    pub fn shape(self) -> Shape
+        ensures { λ r. ⌜ shaped r (self .parent) (self .child) ≡ asPlan self ⌝ }
+    {
+        Shape {
+            kind: self.kind,
+            count: self.count,
+            low: self.low,
+        }
+    }
 }
 
 // No plan: what comes with a refusal.
@@ -68,7 +88,7 @@ pub fn accept(p: Plan) -> PlanRead
 // The plan of a tree of v vertices whose edges are in the columns `one` and `two`.
 pub fn tree_plan(one: &[u16], two: &[u16], v: u32) -> Plan
     requires { ⌜ (1 ≤ v) × (v ≤ maxVertices) × Below v (rows (now one) (now two) (v - 1)) × (v - 1 ≤ length (now one)) × (v - 1 ≤ length (now two)) ⌝ }
-    ensures { λ r. ⌜ asPlan r ≡ treePlan v (sweeps (v - 1) (rows (now (one .entry)) (now (two .entry)) (v - 1))) ⌝ }
+    ensures { λ r. ⌜ asPlan r ≡ treePlan v (growthOrder (rows (now (one .entry)) (now (two .entry)) (v - 1))) ⌝ }
 {
     let n = v as usize;
     let m = n - 1;

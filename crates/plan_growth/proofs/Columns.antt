@@ -1,6 +1,5 @@
 -- Laws of edges kept in columns: a row more, and how many rows there can be.
-use mathlib.Core.Path.{_≡_, refl, sym, ap, ap₂, _∙_, subst, subst₂}
-use mathlib.Core.Logic.{_⊎_, inl, inr}
+use mathlib.Core.Path.{_≡_, refl, sym, ap, ap₂, _∙_, subst}
 use mathlib.Core.List.{List, [], _∷_, _++_}
 use mathlib.Core.Bool.{Bool, true, false, not, _||_}
 use Prim.Native.Nat.{ℕ, zero, suc, _+_, _-_, _≤_, _<_}
@@ -11,14 +10,14 @@ use lib.Dec.{T, eqb, eqb→eq, eqb-refl, not-T}
 use lib.ListN.{length, getD, set, replicate, length-append, length-set, length-replicate, getD-replicate}
 use lib.Seq.{getD-set-same, getD-set-other, set-append-seam, append-snoc, getD-at}
 use borrow.Author.Tests.{ne-eqb}
+use Rattle.base.specs.Pick.{pick}
 use Rattle.base.specs.Sets.{bit, count}
 use Rattle.base.proofs.Bools.{T→true, not-T→false, true→T, false→not-T}
 use Rattle.base.proofs.Counts.{count-pos, count-not}
 use Rattle.tree.specs.Edges.{Edge, Edges}
 use Rattle.tree.specs.Inner.{Below, Grown}
-use Rattle.tree.specs.Growth.{reached, sweep, sweeps}
-use Rattle.tree.proofs.GrowthSweeps.{Settled, sweep-progress, sweeps-stop}
-use Rattle.tree.proofs.GrowthComplete.{reached-count, sweeps-length}
+use Rattle.tree.specs.Growth.{reached, turned, extended, branched}
+use Rattle.tree.proofs.GrowthComplete.{reached-count, grown-short}
 use Rattle.edges.specs.Rows.{rows, column}
 use Rattle.plan_growth.specs.Inner.{edge, filled, Laid}
 
@@ -57,7 +56,7 @@ one-bit true h = refl
 one-bit false h = absurd h
 
 module _ {v : ℕ} {F : Edges} {parent child seen : List ℕ} {k : ℕ} (h : Laid v F parent child seen k) where
-  marked : (x : ℕ) → x < v → getD seen x 0 ≡ 1 → T (reached F x)
+  pub marked : (x : ℕ) → x < v → getD seen x 0 ≡ 1 → T (reached F x)
   marked x l e = bit-one (reached F x) (sym (h .marks x l) ∙ e)
 
   unmarked : (x : ℕ) → x < v → (getD seen x 0 ≡ 1 → ⊥) → T (reached F x) → ⊥
@@ -82,7 +81,7 @@ module _ {v : ℕ} {F : Edges} {parent child seen : List ℕ} {k : ℕ} (h : Lai
   mark-more b lb x l false i = getD-set-other seen b x 1 0 (λ e. false→not-T i (subst (λ (z : ℕ). T (eqb x z)) e (eqb-refl x))) ∙ h .marks x l
 
   -- a row more, from a position that is reached to one that is not
-  laid-more : (a b : ℕ) → a < v → b < v → getD seen a 0 ≡ 1 → (getD seen b 0 ≡ 1 → ⊥) → Laid v (edge a b ∷ F) (set parent k a) (set child k b) (set seen b 1) (k + 1)
+  laid-more : (a b : ℕ) → a < v → b < v → T (reached F a) → (getD seen b 0 ≡ 1 → ⊥) → Laid v (edge a b ∷ F) (set parent k a) (set child k b) (set seen b 1) (k + 1)
   unfolding reached
   laid-more a b la lb r d =
       let w = laid-room b lb d in
@@ -92,31 +91,50 @@ module _ {v : ℕ} {F : Edges} {parent child seen : List ℕ} {k : ℕ} (h : Lai
         parents = column-more (λ e. e .one) parent (edge a b) (w .0) (h .parents);
         children = column-more (λ e. e .two) child (edge a b) (w .1) (h .children);
         places = simp length-set (h .places);
-        grown = (marked a la r, unmarked b lb d, h .grown);
+        grown = (r, unmarked b lb d, h .grown);
         below = (la, lb, h .below);
         marks = λ x l. mark-more b lb x l (eqb x b) refl;
       }
 
-  -- the edge a-b, by the marks of its ends
-  pub extend-both : (a b : ℕ) → a < v → b < v → getD seen a 0 ≡ 1 → getD seen b 0 ≡ 1 → Laid v (sweep (edge a b ∷ []) F) parent child seen k
-  unfolding sweep
-  extend-both a b la lb r s = rw (T→true (reached F a) (marked a la r), T→true (reached F b) (marked b lb s)) h
+  -- from a to b, by b's mark
+  pub branch-old : (a b : ℕ) → b < v → getD seen b 0 ≡ 1 → Laid v (branched a (b ∷ []) F) parent child seen k
+  unfolding branched
+  branch-old a b lb s = rw (T→true (reached F b) (marked b lb s)) h
 
-  pub extend-none : (a b : ℕ) → a < v → b < v → (getD seen a 0 ≡ 1 → ⊥) → (getD seen b 0 ≡ 1 → ⊥) → Laid v (sweep (edge a b ∷ []) F) parent child seen k
-  unfolding sweep
+  pub branch-new : (a b : ℕ) {parent′ child′ seen′ : List ℕ} → a < v → b < v → T (reached F a) → (getD seen b 0 ≡ 1 → ⊥)
+      → parent′ ≡ set parent k a → child′ ≡ set child k b → seen′ ≡ set seen b 1 → Laid v (branched a (b ∷ []) F) parent′ child′ seen′ (k + 1)
+  unfolding branched
+  branch-new a b la lb r s e f g = rw (e, f, g, not-T→false (reached F b) (unmarked b lb s)) (laid-more a b la lb r s)
+
+  -- the edge a-b, by the marks of its ends
+  pub extend-on : (a b : ℕ) {parent′ child′ seen′ : List ℕ} {r : ℕ} → a < v → getD seen a 0 ≡ 1 → Laid v (branched a (b ∷ []) F) parent′ child′ seen′ r
+      → Laid v (extended (edge a b) F) parent′ child′ seen′ r
+  unfolding branched
+  extend-on a b {parent′} {child′} {seen′} {r} la s g = rw (T→true (reached F a) (marked a la s)) (go (reached F b) g)
+    where
+      go : (c : Bool) → Laid v (pick c F (edge a b ∷ F)) parent′ child′ seen′ r → Laid v (turned true c (edge a b) F) parent′ child′ seen′ r
+      go true g = g
+      go false g = g
+
+  pub extend-back : (a b : ℕ) {parent′ child′ seen′ : List ℕ} {r : ℕ} → a < v → b < v → (getD seen a 0 ≡ 1 → ⊥) → getD seen b 0 ≡ 1
+      → Laid v (branched b (a ∷ []) F) parent′ child′ seen′ r → Laid v (extended (edge a b) F) parent′ child′ seen′ r
+  unfolding branched
+  extend-back a b la lb d s g =
+      let no : reached F a ≡ false = not-T→false (reached F a) (unmarked a la d) in
+      rw (no, T→true (reached F b) (marked b lb s)) (rw no at g)
+
+  pub extend-none : (a b : ℕ) → a < v → b < v → (getD seen a 0 ≡ 1 → ⊥) → (getD seen b 0 ≡ 1 → ⊥) → Laid v (extended (edge a b) F) parent child seen k
   extend-none a b la lb r s = rw (not-T→false (reached F a) (unmarked a la r), not-T→false (reached F b) (unmarked b lb s)) h
 
-  pub extend-on : (a b : ℕ) {parent′ child′ seen′ : List ℕ} → a < v → b < v → getD seen a 0 ≡ 1 → (getD seen b 0 ≡ 1 → ⊥)
-      → parent′ ≡ set parent k a → child′ ≡ set child k b → seen′ ≡ set seen b 1 → Laid v (sweep (edge a b ∷ []) F) parent′ child′ seen′ (k + 1)
-  unfolding sweep
-  extend-on a b la lb r s e f g =
-      rw (e, f, g, T→true (reached F a) (marked a la r), not-T→false (reached F b) (unmarked b lb s)) (laid-more a b la lb r s)
+  -- fewer rows than positions
+  pub laid-short : k < v
+  laid-short = omega (arith, h .many, grown-short v F (h .some) (h .below) (h .grown))
 
-  pub extend-back : (a b : ℕ) {parent′ child′ seen′ : List ℕ} → a < v → b < v → (getD seen a 0 ≡ 1 → ⊥) → getD seen b 0 ≡ 1
-      → parent′ ≡ set parent k b → child′ ≡ set child k a → seen′ ≡ set seen a 1 → Laid v (sweep (edge a b ∷ []) F) parent′ child′ seen′ (k + 1)
-  unfolding sweep
-  extend-back a b la lb r s e f g =
-      rw (e, f, g, not-T→false (reached F a) (unmarked a la r), T→true (reached F b) (marked b lb s)) (laid-more b a lb la s r)
+-- as many rows as asked for
+pub rows-length : (ps cs : List ℕ) (k : ℕ) → length (rows ps cs k) ≡ k
+unfolding rows
+rows-length ps cs zero = refl
+rows-length ps cs (suc k) = ap suc (rows-length ps cs k)
 
 -- the rows of the columns are F
 pub column-rows : (F : Edges) (xs ys : List ℕ) → rows (column (λ e. e .one) F ++ xs) (column (λ e. e .two) F ++ ys) (length F) ≡ F
@@ -150,55 +168,17 @@ row-below v ps cs (suc m) i l b = go (ℕ-discrete i m) (row-below v ps cs m i)
     go (yes e) ih = rw e (b .0, b .1)
     go (no d) ih = ih (omega arith) (b .2)
 
--- a sweep over one edge more
-pub laid-step : {v : ℕ} {p c s p′ c′ s′ : List ℕ} {k r : ℕ} (one two : List ℕ) (i : ℕ) (F : Edges) → Laid v (sweep (rows one two i) F) p c s k
-    → Laid v (sweep (edge (getD one i 0) (getD two i 0) ∷ []) (rows p c k)) p′ c′ s′ r → Laid v (sweep (rows one two (i + 1)) F) p′ c′ s′ r
-unfolding sweep rows
-laid-step {v} {p} {c} {s} {p′} {c′} {s′} {k} {r} one two i F h g =
-    rw (add-one i) (subst (λ (G : Edges). Laid v (sweep (edge (getD one i 0) (getD two i 0) ∷ []) G) p′ c′ s′ r) (laid-rows h) g)
-
--- before the first edge
-pub laid-start : {v : ℕ} {p c s : List ℕ} {k : ℕ} (one two : List ℕ) (F : Edges) → Laid v F p c s k → Laid v (sweep (rows one two 0) F) p c s k
-unfolding sweep rows
-laid-start one two F h = h
-
--- after the last
-pub laid-end : {v : ℕ} {p c s : List ℕ} {k : ℕ} (one two : List ℕ) (i m : ℕ) (F : Edges) → i ≡ m → Laid v (sweep (rows one two i) F) p c s k → Laid v (sweep (rows one two m) F) p c s k
-laid-end one two i m F e h = rw (← e) h
-
--- ---- sweep after sweep
-
--- before the first sweep
-pub laid-none : {v : ℕ} {p c s : List ℕ} (E : Edges) → Laid v [] p c s 0 → Laid v (sweeps 0 E) p c s 0
-unfolding sweeps
-laid-none E h = h
-
--- one sweep more
-pub laid-again : {v : ℕ} {p c s p′ c′ s′ : List ℕ} {k r : ℕ} (E : Edges) (j : ℕ) → Laid v (sweeps j E) p c s k → Laid v (sweep E (rows p c k)) p′ c′ s′ r → Laid v (sweeps (j + 1) E) p′ c′ s′ r
-unfolding sweeps
-laid-again {v} {p} {c} {s} {p′} {c′} {s′} {k} {r} E j h g = rw (add-one j) (subst (λ (G : Edges). Laid v (sweep E G) p′ c′ s′ r) (laid-rows h) g)
-
--- the sweep added no row: further ones add none
-pub laid-stop : {v : ℕ} {p c s p′ c′ s′ : List ℕ} {k r : ℕ} (E : Edges) (j m : ℕ) → j ≤ m → r ≡ k → Laid v (sweeps j E) p c s k → Laid v (sweep E (rows p c k)) p′ c′ s′ r
-    → Laid v (sweeps m E) p′ c′ s′ k
-laid-stop {v} {p} {c} {s} {p′} {c′} {s′} {k} {r} E j m l e h g = go (sweep-progress E (sweeps j E))
+-- the first rows
+pub rows-below : (v : ℕ) (ps cs : List ℕ) (m i : ℕ) → i ≤ m → Below v (rows ps cs m) → Below v (rows ps cs i)
+unfolding rows
+rows-below v ps cs zero i l b = let e : i ≡ 0 = omega arith in rw e tt
+rows-below v ps cs (suc m) i l b = go (ℕ-discrete i (suc m)) (rows-below v ps cs m i)
   where
-    g′ : Laid v (sweep E (sweeps j E)) p′ c′ s′ k
-    g′ = subst₂ (λ (G : Edges) (n : ℕ). Laid v (sweep E G) p′ c′ s′ n) (laid-rows h) e g
+    go : Dec (i ≡ suc m) → (i ≤ m → Below v (rows ps cs m) → Below v (rows ps cs i)) → Below v (rows ps cs i)
+    go (yes e) ih = rw e b
+    go (no d) ih = ih (omega arith) (b .2)
 
-    go : ((sweep E (sweeps j E) ≡ sweeps j E) × Settled E (sweeps j E)) ⊎ (length (sweeps j E) < length (sweep E (sweeps j E))) → Laid v (sweeps m E) p′ c′ s′ k
-    go (inl (i, s)) = rw (sweeps-stop E j m l i, ← i) g′
-    go (inr i) = absurd (omega (arith, i, h .many, g′ .many))
-
--- there are rows for all positions: further sweeps add none
-pub laid-full : {v : ℕ} {p c s : List ℕ} {k : ℕ} (E : Edges) (j m : ℕ) → j ≤ m → Below v E → k + 1 ≡ v → Laid v (sweeps j E) p c s k → Laid v (sweeps m E) p c s k
-laid-full {v} E j m l b e h = rw (sweeps-length v E (h .some) b j m l (omega (arith, h .many))) h
-
--- after the last sweep
-pub laid-last : {v : ℕ} {p c s : List ℕ} {k : ℕ} (E : Edges) (j m : ℕ) → j ≡ m → Laid v (sweeps j E) p c s k → Laid v (sweeps m E) p c s k
-laid-last E j m e h = rw (← e) h
-
--- ---- the first and the last
+-- ---- no rows
 
 -- columns that are all 0 hold no rows, and only 0 is reached
 pub laid-empty : (v n m : ℕ) → 0 < v → v ≤ suc n → v ≤ m → Laid v [] (replicate n 0) (replicate n 0) (set (replicate m 0) 0 1) 0

@@ -20,8 +20,8 @@ use Rattle.signed.specs.declared.SignedRead.{SignedRead}
 use Rattle.signed.specs.Signed.{unzigzag, signedOf, signedAt, fromOffset, offsetOfZigzag}
 use Rattle.signed.proofs.RoundTrip.{zigzag-unzigzag, unzigzag-mag}
 use Rattle.tree.specs.Edges.{Edges, Adjacent}
-use Rattle.tree.specs.Growth.{sweeps}
-use Rattle.tree.proofs.GrowthSweeps.{sweeps-adjacent}
+use Rattle.tree.specs.Growth.{growthOrder}
+use Rattle.tree.proofs.GrowthOrder.{order-adjacent}
 use Rattle.tree.proofs.GrowthComplete.{tree-length, tree-adjacent}
 use Rattle.base.specs.Found.{Found, found, refused}
 use Rattle.edges.specs.Inner.{Listed, edgesOfTree}
@@ -55,12 +55,12 @@ tree-edges v F n =
     ∙ column-rows F (replicate (maxRows - length (column (λ e. e .one) F)) 0) (replicate (maxRows - length (column (λ e. e .two) F)) 0)
 
 -- v - 1 edges that pass: the kept ones join the same positions
-same-adjacent : (v : ℕ) (E : Edges) → 1 ≤ v → Passing v E → length E ≡ v - 1 → (x y : ℕ) → Adjacent E x y ↔ Adjacent (edgesOf (treePlan v (sweeps (v - 1) E))) x y
+same-adjacent : (v : ℕ) (E : Edges) → 1 ≤ v → Passing v E → length E ≡ v - 1 → (x y : ℕ) → Adjacent E x y ↔ Adjacent (edgesOf (treePlan v (growthOrder E))) x y
 same-adjacent v E a h m x y =
     let below = passing-below v E h in
     let acyclic = passing-acyclic v E h in
-    subst (λ (F : Edges). Adjacent E x y ↔ Adjacent F x y) (sym (tree-edges v (sweeps (v - 1) E) (tree-length v E a below acyclic m)))
-    (tree-adjacent v E a below acyclic m x y, sweeps-adjacent (v - 1) E x y)
+    subst (λ (F : Edges). Adjacent E x y ↔ Adjacent F x y) (sym (tree-edges v (growthOrder E) (tree-length v E a below acyclic m)))
+    (tree-adjacent v E a below acyclic m x y, order-adjacent E x y)
 
 same-found : {A : Type 0} {x y : A} → found x ≡ found y → x ≡ y
 same-found e = cc
@@ -72,10 +72,10 @@ tree-drawn s at p k e =
     let v = one .0 in
     let six = asked (leb 1 v && leb v maxVertices) 6 at _ p (one .3) in
     go v (one .1) (one .2) (leb→le 1 v (T-left (leb 1 v) (leb v maxVertices) (six .0))) (edgesOfTree v s (one .1)) refl
-    (sym (edges-made v (v - 1) s (one .1) [] (λ E end. ended s end (treePlan v (sweeps (v - 1) E)))) ∙ six .1)
+    (sym (edges-made v (v - 1) s (one .1) [] (λ E end. ended s end (treePlan v (growthOrder E)))) ∙ six .1)
   where
     drawn-by : (v next : ℕ) → varintAt s at ≡ VarintRead.Value v next → 1 ≤ v → (E : Edges) (end : ℕ) → edgesOfTree v s next ≡ found (record { edges = E; past = end })
-        → end ≡ length s → Passing v E → length E ≡ v - 1 → Drawn s (treePlan v (sweeps (v - 1) E))
+        → end ≡ length s → Passing v E → length E ≡ v - 1 → Drawn s (treePlan v (growthOrder E))
     drawn-by v next c a E end i last h m = record {
       second = at;
       third = next;
@@ -87,10 +87,10 @@ tree-drawn s at p k e =
     }
 
     go : (v next : ℕ) → varintAt s at ≡ VarintRead.Value v next → 1 ≤ v → (l : Found Listed) → edgesOfTree v s next ≡ l
-        → made l (λ E end. ended s end (treePlan v (sweeps (v - 1) E))) ≡ found p → Drawn s p
+        → made l (λ E end. ended s end (treePlan v (growthOrder E))) ≡ found p → Drawn s p
     go v next c a (refused number place) i x = let z : _≡_ {A = ℕ} 0 1 = cc in absurd (omega arith)
     go v next c a (found l) i x =
-        let eleven = asked (eqb (l .past) (length s)) 11 (l .past) (found (treePlan v (sweeps (v - 1) (l .edges)))) p x in
+        let eleven = asked (eqb (l .past) (length s)) 11 (l .past) (found (treePlan v (growthOrder (l .edges)))) p x in
         let all = after v s (λ E end. found (record { edges = E; past = end })) l (v - 1) next [] tt i in
         let w : record { edges = all .edges; past = all .past } ≡ l = same-found (all .last) in
         let f : all .edges ≡ l .edges = ap (λ (y : Listed). y .edges) w in
@@ -119,8 +119,8 @@ tree-kind s at p e =
     let one = grouped at (varintAt s at) _ p e in
     let v = one .0 in
     let six = asked (leb 1 v && leb v maxVertices) 6 at _ p (one .3) in
-    let all = after v s (λ E end. ended s end (treePlan v (sweeps (v - 1) E))) p (v - 1) (one .1) [] tt (six .1) in
-    let eleven = asked (eqb (all .past) (length s)) 11 (all .past) (found (treePlan v (sweeps (v - 1) (all .edges)))) p (all .last) in
+    let all = after v s (λ E end. ended s end (treePlan v (growthOrder E))) p (v - 1) (one .1) [] tt (six .1) in
+    let eleven = asked (eqb (all .past) (length s)) 11 (all .past) (found (treePlan v (growthOrder (all .edges)))) p (all .last) in
     ap (λ (q : Plan). q .kind) (sym (same-found (eleven .1)))
 
 -- what a plan that is found was read as, by the kind that stands first

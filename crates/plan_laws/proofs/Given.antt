@@ -19,10 +19,9 @@ use Rattle.varint.proofs.RoundTrip.{varint-read-at}
 use Rattle.signed.specs.Signed.{zigzag, offset, fromOffset, offsetOfZigzag}
 use Rattle.signed.proofs.RoundTrip.{unzigzag-zigzag, offset-from, offset-unzigzag}
 use Rattle.tree.specs.Edges.{Edges}
-use Rattle.tree.specs.Growth.{reached, sweeps}
-use Rattle.tree.specs.Inner.{Grown}
+use Rattle.tree.specs.Growth.{reached, growthOrder}
 use Rattle.tree.proofs.Growth.{grown-acyclic}
-use Rattle.tree.proofs.GrowthSweeps.{sweeps-again, sweeps-grown, sweeps-below, sweeps-empty}
+use Rattle.tree.proofs.GrowthOrder.{order-again, order-grown, order-below}
 use Rattle.tree.proofs.GrowthComplete.{tree-length, tree-edgesAt}
 use Rattle.edges.specs.Rows.{rows}
 use Rattle.base.specs.Found.{Found, found, refused}
@@ -31,10 +30,10 @@ use Rattle.plan.specs.Plan.{Plan}
 use Rattle.plan.specs.Positions.{column, padded, treePlan, rangePlan}
 use Rattle.plan.specs.Reading.{ended, treeFrom, rangeFrom, planFrom, planOf}
 use Rattle.plan.specs.Valid.{allZero, planValid}
-use Rattle.plan_growth.proofs.Columns.{column-rows}
+use Rattle.plan_growth.proofs.Columns.{rows-length, column-rows}
 use Rattle.plan_laws.specs.Statement.{Sized, Given}
 use Rattle.plan_laws.proofs.Parts.{TreeParts, RangeParts, tree-parts, tree-made, range-parts, range-made, valid-tree, valid-range}
-use Rattle.plan_laws.proofs.Shape.{GrownRows, fit-grown, grown-fit, grown-before, room-before, rows-length, Kinds, tree, range, kinds, Shape, shape}
+use Rattle.plan_laws.proofs.Shape.{GrownRows, fit-grown, grown-fit, grown-before, room-before, Kinds, tree, range, kinds, Shape, shape}
 use Rattle.plan.proofs.Listed.{asked, ask-yes, grouped, Passing, passing-acyclic, passing-below, passing-degrees, after, edgeBytes, edges-read}
 use Rattle.plan_laws.proofs.Padding.{zeros, zeros-all, column-one, column-two, refill, filled-rest, filled-length}
 
@@ -75,11 +74,6 @@ grown-passing v (e ∷ F) h =
       grown-passing v F (grown-before v e F h),
     )
 
--- and are kept as they are
-kept : (k : ℕ) (F : Edges) → length F ≡ k → Grown F → sweeps k F ≡ F
-kept k [] m g = sweeps-empty k
-kept k (e ∷ F) m g = sweeps-again k (e ∷ F) g (omega arith)
-
 -- the bytes of a tree with the rows F
 treeBytes : ℕ → Edges → List ℕ
 treeBytes v F = varintBytes 1 ++ (varintBytes v ++ edgeBytes F)
@@ -89,16 +83,16 @@ unfolding treeBytes
 tree-bytes v F = all-bytes-append (varintBytes 1) (varintBytes v ++ edgeBytes F) (pieces-bytes 4 1) (all-bytes-append (varintBytes v) (edgeBytes F) (pieces-bytes 4 v) (edge-bytes F))
 
 tree-ended : (v : ℕ) (s : List ℕ) (at : ℕ) (F : Edges) → v ≤ 2 ^ 32 → length F ≡ v - 1 → GrownRows v F → (pre : List ℕ) → s ≡ pre ++ edgeBytes F → at ≡ length pre
-    → edgesFrom v (v - 1) s at [] (λ E end. ended s end (treePlan v (sweeps (v - 1) E))) ≡ found (treePlan v F)
+    → edgesFrom v (v - 1) s at [] (λ E end. ended s end (treePlan v (growthOrder E))) ≡ found (treePlan v F)
 unfolding edgesFrom
 tree-ended v s at F l m h pre es ea =
     ap₂ (λ (k a : ℕ). edgesFrom v k s a [] done) many ea
     ∙ edges-read v 0 s done F pre [] l (grown-passing v F h) (es ∙ ap (λ (t : List ℕ). pre ++ t) (sym (append-nil (edgeBytes F))))
-    ∙ ask-yes (eqb past (length s)) 11 past (found (treePlan v (sweeps (v - 1) F))) (true→T (eq-eqb past (length s) (sym (ap length es ∙ length-append pre (edgeBytes F)))))
-    ∙ ap (λ (G : Edges). found (treePlan v G)) (kept (v - 1) F m (h .grown))
+    ∙ ask-yes (eqb past (length s)) 11 past (found (treePlan v (growthOrder F))) (true→T (eq-eqb past (length s) (sym (ap length es ∙ length-append pre (edgeBytes F)))))
+    ∙ ap (λ (G : Edges). found (treePlan v G)) (order-again F (h .grown))
   where
     done : Edges → ℕ → Found Plan
-    done E end = ended s end (treePlan v (sweeps (v - 1) E))
+    done E end = ended s end (treePlan v (growthOrder E))
 
     past : ℕ
     past = length pre + length (edgeBytes F)
@@ -237,22 +231,22 @@ tree-found s at p e =
     let six = asked (leb 1 v && leb v maxVertices) 6 at _ p (one .3) in
     let a = leb→le 1 v (T-left (leb 1 v) (leb v maxVertices) (six .0)) in
     let b = leb→le v maxVertices (T-right (leb 1 v) (leb v maxVertices) (six .0)) in
-    let all = after v s (λ E end. ended s end (treePlan v (sweeps (v - 1) E))) p (v - 1) (one .1) [] tt (six .1) in
-    let eleven = asked (eqb (all .past) (length s)) 11 (all .past) (found (treePlan v (sweeps (v - 1) (all .edges)))) p (all .last) in
-    let i : treePlan v (sweeps (v - 1) (all .edges)) ≡ p = same-found (eleven .1) in
+    let all = after v s (λ E end. ended s end (treePlan v (growthOrder E))) p (v - 1) (one .1) [] tt (six .1) in
+    let eleven = asked (eqb (all .past) (length s)) 11 (all .past) (found (treePlan v (growthOrder (all .edges)))) p (all .last) in
+    let i : treePlan v (growthOrder (all .edges)) ≡ p = same-found (eleven .1) in
     subst Good i (good v (all .edges) a b (omega (arith, all .many)) (all .passing))
   where
     same-found : {x y : Plan} → found x ≡ found y → x ≡ y
     same-found e = cc
 
-    good : (v : ℕ) (E : Edges) → 1 ≤ v → v ≤ maxVertices → length E ≡ v - 1 → Passing v E → Good (treePlan v (sweeps (v - 1) E))
+    good : (v : ℕ) (E : Edges) → 1 ≤ v → v ≤ maxVertices → length E ≡ v - 1 → Passing v E → Good (treePlan v (growthOrder E))
     good v E a b m h =
-        let F : Edges = sweeps (v - 1) E in
+        let F : Edges = growthOrder E in
         let n : length F ≡ v - 1 = tree-length v E a (passing-below v E h) (passing-acyclic v E h) m in
         let g : GrownRows v F =
         record {
-          grown = sweeps-grown (v - 1) E;
-          below = sweeps-below (v - 1) v E (passing-below v E h);
+          grown = order-grown E;
+          below = order-below v E (passing-below v E h);
           degrees = λ x. omega (arith, tree-edgesAt v E a (passing-below v E h) (passing-acyclic v E h) m x, passing-degrees v E h x);
         }
         in

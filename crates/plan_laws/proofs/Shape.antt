@@ -1,5 +1,5 @@
 -- What a plan part that passes the test is: a tree, or a path, of few enough positions and with few enough edges at each.
-use mathlib.Core.Path.{_≡_, refl, ap, subst}
+use mathlib.Core.Path.{_≡_, refl, subst}
 use mathlib.Core.List.{List, _∷_}
 use mathlib.Core.Bool.{Bool, true, false}
 use Prim.Native.Nat.{ℕ, zero, suc, _+_, _-_, _≤_, _<_}
@@ -19,17 +19,13 @@ use Rattle.edges.specs.Rows.{rows}
 use Rattle.plan.specs.Plan.{Plan}
 use Rattle.plan.specs.Positions.{edgesOf}
 use Rattle.plan_growth.specs.Inner.{edge}
+use Rattle.plan_growth.proofs.Columns.{rows-length}
 use Rattle.plan.specs.Valid.{rowFits, rowsFit, treeValid, rangeValid, planValid}
 use Rattle.plan.proofs.Degrees.{at-none, at-one, at-two, at-more, at-most}
 use Rattle.plan_laws.proofs.Fitting.{fitting, fitted}
 use Rattle.plan_laws.proofs.Parts.{TreeParts, RangeParts, tree-parts, range-parts}
 
 -- ---- rows that fit
-
-pub rows-length : (ps cs : List ℕ) (k : ℕ) → length (rows ps cs k) ≡ k
-unfolding rows
-rows-length ps cs zero = refl
-rows-length ps cs (suc k) = ap suc (rows-length ps cs k)
 
 -- they grow a tree with few enough edges at each position
 pub record GrownRows (v : ℕ) (F : Edges) : Type 0 where

@@ -14,7 +14,7 @@ use Rattle.varint.specs.Varint.{varintBytes}
 use Rattle.varint.proofs.RoundTrip.{varint-read-at}
 use Rattle.tree.specs.Edges.{Edges}
 use Rattle.tree.specs.Inner.{Acyclic}
-use Rattle.tree.specs.Growth.{sweeps}
+use Rattle.tree.specs.Growth.{growthOrder}
 use Rattle.tree.proofs.GrowthComplete.{tree-length}
 use Rattle.base.specs.Found.{Found, found}
 use Rattle.edges.specs.Reading.{edgesFrom}
@@ -27,7 +27,7 @@ use Rattle.plan_laws.proofs.Shape.{shape, edges-tree}
 use Rattle.plan.proofs.Listed.{Passing, ask-yes, edgeBytes, edges-read}
 use Rattle.plan_laws.proofs.Given.{found-good}
 use Rattle.range_as_path.specs.Twin.{Numbered, TwinBytes}
-use Rattle.range_as_path.proofs.Numbering.{Within, within-below, within-degree, sweeps-numbered, numbered-acyclic}
+use Rattle.range_as_path.proofs.Numbering.{Within, within-below, within-degree, order-numbered, numbered-acyclic}
 
 -- ---- the edges pass questions 7 to 9
 
@@ -56,15 +56,15 @@ passes n (e ∷ E) l h k =
 module _ (v : ℕ) (E : Edges) (some : 1 ≤ v) (most : v ≤ maxVertices) (pass : Passing v E) (many : length E ≡ v - 1) where
   -- the edges from `at` on, to the end
   read-edges : (s : List ℕ) (at : ℕ) (pre : List ℕ) → s ≡ pre ++ edgeBytes E → at ≡ length pre
-      → edgesFrom v (v - 1) s at [] (λ F end. ended s end (treePlan v (sweeps (v - 1) F))) ≡ found (treePlan v (sweeps (v - 1) E))
+      → edgesFrom v (v - 1) s at [] (λ F end. ended s end (treePlan v (growthOrder F))) ≡ found (treePlan v (growthOrder E))
   unfolding edgesFrom
   read-edges s at pre es ea =
       ap₂ (λ (k a : ℕ). edgesFrom v k s a [] done) all ea
       ∙ edges-read v 0 s done E pre [] (omega arith) pass (es ∙ ap (λ (t : List ℕ). pre ++ t) (sym (append-nil (edgeBytes E))))
-      ∙ ask-yes (eqb past (length s)) 11 past (found (treePlan v (sweeps (v - 1) E))) (true→T (eq-eqb past (length s) (sym (ap length es ∙ length-append pre (edgeBytes E)))))
+      ∙ ask-yes (eqb past (length s)) 11 past (found (treePlan v (growthOrder E))) (true→T (eq-eqb past (length s) (sym (ap length es ∙ length-append pre (edgeBytes E)))))
     where
       done : Edges → ℕ → Found Plan
-      done F end = ended s end (treePlan v (sweeps (v - 1) F))
+      done F end = ended s end (treePlan v (growthOrder F))
 
       past : ℕ
       past = length pre + length (edgeBytes E)
@@ -72,7 +72,7 @@ module _ (v : ℕ) (E : Edges) (some : 1 ≤ v) (most : v ≤ maxVertices) (pass
       all : v - 1 ≡ length E + 0
       all = omega arith
 
-  read-tree : planOf (varintBytes 1 ++ (varintBytes v ++ edgeBytes E)) ≡ found (treePlan v (sweeps (v - 1) E))
+  read-tree : planOf (varintBytes 1 ++ (varintBytes v ++ edgeBytes E)) ≡ found (treePlan v (growthOrder E))
   unfolding planFrom
   read-tree =
       rw (varint-read-at 1 s [] (varintBytes v ++ edgeBytes E) 0 (omega arith) refl refl)
@@ -104,7 +104,7 @@ twin-bytes s r e k l E h m =
     let within : Within v E = λ x y. h x y .0 in
     let below = within-below v E within in
     let acyclic = numbered-acyclic v E h m in
-    let F : Edges = sweeps (v - 1) E in
+    let F : Edges = growthOrder E in
     let read = read-tree v E some l (passes v E some within acyclic) m in
     record {
       range = r;
@@ -117,6 +117,6 @@ twin-bytes s r e k l E h m =
         valid = g .passes;
         valid′ = found-good (varintBytes 1 ++ (varintBytes v ++ edgeBytes E)) (treePlan v F) read .passes;
         count = refl;
-        path = subst (Numbered v) (sym (plan-edges v F (tree-length v E some below acyclic m))) (sweeps-numbered v E h);
+        path = subst (Numbered v) (sym (plan-edges v F (tree-length v E some below acyclic m))) (order-numbered v E h);
       };
     }

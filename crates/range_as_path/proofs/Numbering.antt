@@ -15,12 +15,12 @@ use Rattle.tree.specs.Walk.{Walk, here, step}
 use Rattle.tree.specs.Edges.{Edge, Edges, Ends, Adjacent, adjacent, all, joined, edgesAt}
 use Rattle.tree.specs.Inner.{In, Acyclic, Below}
 use Rattle.tree.specs.Path.{pathEdges}
-use Rattle.tree.specs.Growth.{sweeps}
+use Rattle.tree.specs.Growth.{growthOrder}
 use Rattle.tree.proofs.Walks.{join, back}
 use Rattle.tree.proofs.Edges.{flip, adjacent→, adjacent←}
 use Rattle.tree.proofs.Labels.{joined-walk}
-use Rattle.tree.proofs.GrowthSweeps.{sweeps-grown, sweeps-adjacent}
-use Rattle.tree.proofs.GrowthComplete.{sweeps-reach, walk-from-zero, edgesAt-count}
+use Rattle.tree.proofs.GrowthOrder.{order-grown, order-adjacent}
+use Rattle.tree.proofs.GrowthComplete.{order-reach, walk-from-zero, edgesAt-count}
 use Rattle.tree.proofs.PathEdges.{path-below, path-acyclic, path-degree}
 use Rattle.range_as_path.specs.Twin.{NextBelow, Numbered}
 use Rattle.range_as_path.proofs.Geometry.{path-numbered}
@@ -56,20 +56,20 @@ numbered-walk n E h zero l = here tt
 numbered-walk n E h (suc x) l = join (Adjacent E) (numbered-walk n E h x (omega arith)) (step tt (h x (suc x) .1 (inl refl, omega arith, l)) (here tt))
 
 -- the edges in growth order are numbered along the same path
-pub sweeps-numbered : (n : ℕ) (E : Edges) → Numbered n E → Numbered n (sweeps (n - 1) E)
-sweeps-numbered n E h x y = (λ a. h x y .0 (sweeps-adjacent (n - 1) E x y a), from)
+pub order-numbered : (n : ℕ) (E : Edges) → Numbered n E → Numbered n (growthOrder E)
+order-numbered n E h x y = (λ a. h x y .0 (order-adjacent E x y a), from)
   where
     F : Edges
-    F = sweeps (n - 1) E
+    F = growthOrder E
 
     within : Within n F
-    within x y a = h x y .0 (sweeps-adjacent (n - 1) E x y a)
+    within x y a = h x y .0 (order-adjacent E x y a)
 
     link : (x : ℕ) → suc x < n → Adjacent F x (suc x)
     link x l =
         crossing n F within
-        (walk-from-zero F (sweeps-grown (n - 1) E) (suc x)
-        (sweeps-reach n E (omega arith) (within-below n E (λ x y. h x y .0)) (suc x) (numbered-walk n E h (suc x) l)))
+        (walk-from-zero F (order-grown E) (suc x)
+        (order-reach E (suc x) (numbered-walk n E h (suc x) l)))
         x (omega arith) (omega arith)
 
     from : NextBelow n x y → Adjacent F x y

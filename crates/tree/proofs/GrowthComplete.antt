@@ -1,28 +1,28 @@
--- Enough sweeps reach every position that the edges join to 0, and keep every edge.
+-- The growth order reaches every position that the edges join to 0, and keeps every edge.
 use mathlib.Core.Path.{_≡_, refl, sym, ap, _∙_, subst}
 use mathlib.Core.Logic.{_⊎_, inl, inr}
 use mathlib.Core.List.{[], _∷_}
 use mathlib.Core.Bool.{Bool, true, false, _&&_, _||_}
-use Prim.Native.Nat.{ℕ, zero, suc, _-_, _≤_, _<_}
+use Prim.Native.Nat.{ℕ, suc, _-_, _≤_, _<_}
 use native.Mathlib.Decide.{ℕ-discrete}
 use native.Mathlib.Omega.{arith}
 use lib.Dec.{T, eqb, eqb→eq, eqb-refl, lt→ltb}
 use lib.ListN.{length}
 use Rattle.base.specs.Sets.{bit, count}
 use Rattle.base.proofs.Bools.{T-left, T-right, T→true, not-T→false, T-ext, or-split, or-left}
-use Rattle.base.proofs.Counts.{count-le, count-or-and, count-same, count-more, count-none, count-single, count-full, count-all}
+use Rattle.base.proofs.Counts.{count-le, count-or-and, count-same, count-more, count-none, count-single, count-all}
 use Rattle.tree.specs.Walk.{Walk, here, step, Not}
 use Rattle.tree.specs.Edges.{Edge, Edges, Ends, Adjacent, ends, adjacent, all, label, edgesAt}
 use Rattle.tree.specs.Inner.{In, Acyclic, Below, Grown}
 use Rattle.tree.specs.Component.{upto}
-use Rattle.tree.specs.Growth.{reached, sweep, sweeps}
+use Rattle.tree.specs.Growth.{reached, growthOrder}
 use Rattle.tree.proofs.Walks.{mono, join, back, gate}
 use Rattle.tree.proofs.Edges.{flip, more, adjacent-below, adjacent→, adjacent←}
 use Rattle.tree.proofs.Labels.{edge-label}
 use Rattle.tree.proofs.Acyclic.{apart-ends, irreflexive, bridge}
 use Rattle.tree.proofs.Whole.{whole}
 use Rattle.tree.proofs.Growth.{reached-zero, reached-new, reached-old, reached-split, grown-acyclic}
-use Rattle.tree.proofs.GrowthSweeps.{Settled, sweep-settled, sweep-progress, sweeps-grown, sweeps-adjacent, sweeps-below, sweeps-settled}
+use Rattle.tree.proofs.GrowthOrder.{Settled, order-grown, order-adjacent, order-below, order-settled}
 
 -- ---- how many positions are reached
 
@@ -39,56 +39,9 @@ reached-count n (e ∷ F) l b g =
 pub grown-short : (n : ℕ) (F : Edges) → 0 < n → Below n F → Grown F → length F < n
 grown-short n F l b g = omega (arith, reached-count n F l b g, count-le n (reached F))
 
--- n - 1 edges reach every position
-pub grown-full : (n : ℕ) (F : Edges) → 0 < n → Below n F → Grown F → n ≤ suc (length F) → (x : ℕ) → x < n → T (reached F x)
-grown-full n F l b g m x k = count-full n (reached F) (omega (arith, reached-count n F l b g)) x k
-
--- and nothing less does
+-- where every position is reached there are n - 1
 pub full-length : (n : ℕ) (F : Edges) → 0 < n → Below n F → Grown F → ((x : ℕ) → x < n → T (reached F x)) → length F ≡ n - 1
 full-length n F l b g h = omega (arith, reached-count n F l b g, count-all n (reached F) h)
-
--- ---- the sweeps come to rest
-
--- where every position is reached, no edge leads on
-pub full-settled : (n : ℕ) (E F : Edges) → Below n E → ((x : ℕ) → x < n → T (reached F x)) → Settled E F
-full-settled n E F b h x y a r = h y (adjacent-below n E b x y a)
-
--- every position is reached after k sweeps: the later ones add nothing
-pub sweeps-full : (n : ℕ) (E : Edges) → Below n E → (k j : ℕ) → k ≤ j → ((x : ℕ) → x < n → T (reached (sweeps k E) x)) → sweeps j E ≡ sweeps k E
-sweeps-full n E b k j l h = sweeps-settled E k j l (full-settled n E (sweeps k E) b h)
-
--- so they do where n - 1 edges are found
-pub sweeps-length : (n : ℕ) (E : Edges) → 0 < n → Below n E → (k j : ℕ) → k ≤ j → length (sweeps k E) ≡ n - 1 → sweeps j E ≡ sweeps k E
-sweeps-length n E l b k j m i = sweeps-full n E b k j m (grown-full n (sweeps k E) l (sweeps-below k n E b) (sweeps-grown k E) (omega arith))
-
--- each sweep adds an edge, until all is settled
-sweeps-far : (k : ℕ) (E : Edges) → (k ≤ length (sweeps k E)) ⊎ Settled E (sweeps k E)
-unfolding sweeps
-sweeps-far zero E = inl (omega arith)
-sweeps-far (suc k) E = go (sweep-progress E (sweeps k E)) (sweeps-far k E)
-  where
-    F : Edges
-    F = sweeps k E
-
-    go : ((sweep E F ≡ F) × Settled E F) ⊎ (length F < length (sweep E F)) → (k ≤ length F) ⊎ Settled E F → (suc k ≤ length (sweep E F)) ⊎ Settled E (sweep E F)
-    go (inl (i, s)) ih = inr (subst (Settled E) (sym i) s)
-    go (inr l) (inl m) = inl (omega arith)
-    go (inr l) (inr s) = inr (subst (Settled E) (sym (sweep-settled E F s)) s)
-
--- after n - 1 sweeps all is settled
-pub sweeps-rest : (n : ℕ) (E : Edges) → 0 < n → Below n E → Settled E (sweeps (n - 1) E)
-sweeps-rest n E l b = go (sweeps-far (n - 1) E)
-  where
-    F : Edges
-    F = sweeps (n - 1) E
-
-    go : (n - 1 ≤ length F) ⊎ Settled E F → Settled E F
-    go (inl m) = full-settled n E F b (grown-full n F l (sweeps-below (n - 1) n E b) (sweeps-grown (n - 1) E) (omega arith))
-    go (inr s) = s
-
--- no sweep after them adds anything
-pub sweeps-enough : (n : ℕ) (E : Edges) → 0 < n → Below n E → (j : ℕ) → n - 1 ≤ j → sweeps j E ≡ sweeps (n - 1) E
-sweeps-enough n E l b j m = sweeps-settled E (n - 1) j m (sweeps-rest n E l b)
 
 -- ---- all that is joined to 0 is reached
 
@@ -97,8 +50,8 @@ pub settled-walk : (E F : Edges) {P : ℕ → Type 0} {x y : ℕ} → Settled E 
 settled-walk E F s (here p) r = r
 settled-walk E F s (step {x = x} {y = z} p e w) r = settled-walk E F s w (s x z e r)
 
-pub sweeps-reach : (n : ℕ) (E : Edges) {P : ℕ → Type 0} → 0 < n → Below n E → (x : ℕ) → Walk (Adjacent E) P 0 x → T (reached (sweeps (n - 1) E) x)
-sweeps-reach n E l b x w = settled-walk E (sweeps (n - 1) E) (sweeps-rest n E l b) w (reached-zero (sweeps (n - 1) E))
+pub order-reach : (E : Edges) {P : ℕ → Type 0} (x : ℕ) → Walk (Adjacent E) P 0 x → T (reached (growthOrder E) x)
+order-reach E x w = settled-walk E (growthOrder E) (order-settled E) w (reached-zero (growthOrder E))
 
 -- edges in growth order join 0 to all that they reach
 pub walk-from-zero : (F : Edges) → Grown F → (x : ℕ) → T (reached F x) → Walk (Adjacent F) (In all) 0 x
@@ -182,23 +135,23 @@ edgesAt-same n E F b c k g to of x =
 
 module _ (n : ℕ) (E : Edges) (some : 0 < n) (below : Below n E) (acyclic : Acyclic E) {P : ℕ → Type 0} (walks : (x : ℕ) → x < n → Walk (Adjacent E) P 0 x) where
   -- every position is reached
-  pub complete-reached : (x : ℕ) → x < n → T (reached (sweeps (n - 1) E) x)
-  complete-reached x l = sweeps-reach n E some below x (walks x l)
+  pub complete-reached : (x : ℕ) → x < n → T (reached (growthOrder E) x)
+  complete-reached x l = order-reach E x (walks x l)
 
   -- all n - 1 edges are found
-  pub complete-length : length (sweeps (n - 1) E) ≡ n - 1
-  complete-length = full-length n (sweeps (n - 1) E) some (sweeps-below (n - 1) n E below) (sweeps-grown (n - 1) E) complete-reached
+  pub complete-length : length (growthOrder E) ≡ n - 1
+  complete-length = full-length n (growthOrder E) some (order-below n E below) (order-grown E) complete-reached
 
   -- none is lost
-  pub complete-adjacent : (x y : ℕ) → Adjacent E x y → Adjacent (sweeps (n - 1) E) x y
+  pub complete-adjacent : (x y : ℕ) → Adjacent E x y → Adjacent (growthOrder E) x y
   complete-adjacent x y h =
-      same-edges E (sweeps (n - 1) E) acyclic (sweeps-grown (n - 1) E) (sweeps-adjacent (n - 1) E) x y h
+      same-edges E (growthOrder E) acyclic (order-grown E) (order-adjacent E) x y h
       (complete-reached x (adjacent-below n E below y x (flip E x y h))) (complete-reached y (adjacent-below n E below x y h))
 
   -- each position has as many edges as before
-  pub complete-edgesAt : (x : ℕ) → edgesAt (sweeps (n - 1) E) x ≡ edgesAt E x
+  pub complete-edgesAt : (x : ℕ) → edgesAt (growthOrder E) x ≡ edgesAt E x
   complete-edgesAt =
-      edgesAt-same n E (sweeps (n - 1) E) below (sweeps-below (n - 1) n E below) acyclic (grown-acyclic (sweeps (n - 1) E) (sweeps-grown (n - 1) E)) complete-adjacent (sweeps-adjacent (n - 1) E)
+      edgesAt-same n E (growthOrder E) below (order-below n E below) acyclic (grown-acyclic (growthOrder E) (order-grown E)) complete-adjacent (order-adjacent E)
 
 -- ---- a plan of n positions with n - 1 edges and no ring
 
@@ -208,14 +161,14 @@ module _ (n : ℕ) (E : Edges) (some : 0 < n) (below : Below n E) (acyclic : Acy
   unfolding upto
   tree-walk x l = whole n E below acyclic some (omega arith) .connected 0 x (lt→ltb 0 n some) (lt→ltb x n l)
 
-  pub tree-reached : (x : ℕ) → x < n → T (reached (sweeps (n - 1) E) x)
+  pub tree-reached : (x : ℕ) → x < n → T (reached (growthOrder E) x)
   tree-reached = complete-reached n E some below acyclic tree-walk
 
-  pub tree-length : length (sweeps (n - 1) E) ≡ n - 1
+  pub tree-length : length (growthOrder E) ≡ n - 1
   tree-length = complete-length n E some below acyclic tree-walk
 
-  pub tree-adjacent : (x y : ℕ) → Adjacent E x y → Adjacent (sweeps (n - 1) E) x y
+  pub tree-adjacent : (x y : ℕ) → Adjacent E x y → Adjacent (growthOrder E) x y
   tree-adjacent = complete-adjacent n E some below acyclic tree-walk
 
-  pub tree-edgesAt : (x : ℕ) → edgesAt (sweeps (n - 1) E) x ≡ edgesAt E x
+  pub tree-edgesAt : (x : ℕ) → edgesAt (growthOrder E) x ≡ edgesAt E x
   tree-edgesAt = complete-edgesAt n E some below acyclic tree-walk

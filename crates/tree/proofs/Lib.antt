@@ -14,7 +14,8 @@ pub mod Degrees
 pub mod Distances
 pub mod Levels
 pub mod Growth
-pub mod GrowthSweeps
+pub mod GrowthRows
+pub mod GrowthOrder
 pub mod GrowthComplete
 pub mod GrowthSizes
 pub mod GrowthLight

@@ -4,7 +4,7 @@ use lib.Count.{ones, onesIn}
 use Rattle.base.specs.Pick.{smallest}
 use Rattle.base.specs.Sets.{count}
 use Rattle.tree.specs.Edges.{label, joined, adjacent, ends, edgesAt}
-use Rattle.tree.specs.Growth.{reached, sweep, sweeps}
+use Rattle.tree.specs.Growth.{reached, others, branched, target, absorbed, growthOrder}
 use Rattle.tree.specs.Component.{upto, without, part, heavy, light, centre, neighbours, degree, rank, neighbour, side, gateway, port}
 use Rattle.tree.specs.Path.{pathEdges}
 use Rattle.varint.specs.Varint.{pieces}
@@ -27,7 +27,7 @@ use Rattle.vectors.proofs.Table.{_and_}
 
 pub stand : Every Stands cases
 unfolding
-    cases listing passing two pieces piecesAt ones onesIn smallest count label joined adjacent ends edgesAt reached sweep sweeps upto without part heavy light centre neighbours degree rank neighbour side gateway port pathEdges edgesFrom rows edgesOf column planFrom isIn withSender unionOver slot senders held withHeard otherEchoes mayPropose proposed digitEchoes splitAt split echoedBy secondProposed echoedValues sided rule1 rule2 rule3 rule4 rule5 rule6 rule7 rule8 rule9 rule10 rule11 rule12 rule13 rule14 lowestRule levelAt withLevel componentOf sending contextOf entering entered heldBy hearing ruleAt openAt openLevel afterRule runUpTo run starting taking replayed lived
+    cases listing passing two pieces piecesAt ones onesIn smallest count label joined adjacent ends edgesAt reached others branched target absorbed growthOrder upto without part heavy light centre neighbours degree rank neighbour side gateway port pathEdges edgesFrom rows edgesOf column planFrom isIn withSender unionOver slot senders held withHeard otherEchoes mayPropose proposed digitEchoes splitAt split echoedBy secondProposed echoedValues sided rule1 rule2 rule3 rule4 rule5 rule6 rule7 rule8 rule9 rule10 rule11 rule12 rule13 rule14 lowestRule levelAt withLevel componentOf sending contextOf entering entered heldBy hearing ruleAt openAt openLevel afterRule runUpTo run starting taking replayed lived
 stand =
     (refl, refl, refl) and (refl, refl, refl) and (refl, refl, refl) and (refl, refl, refl)
     and (refl, refl)

@@ -25,7 +25,7 @@ slice-aggregate-grow-3 c = search needs
 grow-requires : tie.Need-grow-requires
 grow-requires c κs =
     let p = c .before .before .before .before .before .pre in
-    (laid-empty (c .before .before .before .before .before .args .v) maxRows maxVertices (omega arith) (omega arith) (omega arith), p .2, p .3, p .4, omega arith)
+    (laid-empty (c .before .before .before .before .before .args .v) maxRows maxVertices (omega arith) (omega arith) (omega arith), p .2, p .3, p .4, omega arith, p .1)
 
 returns : tie.Need-returns
 returns c =

@@ -1,30 +1,97 @@
--- `plan_growth::grow` meets its contract. The loop's invariant: the columns hold what `pass` sweeps give.
+-- `plan_growth::grow` meets its contract. The loop's invariant: the columns hold the rows of the first i edges, which hang.
 use mathlib.Core.Path.{_≡_}
-use Prim.Native.Nat.{_≤_, _-_}
+use Prim.Native.Nat.{_+_, _-_, _≤_}
 use native.Mathlib.Omega.{arith}
 use lib.ListN.{length}
-use Rattle.tree.specs.Growth.{sweeps}
-use Rattle.edges.specs.Rows.{rows}
-use Rattle.plan_growth.specs.Inner.{Laid}
-use Rattle.plan_growth.proofs.Columns.{laid-named, laid-none, laid-again, laid-stop, laid-full, laid-last}
 use borrow.Author.Needs.{needs}
+use Rattle.base.specs.Limits.{maxVertices, maxRows}
+use Rattle.tree.specs.Growth.{growthOrder}
+use Rattle.edges.specs.Rows.{rows}
+use Rattle.plan_growth.specs.Inner.{Laid, Hung}
+use Rattle.plan_growth.proofs.Columns.{laid-named, row-below, rows-below}
+use Rattle.plan_growth.proofs.Chains.{hung-none, hung-more, order-start, order-step, order-end}
 use Rattle.plan_growth.proofs.grow.Statement.{statement}
 use Rattle.plan_growth.proofs.grow.Tie as tie
 
 abbrev Inv-loop : tie.InvT-loop
-Inv-loop one two m parent₀ child₀ seen₀ v k₀ pass₀ parent child seen k pass =
-    (pass ≤ m) × (length parent ≡ length parent₀) × (length child ≡ length child₀) × (length seen ≡ length seen₀) × Laid v (sweeps pass (rows one two m)) parent child seen k
+Inv-loop one two m parent₀ child₀ seen₀ v latest₀ before1₀ before2₀ k₀ i₀ parent child seen latest before1 before2 k i =
+    (i ≤ m) × (length parent ≡ length parent₀) × (length child ≡ length child₀) × (length seen ≡ length seen₀)
+    × (length latest ≡ maxVertices) × (length before1 ≡ maxRows) × (length before2 ≡ maxRows)
+    × Laid v (growthOrder (rows one two i)) parent child seen k × Hung v i one two latest before1 before2
 
 abbrev μ-loop : tie.MeasureT-loop
-μ-loop one two m parent₀ child₀ seen₀ v k₀ pass₀ parent child seen k pass = m - pass
+μ-loop one two m parent₀ child₀ seen₀ v latest₀ before1₀ before2₀ k₀ i₀ parent child seen latest before1 before2 k i = m - i
 
 loop-holds : tie.Need-loop-holds Inv-loop μ-loop
-loop-holds c = (search needs, search needs, search needs, search needs, laid-none _ (c .before .before .before .before .before .pre .0))
+loop-holds c =
+    let s = c .before .before .before .before .before in
+    (search needs, search needs, search needs, search needs, search needs, search needs, search needs, order-start _ _ (s .pre .0), hung-none (s .args .v) maxVertices maxRows _ _ (s .pre .5))
 
-sweep-once-requires : tie.Need-sweep-once-requires Inv-loop μ-loop
-sweep-once-requires c κs =
-    let s = c .before .before .before .before .before .before .before .before .before .before in
-    (laid-named (c .before .before .before .before .loop .inv .4), s .pre .1, s .pre .2, s .pre .3)
+slice-aggregate-take-edge : tie.Need-slice-aggregate-take-edge Inv-loop μ-loop
+slice-aggregate-take-edge c = search needs
+
+slice-aggregate-take-edge-2 : tie.Need-slice-aggregate-take-edge-2 Inv-loop μ-loop
+slice-aggregate-take-edge-2 c = search needs
+
+slice-aggregate-take-edge-3 : tie.Need-slice-aggregate-take-edge-3 Inv-loop μ-loop
+slice-aggregate-take-edge-3 c = search needs
+
+take-edge-requires : tie.Need-take-edge-requires Inv-loop μ-loop
+take-edge-requires c κs =
+    let s = c .before .before .before .before .before .before .before .before .before .before .before .before .before in
+    let o = c .before .before .before .before .before .before .before .loop in
+    (laid-named (o .inv .7), o .inv .8, rows-below (s .args .v) _ _ (s .args .m) (o .i + 1) (omega arith) (s .pre .1), omega arith, omega arith)
+
+slice-aggregate-hang : tie.Need-slice-aggregate-hang Inv-loop μ-loop
+slice-aggregate-hang c = search needs
+
+slice-aggregate-hang-2 : tie.Need-slice-aggregate-hang-2 Inv-loop μ-loop
+slice-aggregate-hang-2 c = search needs
+
+slice-aggregate-hang-3 : tie.Need-slice-aggregate-hang-3 Inv-loop μ-loop
+slice-aggregate-hang-3 c = search needs
+
+mul-hang : tie.Need-mul-hang Inv-loop μ-loop
+mul-hang c = search needs
+
+shared-slice-read-hang : tie.Need-shared-slice-read-hang Inv-loop μ-loop
+shared-slice-read-hang c = search needs
+
+mul-hang-2 : tie.Need-mul-hang-2 Inv-loop μ-loop
+mul-hang-2 c = search needs
+
+shared-slice-read-hang-2 : tie.Need-shared-slice-read-hang-2 Inv-loop μ-loop
+shared-slice-read-hang-2 c = search needs
+
+hang-requires : tie.Need-hang-requires Inv-loop μ-loop
+hang-requires c κs =
+    let s = c .before .before .before .before .before .before .before .before .before .before .before .before .before .before .before .before .before .before .before .before .before .before .before .before .before in
+    let b = row-below (s .args .v) _ _ (s .args .m) (c .before .before .before .before .before .before .before .before .before .before .before .before .before .before .before .before .before .before .before .loop .i) (c .before .before .before .before .before .before .before .before .before .before .before .before .before .before .before .before .before .before .loop-test .taken) (s .pre .1) in
+    (omega (arith, b .0), omega (arith, b .1), omega arith, omega arith, omega arith)
+
+add-i : tie.Need-add-i Inv-loop μ-loop
+add-i c = search needs
+
+loop-less : tie.Need-loop-less Inv-loop μ-loop
+loop-less c = search needs
+
+loop-again : tie.Need-loop-again Inv-loop μ-loop
+loop-again c =
+    let s = c .before .before .before .before .before .before .before .before .before .before .before .before .before .before .before .before .before .before .before .before .before .before .before .before .before .before .before .before .before in
+    let o = c .before .before .before .before .before .before .before .before .before .before .before .before .before .before .before .before .before .before .before .before .before .before .before .loop in
+    let h = c .before .before .before .hang .ensures in
+    let t = c .before .before .before .before .before .before .before .before .before .before .before .before .before .before .before .before .before .before .before .before .before .before .loop-test .taken in
+    let p = s .pre in (
+      omega arith,
+      search needs,
+      search needs,
+      search needs,
+      search needs,
+      search needs,
+      search needs,
+      order-step _ _ (o .i) (omega arith) (o .inv .7) (c .before .before .before .before .before .before .before .before .before .before .before .before .before .before .before .take-edge .ensures),
+      hung-more (o .inv .8) (rows-below (s .args .v) _ _ (s .args .m) (o .i + 1) (omega arith) (p .1)) (omega arith, omega arith, omega arith, omega arith) (h .0) (h .1) (h .2),
+    )
 
 same-length : tie.Need-same-length Inv-loop μ-loop
 same-length c = search needs
@@ -36,49 +103,7 @@ same-length-3 : tie.Need-same-length-3 Inv-loop μ-loop
 same-length-3 c = search needs
 
 returns : tie.Need-returns Inv-loop μ-loop
-returns c =
-    let o = c .before .before .before .before .before .before .before .before .before .before .before .before .loop in
-    laid-stop _ (o .pass) _ (o .inv .0) (c .if1 .taken) (o .inv .4) (c .before .before .before .before .before .before .before .sweep-once .ensures)
-
-add-pass : tie.Need-add-pass Inv-loop μ-loop
-add-pass c = search needs
-
-same-length-4 : tie.Need-same-length-4 Inv-loop μ-loop
-same-length-4 c = search needs
-
-same-length-5 : tie.Need-same-length-5 Inv-loop μ-loop
-same-length-5 c = search needs
-
-same-length-6 : tie.Need-same-length-6 Inv-loop μ-loop
-same-length-6 c = search needs
-
-returns-2 : tie.Need-returns-2 Inv-loop μ-loop
-returns-2 c =
-    let s = c .before .before .before .before .before .before .before .before .before .before .before .before .before .before .before .before .before .before .before in
-    let o = c .before .before .before .before .before .before .before .before .before .before .before .before .before .loop in
-    laid-full _ _ _ (omega arith) (s .pre .1) (omega (arith, c .if2 .taken, s .pre .4)) (laid-again _ (o .pass) (o .inv .4) (c .before .before .before .before .before .before .before .before .sweep-once .ensures))
-
-loop-less : tie.Need-loop-less Inv-loop μ-loop
-loop-less c = search needs
-
-loop-again : tie.Need-loop-again Inv-loop μ-loop
-loop-again c =
-    let o = c .before .before .before .before .before .before .before .before .before .before .before .before .before .loop in
-    (search needs, search needs, search needs, search needs, laid-again _ (o .pass) (o .inv .4) (c .before .before .before .before .before .before .before .before .sweep-once .ensures))
-
-same-length-7 : tie.Need-same-length-7 Inv-loop μ-loop
-same-length-7 c = search needs
-
-same-length-8 : tie.Need-same-length-8 Inv-loop μ-loop
-same-length-8 c = search needs
-
-same-length-9 : tie.Need-same-length-9 Inv-loop μ-loop
-same-length-9 c = search needs
-
-returns-3 : tie.Need-returns-3 Inv-loop μ-loop
-returns-3 c =
-    let o = c .before .loop in
-    laid-last _ (o .pass) _ (omega arith) (o .inv .4)
+returns c = let o = c .before .loop in order-end _ _ (o .i) _ (omega arith) (o .inv .7)
 
 pub grow-spec : {M : Type 1} → statement M
 grow-spec =
@@ -87,19 +112,22 @@ grow-spec =
     Inv-loop
     μ-loop
     loop-holds
-    sweep-once-requires
+    slice-aggregate-take-edge
+    slice-aggregate-take-edge-2
+    slice-aggregate-take-edge-3
+    take-edge-requires
+    slice-aggregate-hang
+    slice-aggregate-hang-2
+    slice-aggregate-hang-3
+    mul-hang
+    shared-slice-read-hang
+    mul-hang-2
+    shared-slice-read-hang-2
+    hang-requires
+    add-i
+    loop-less
+    loop-again
     same-length
     same-length-2
     same-length-3
-    returns
-    add-pass
-    same-length-4
-    same-length-5
-    same-length-6
-    returns-2
-    loop-less
-    loop-again
-    same-length-7
-    same-length-8
-    same-length-9
-    returns-3)
+    returns)
