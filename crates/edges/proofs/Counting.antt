@@ -2,11 +2,11 @@
 use mathlib.Core.Path.{_≡_, sym, _∙_}
 use mathlib.Core.List.{List, []}
 use mathlib.Core.Bool.{_||_}
-use Prim.Native.Nat.{ℕ, _+_, _≤_, _<_}
+use Prim.Native.Nat.{ℕ, _+_, _<_}
 use native.Mathlib.Decide.{ℕ-discrete}
 use native.Mathlib.Omega.{arith}
 use lib.Dec.{eqb}
-use lib.ListN.{length, getD, set, length-set, replicate, getD-replicate}
+use lib.ListN.{length, getD, set, length-set}
 use lib.Seq.{getD-set-same, getD-set-other}
 use borrow.Author.Tests.{eq-eqb, ne-eqb}
 use Rattle.base.specs.Sets.{bit}
@@ -36,9 +36,6 @@ module _ (l : List ℕ) (a b : ℕ) (ka : a < length l) (kb : b < length l) (d :
           rw (ne-eqb x a i, ne-eqb x b j, getD-set-other with-a b x m 0 j, getD-set-other l a x (getD l a 0 + 1) 0 i) (omega arith)
 
 -- no edge at any position
-pub no-degrees : (v m : ℕ) → v ≤ m → Degrees v [] (replicate m 0)
+pub no-degrees : (v : ℕ) (degree : List ℕ) → ((x : ℕ) → x < v → getD degree x 0 ≡ 0) → Degrees v [] degree
 unfolding edgesAt
-no-degrees v m l = record { counted = none; most = λ x k. omega (arith, none x k) }
-  where
-    none : (x : ℕ) → x < v → _≡_ {A = ℕ} (getD (replicate m 0) x 0) 0
-    none x k = getD-replicate m x 0 0 (omega arith)
+no-degrees v degree none = record { counted = none; most = λ x k. omega (arith, none x k) }

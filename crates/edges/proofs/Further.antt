@@ -6,19 +6,17 @@ use Prim.Native.Nat.{ℕ, zero, suc, _+_, _≤_, _<_}
 use native.Mathlib.Numerals.{add-one}
 use native.Mathlib.Omega.{arith}
 use lib.Dec.{eqb}
-use lib.ListN.{length, getD, set, length-set, replicate}
+use lib.ListN.{length, getD, set, length-set}
 use lib.Seq.{getD-set-same, getD-set-other}
 use borrow.Author.Tests.{eqb-true}
 use Rattle.base.specs.Sets.{bit}
-use Rattle.base.specs.Limits.{maxDegree, maxVertices, maxRows}
-use Rattle.tree.specs.Edges.{Edge, Edges, edgesAt}
+use Rattle.base.specs.Limits.{maxDegree, maxVertices}
+use Rattle.tree.specs.Edges.{Edges, edgesAt}
 use Rattle.tree.specs.Inner.{Below}
 use Rattle.union_find.specs.Inner.{Unions}
-use Rattle.edges.specs.declared.EdgeList.{EdgeList}
 use Rattle.edges.specs.Rows.{rows}
-use Rattle.edges.specs.Inner.{faultIn, faultOf, Degrees, edgesIn, Columns, Listing}
+use Rattle.edges.specs.Inner.{faultIn, Degrees, EdgeList, edgesIn, Columns, Listing}
 use Rattle.edges.proofs.OneEdge.{Passed, passed, fault-agrees}
-use Rattle.edges.proofs.Counting.{no-degrees}
 
 -- a store at i leaves the first i rows as they were
 rows-set : (ps cs : List ℕ) (i a b k : ℕ) → k ≤ i → rows (set ps i a) (set cs i b) k ≡ rows ps cs k
@@ -43,7 +41,7 @@ pub no-rows : (ps cs : List ℕ) → rows ps cs 0 ≡ []
 unfolding rows
 no-rows ps cs = refl
 
-pub none-listed : (l : EdgeList) → l .vertices ≤ maxVertices → l .count ≡ 0 → Columns l → Unions (l .vertices) [] (l .up) (l .weight) → l .degree ≡ replicate maxVertices 0 → Listing l
+pub none-listed : (l : EdgeList) → l .vertices ≤ maxVertices → l .count ≡ 0 → Columns l → Unions (l .vertices) [] (l .up) (l .weight) → Degrees (l .vertices) [] (l .degree) → Listing l
 none-listed l k e c u d =
     let i : edgesIn l ≡ [] = ap (rows (l .one) (l .two)) e ∙ no-rows (l .one) (l .two) in
     record {
@@ -51,8 +49,7 @@ none-listed l k e c u d =
       columns = c;
       below = subst (λ (E : Edges). Below (l .vertices) E) (sym i) tt;
       unions = subst (λ (E : Edges). Unions (l .vertices) E (l .up) (l .weight)) (sym i) u;
-      degrees = subst (λ (E : Edges). Degrees (l .vertices) E (l .degree)) (sym i)
-          (subst (λ (g : List ℕ). Degrees (l .vertices) [] g) (sym d) (no-degrees (l .vertices) maxVertices k));
+      degrees = subst (λ (E : Edges). Degrees (l .vertices) E (l .degree)) (sym i) d;
     }
 
 -- an edge that has no fault passes
@@ -95,11 +92,11 @@ module _ (l : EdgeList) (h : Listing l) (a b : ℕ) (k : l .count + 1 < l .verti
       record {
         within = h .within;
         columns = record {
-          one = length-set (l .one) (l .count) a ∙ h .columns .one;
-          two = length-set (l .two) (l .count) b ∙ h .columns .two;
-          up = i ∙ h .columns .up;
-          weight = j ∙ h .columns .weight;
-          degree = m ∙ h .columns .degree;
+          one = omega (arith, length-set (l .one) (l .count) a, h .columns .one);
+          two = omega (arith, length-set (l .two) (l .count) b, h .columns .two);
+          up = omega (arith, i, h .columns .up);
+          weight = omega (arith, j, h .columns .weight);
+          degree = omega (arith, m, h .columns .degree);
         };
         below = subst (λ (E : Edges). Below (l .vertices) E) (sym more-in) (p .apart .one-below, p .apart .two-below, h .below);
         unions = subst (λ (E : Edges). Unions (l .vertices) E up weight) (sym more-in) (u (edgesIn l) (h .unions));

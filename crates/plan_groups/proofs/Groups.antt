@@ -20,10 +20,9 @@ use Rattle.tree.specs.Inner.{Below}
 use Rattle.varint.proofs.VarintRead.{the-type}
 use Rattle.varint.specs.declared.VarintRead.{VarintRead}
 use Rattle.varint.specs.Reading.{varintAt}
-use Rattle.edges.specs.declared.EdgeList.{EdgeList}
 use Rattle.edges.specs.Reading.{onward, varintThen, endsApart, notJoined, roomAtEnds, edgesFrom}
 use Rattle.edges.specs.Rows.{rows}
-use Rattle.edges.specs.Inner.{faultBy, faultIn, edgesIn, Listing}
+use Rattle.edges.specs.Inner.{faultBy, faultIn, EdgeList, edgesIn, Columns, Listing}
 use Rattle.plan.specs.Plan.{Plan}
 use Rattle.plan.specs.Positions.{treePlan, rangePlan}
 use Rattle.plan.specs.Reading.{ended, treeFrom, rangeFrom, planFrom}
@@ -100,21 +99,21 @@ kind-rest true q l s at next = refl
 kind-rest false true l s at next = refl
 kind-rest false false l s at next = refl
 
-kind-sound : (p q : Bool) (l : EdgeList) (at : ℕ) → Sound (pick p Next.Count (pick q Next.Low (Next.Refused 5 at))) l
-kind-sound true q l at = tt
-kind-sound false true l at = tt
-kind-sound false false l at = tt
+kind-sound : (p q : Bool) (l : EdgeList) (at : ℕ) → Columns l → Sound (pick p Next.Count (pick q Next.Low (Next.Refused 5 at))) l
+kind-sound true q l at z = z
+kind-sound false true l at z = tt
+kind-sound false false l at z = tt
 
 kind-less : (p q : Bool) (l : EdgeList) (at : ℕ) → leftOf (pick p Next.Count (pick q Next.Low (Next.Refused 5 at))) l < 511
 kind-less true q l at = omega arith
 kind-less false true l at = omega arith
 kind-less false false l at = omega arith
 
-pub taken-kind : (l : EdgeList) (k next at : ℕ) → Taken Next.Kind l (VarintRead.Value k next) at (kindNext k at) l
+pub taken-kind : (l : EdgeList) (k next at : ℕ) → Columns l → Taken Next.Kind l (VarintRead.Value k next) at (kindNext k at) l
 unfolding planFrom
-taken-kind l k next at =
+taken-kind l k next at z =
     record {
-      sound = kind-sound (eqb k 1) (eqb k 2) l at;
+      sound = kind-sound (eqb k 1) (eqb k 2) l at z;
       less = kind-less (eqb k 1) (eqb k 2) l at;
       same = λ s e. kind-rest (eqb k 1) (eqb k 2) l s at next ∙ sym (value-then s at k next _ e);
     }
@@ -190,7 +189,7 @@ module _ (l : EdgeList) (v next at : ℕ) where
       }
 
   pub taken-count : 1 ≤ v → v ≤ maxVertices → (m : EdgeList) → Listing m → m .vertices ≡ v → m .count ≡ 0 → edgesIn m ≡ []
-      → Taken Next.Count l (VarintRead.Value v next) at (afterEdges m) m
+      → Taken Next.Count l (VarintRead.Value v next) at (afterEdges (m .count) (m .vertices)) m
   taken-count a b m h i j n =
       let k : m .count + 1 ≤ m .vertices = omega (arith, a, i, j) in
       record {
@@ -229,7 +228,7 @@ module _ (l : EdgeList) (z : Sound Next.First l) (a b next at : ℕ) where
       }
 
   pub taken-edge : faultHere ≡ 0 → (m : EdgeList) → Listing m → m .vertices ≡ l .vertices → m .count ≡ l .count + 1 → edgesIn m ≡ record { one = a; two = b } ∷ edgesIn l
-      → Taken (Next.Second a) l (VarintRead.Value b next) at (afterEdges m) m
+      → Taken (Next.Second a) l (VarintRead.Value b next) at (afterEdges (m .count) (m .vertices)) m
   taken-edge e m h i j n =
       let k : m .count + 1 ≤ m .vertices = omega (arith, z .1, i, j) in
       record {

@@ -9,12 +9,11 @@ use Rattle.base.specs.Found.{Found, refused, ask}
 use Rattle.base.specs.Limits.{maxWidth, maxReading}
 use Rattle.signed.specs.Signed.{offsetOfZigzag}
 use Rattle.tree.specs.Edges.{Edges}
-use Rattle.tree.specs.Growth.{sweeps}
+use Rattle.tree.specs.Growth.{growthOrder}
 use Rattle.varint.specs.declared.VarintRead.{VarintRead}
 use Rattle.varint.specs.Reading.{varintAt}
-use Rattle.edges.specs.declared.EdgeList.{EdgeList}
 use Rattle.edges.specs.Reading.{varintThen, endsApart, notJoined, roomAtEnds, edgesFrom}
-use Rattle.edges.specs.Inner.{edgesIn, Listing}
+use Rattle.edges.specs.Inner.{EdgeList, edgesIn, Columns, Listing}
 use Rattle.plan.specs.Plan.{Plan}
 use Rattle.plan.specs.Positions.{treePlan, rangePlan}
 use Rattle.plan.specs.Reading.{ended, treeFrom, rangeFrom, planFrom}
@@ -52,8 +51,8 @@ leftOf (Next.Refused number place) l = 0
 
 -- what the functions rely on
 abbrev pub Sound : Next → EdgeList → Type 0
-Sound Next.Kind l = Unit {0}
-Sound Next.Count l = Unit {0}
+Sound Next.Kind l = Columns l
+Sound Next.Count l = Columns l
 Sound Next.First l = Listing l × (l .count + 1 < l .vertices)
 Sound (Next.Second a) l = Listing l × (l .count + 1 < l .vertices)
 Sound Next.Low l = Unit {0}
@@ -64,7 +63,7 @@ Sound (Next.Refused number place) l = Unit {0}
 
 -- after all edges of a tree
 abbrev pub treeEnd : ℕ → List ℕ → Edges → ℕ → Found Plan
-treeEnd v s E end = ended s end (treePlan v (sweeps (v - 1) E))
+treeEnd v s E end = ended s end (treePlan v (growthOrder E))
 
 -- after the second end b of an edge from a
 abbrev pub secondThen : EdgeList → ℕ → List ℕ → ℕ → ℕ → ℕ → Found Plan
@@ -100,9 +99,9 @@ abbrev pub widthNext : ℕ → ℕ → ℕ → Next
 widthNext z width at =
     pick (leb width maxWidth && leb (offsetOfZigzag z + width) maxReading) (Next.Range (offsetOfZigzag z) width) (Next.Refused 10 at)
 
--- a further edge, or the end of the tree
-abbrev pub afterEdges : EdgeList → Next
-afterEdges l = pick (ltb (l .count + 1) (l .vertices)) Next.First Next.Tree
+-- a further edge, or the end of the tree, after so many edges of so many vertices
+abbrev pub afterEdges : ℕ → ℕ → Next
+afterEdges count vertices = pick (ltb (count + 1) vertices) Next.First Next.Tree
 
 -- a group that was found at `at` leads on: the same plan is found in the end, fewer groups are left, and what is relied on holds
 pub record Taken (n : Next) (l : EdgeList) (found : VarintRead) (at : ℕ) (n′ : Next) (l′ : EdgeList) : Type 0 where

@@ -1,9 +1,12 @@
-// A plan group by group: which group comes next, and what a group that was read makes of the plan so far. Only `finish` is lent the bytes, for their length.
+// A plan group by group: which group comes next, and what a group that was read makes of the plan so far. The edges' columns are lent (crate edges);
+// only `finish` is lent the bytes, for their length.
 ghost use mathlib.Core.Path.{_≡_};
 ghost use mathlib.Core.Bool.{not};
+ghost use mathlib.Core.List.{List};
 ghost use Prim.Native.Nat.{ℕ};
 ghost use lib.Dec.{T};
 ghost use Rattle.varint.specs.declared.VarintRead.{VarintRead};
+ghost use Rattle.edges.specs.Inner.{listIn};
 ghost use Rattle.plan.specs.Reading.{answered};
 ghost use Rattle.plan_groups.specs.declared.Next.{Next};
 ghost use Rattle.plan_groups.specs.Inner.{pastOf, wanting, Sound, restOf, kindNext, widthNext, afterEdges, Taken};
@@ -30,7 +33,7 @@ pub enum Next {
 
 pub struct PlanSoFar {
     pub next: Next,
-    pub edges: edges::EdgeList,
+    pub edges: edges::EdgeCount,
 }
 
 // The place past a group that was read at `at`.
@@ -49,8 +52,11 @@ pub fn begin() -> PlanSoFar
     ensures { λ r. ⌜ r .next ≡ Next.Kind ⌝ }
 {
     let k = Next::Kind;
-    let l = edges::no_edges(0);
-    PlanSoFar { next: k, edges: l }
+    let n = edges::EdgeCount {
+        vertices: 0,
+        edges: 0,
+    };
+    PlanSoFar { next: k, edges: n }
 }
 
 fn wants_next(n: Next) -> bool
@@ -118,79 +124,93 @@ fn after_width(low: u32, width: u32, at: usize) -> Next
 }
 
 // A further edge, or the end of the tree.
-fn after_edges(l: edges::EdgeList) -> Next
-    ensures { λ r. ⌜ r ≡ afterEdges l ⌝ }
+fn after_edges(n: edges::EdgeCount) -> Next
+    ensures { λ r. ⌜ r ≡ afterEdges (n .edges) (n .vertices) ⌝ }
 {
-    if l.vertices <= 1 {
+    if n.vertices <= 1 {
         return Next::Tree;
     }
-    if l.count < l.vertices - 1 {
+    if n.edges < n.vertices - 1 {
         return Next::First;
     }
     Next::Tree
 }
 
 // Question 6: the vertex count v, read at `at`.
-fn take_count(l: edges::EdgeList, v: u32, at: usize) -> PlanSoFar
-    ensures { λ r. ⌜ ((next : ℕ) → Taken Next.Count l (VarintRead.Value v next) at (r .next) (r .edges)) ⌝ }
+fn take_count(n: edges::EdgeCount, v: u32, at: usize, up: &mut [u16], room: &mut [u16]) -> PlanSoFar
+    requires { ⌜ Sound Next.Count (listIn n (now up) (now room)) ⌝ }
+    ensures { λ r. ⌜ ((next : ℕ) → Taken Next.Count (listIn n (now (up .entry)) (now (room .entry))) (VarintRead.Value v next) at (r .next) (listIn (r .edges) (now (up .exit)) (now (room .exit)))) ⌝ }
 {
     if v < 1 {
-        let n = refused(6, at);
-        return PlanSoFar { next: n, edges: l };
+        let next = refused(6, at);
+        return PlanSoFar { next, edges: n };
     }
     if base::MAX_VERTICES < v as usize {
-        let n = refused(6, at);
-        return PlanSoFar { next: n, edges: l };
+        let next = refused(6, at);
+        return PlanSoFar { next, edges: n };
     }
-    let m = edges::no_edges(v as usize);
-    let n = after_edges(m);
-    PlanSoFar { next: n, edges: m }
+    let m = edges::no_edges(v as usize, up, room);
+    let next = after_edges(m);
+    PlanSoFar { next, edges: m }
 }
 
 // Questions 7 to 9: the second end b of an edge from a, read at `at`.
-fn take_second(l: edges::EdgeList, a: u32, b: u32, at: usize) -> PlanSoFar
-    requires { ⌜ Sound (Next.Second a) l ⌝ }
-    ensures { λ r. ⌜ ((next : ℕ) → Taken (Next.Second a) l (VarintRead.Value b next) at (r .next) (r .edges)) ⌝ }
+fn take_second(
+    n: edges::EdgeCount,
+    a: u32,
+    b: u32,
+    at: usize,
+    up: &mut [u16],
+    room: &mut [u16],
+) -> PlanSoFar
+    requires { ⌜ Sound (Next.Second a) (listIn n (now up) (now room)) ⌝ }
+    ensures { λ r. ⌜ ((next : ℕ) → Taken (Next.Second a) (listIn n (now (up .entry)) (now (room .entry))) (VarintRead.Value b next) at (r .next) (listIn (r .edges) (now (up .exit)) (now (room .exit)))) ⌝ }
 {
-    let fault = edges::fault(l, a as usize, b as usize);
+    let fault = edges::fault(n, up, room, a as usize, b as usize);
     if fault != 0 {
-        let n = refused(fault, at);
-        return PlanSoFar { next: n, edges: l };
+        let next = refused(fault, at);
+        return PlanSoFar { next, edges: n };
     }
-    let m = edges::add_edge(l, a as usize, b as usize);
-    let n = after_edges(m);
-    PlanSoFar { next: n, edges: m }
+    let m = edges::add_edge(n, up, room, a as usize, b as usize);
+    let next = after_edges(m);
+    PlanSoFar { next, edges: m }
 }
 
 // A group that was found at `at`.
-pub fn take(p: PlanSoFar, found: varint::VarintRead, at: usize) -> PlanSoFar
-    requires { ⌜ Sound (p .next) (p .edges) ⌝ }
-    ensures { λ r. ⌜ (T (wanting (p .next)) → Taken (p .next) (p .edges) found at (r .next) (r .edges)) ⌝ }
+pub fn take(
+    p: PlanSoFar,
+    found: varint::VarintRead,
+    at: usize,
+    up: &mut [u16],
+    room: &mut [u16],
+) -> PlanSoFar
+    requires { ⌜ Sound (p .next) (listIn (p .edges) (now up) (now room)) ⌝ }
+    ensures { λ r. ⌜ (T (wanting (p .next)) → Taken (p .next) (listIn (p .edges) (now (up .entry)) (now (room .entry))) found at (r .next) (listIn (r .edges) (now (up .exit)) (now (room .exit)))) ⌝ }
 {
-    let l = p.edges;
+    let n = p.edges;
     let next = p.next;
     let varint::VarintRead::Value { value: x, next: _ } = found else {
-        let n = refused(4, at);
-        return PlanSoFar { next: n, edges: l };
+        let k = refused(4, at);
+        return PlanSoFar { next: k, edges: n };
     };
     match next {
         Next::Kind => {
-            let n = after_kind(x, at);
-            PlanSoFar { next: n, edges: l }
+            let k = after_kind(x, at);
+            PlanSoFar { next: k, edges: n }
         }
-        Next::Count => take_count(l, x, at),
+        Next::Count => take_count(n, x, at, up, room),
         Next::First => {
-            let n = Next::Second { first: x };
-            PlanSoFar { next: n, edges: l }
+            let k = Next::Second { first: x };
+            PlanSoFar { next: k, edges: n }
         }
-        Next::Second { first } => take_second(l, first, x, at),
+        Next::Second { first } => take_second(n, first, x, at, up, room),
         Next::Low => {
-            let n = Next::Width { low: x };
-            PlanSoFar { next: n, edges: l }
+            let k = Next::Width { low: x };
+            PlanSoFar { next: k, edges: n }
         }
         Next::Width { low } => {
-            let n = after_width(low, x, at);
-            PlanSoFar { next: n, edges: l }
+            let k = after_width(low, x, at);
+            PlanSoFar { next: k, edges: n }
         }
         Next::Tree => p,
         Next::Range { low: _, width: _ } => p,
@@ -202,20 +222,20 @@ pub fn take(p: PlanSoFar, found: varint::VarintRead, at: usize) -> PlanSoFar
 }
 
 // Question 11: the plan that no further group belongs to, after its last group at `at`.
-pub fn finish(p: PlanSoFar, s: &[u8], at: usize) -> plan::PlanRead
-    requires { ⌜ Sound (p .next) (p .edges) ⌝ }
-    ensures { λ r. ⌜ (T (not (wanting (p .next))) → asPlanRead r ≡ answered (restOf (p .next) (p .edges) (now (s .entry)) at)) ⌝ }
+pub fn finish(p: PlanSoFar, s: &[u8], at: usize, room: &[u16]) -> plan::PlanRead
+    requires { ⌜ ((up : List ℕ) × Sound (p .next) (listIn (p .edges) up (now room))) ⌝ }
+    ensures { λ r. ⌜ ((up : List ℕ) → T (not (wanting (p .next))) → asPlanRead r ≡ answered (restOf (p .next) (listIn (p .edges) up (now (room .entry))) (now (s .entry)) at)) ⌝ }
 {
-    let l = p.edges;
+    let n = p.edges;
     let next = p.next;
     match next {
         Next::Tree => {
             if at != s.len() {
                 return plan::refuse(11, at);
             }
-            let one = l.one;
-            let two = l.two;
-            plan::accept(plan::tree_plan(&one, &two, l.vertices as u32))
+            let one = &room[..edges::SECOND_ENDS];
+            let two = &room[edges::SECOND_ENDS..edges::WEIGHTS];
+            plan::accept(plan::tree_plan(one, two, n.vertices as u32))
         }
         Next::Range { low, width } => {
             if s.len() != at {

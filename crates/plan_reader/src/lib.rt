@@ -1,7 +1,8 @@
 // The plan's reader: the lent plan bytes and the offset reached, together. It moves through the plan group by group; what each group says is asked of plain numbers.
 ghost use mathlib.Core.Path.{_≡_};
 ghost use Rattle.varint.specs.Reading.{varintAt};
-ghost use Rattle.plan.specs.Reading.{planFrom, planOf, settledPlan, answered};
+ghost use Rattle.edges.specs.Inner.{Lent};
+ghost use Rattle.plan.specs.Reading.{planOf, settledPlan, answered};
 ghost use Rattle.plan_groups.specs.Inner.{pastOf};
 ghost use Rattle.plan.specs.Tie.{asPlanRead};
 
@@ -32,25 +33,28 @@ pub fn past<'a>(r: PlanReader<'a>, found: varint::VarintRead) -> PlanReader<'a>
     PlanReader { bytes: r.bytes, at }
 }
 
-// The plan that stands at the offset and ends with the bytes: the reader moves from group to group.
-pub fn read_plan<'a>(r: PlanReader<'a>) -> plan::PlanRead
-    ensures { λ p. ⌜ asPlanRead p ≡ answered (planFrom (now (r .entry .bytes)) (r .entry .at)) ⌝ }
+// The plan that the bytes are: a reader moves through them from group to group. The columns of the edges read are lent beside them (crate edges).
+pub fn read_plan(bytes: &[u8], up: &mut [u16], room: &mut [u16]) -> plan::PlanRead
+    requires { ⌜ Lent (now up) (now room) ⌝ }
+    ensures { λ p. ⌜ asPlanRead p ≡ answered (planOf (now (bytes .entry))) ⌝ }
 {
-    let mut here = r;
+    let mut here = open(bytes);
     let mut so_far = plan_groups::begin();
     while plan_groups::wants(so_far) {
         let found = next_varint(here);
-        so_far = plan_groups::take(so_far, found, here.at);
+        so_far = plan_groups::take(so_far, found, here.at, up, room);
         here = past(here, found);
     }
-    plan_groups::finish(so_far, here.bytes, here.at)
+    plan_groups::finish(so_far, here.bytes, here.at, room)
 }
 
-// The plan that the bytes are.
+// The same, with columns of its own.
 pub fn read(bytes: &[u8]) -> plan::PlanRead
     ensures { λ p. ⌜ asPlanRead p ≡ answered (planOf (now (bytes .entry))) ⌝ }
 {
-    read_plan(open(bytes))
+    let mut up = [0u16; base::MAX_VERTICES];
+    let mut room = [0u16; edges::ROOM];
+    read_plan(bytes, &mut up, &mut room)
 }
 
 // The questions of a set-up: 1 to 3 about the settings, then the plan.

@@ -27,6 +27,9 @@ same-requires c κs = search needs
 returns-4 : tie.Need-returns-4
 returns-4 c = fault-8 _ _ _ _ _ (ends-apart (c .before .before)) (sym (c .before .same .ensures) ∙ c .if4 .taken)
 
+mul-if5 : tie.Need-mul-if5
+mul-if5 c = search needs
+
 shared-slice-read-if5 : tie.Need-shared-slice-read-if5
 shared-slice-read-if5 c = search needs
 
@@ -34,6 +37,9 @@ returns-5 : tie.Need-returns-5
 returns-5 c =
     let k = c .before .before in
     fault-9 _ _ _ _ _ (ends-apart (k .before .before)) (sym (k .before .same .ensures) ∙ k .if4 .left) (inl (omega (arith, c .if5 .taken)))
+
+mul-if6 : tie.Need-mul-if6
+mul-if6 c = search needs
 
 shared-slice-read-if6 : tie.Need-shared-slice-read-if6
 shared-slice-read-if6 c = search needs
@@ -57,8 +63,10 @@ edge-fault-spec =
     returns-3
     same-requires
     returns-4
+    mul-if5
     shared-slice-read-if5
     returns-5
+    mul-if6
     shared-slice-read-if6
     returns-6
     returns-7)

@@ -4,30 +4,36 @@ use native.Mathlib.Omega.{arith}
 use borrow.Author.Needs.{needs}
 use Rattle.union_find.proofs.Roots.{rooted}
 use Rattle.edges.proofs.OneEdge.{fault-agrees}
+use Rattle.edges.proofs.Lent.{lent-of}
 use Rattle.edges.proofs.fault.Statement.{statement}
 use Rattle.edges.proofs.fault.Tie as tie
 
-slice-aggregate-edge-fault : tie.Need-slice-aggregate-edge-fault
-slice-aggregate-edge-fault c = search needs
+sub-degree : tie.Need-sub-degree
+sub-degree c = search needs
 
-slice-aggregate-edge-fault-2 : tie.Need-slice-aggregate-edge-fault-2
-slice-aggregate-edge-fault-2 c = search needs
+part-degree-start : tie.Need-part-degree-start
+part-degree-start c = search needs
+
+part-degree-end : tie.Need-part-degree-end
+part-degree-end c = let s = c .before .before in omega (arith, lent-of (s .args .n) (s .args .up .now) (s .args .room .now) (s .pre) .columns)
 
 edge-fault-requires : tie.Need-edge-fault-requires
 edge-fault-requires c κs =
-    let h = c .before .before .before .before .pre in
+    let h = c .before .before .before .pre in
     (omega (arith, h .within, h .columns .up), omega (arith, h .within, h .columns .degree), rooted _ _ _ (h .unions .forest))
 
 returns : tie.Need-returns
 returns c =
-    let h = c .before .before .before .before .before .pre in
-    c .edge-fault .ensures ∙ fault-agrees _ _ _ _ _ (h .unions) (h .degrees) _ _
+    let s = c .before .before .before .before in
+    let h = s .pre in
+    c .edge-fault .ensures ∙ fault-agrees (s .args .n .vertices) _ (s .args .up .now) _ _ (h .unions) (h .degrees) (s .args .a) (s .args .b)
 
 pub fault-spec : {M : Type 1} → statement M
 fault-spec =
     tie.close
     (tie.spec
-    slice-aggregate-edge-fault
-    slice-aggregate-edge-fault-2
+    sub-degree
+    part-degree-start
+    part-degree-end
     edge-fault-requires
     returns)

@@ -5,7 +5,7 @@ use Rattle.plan_groups.proofs.after_edges.Statement.{statement}
 use Rattle.plan_groups.proofs.after_edges.Tie as tie
 
 returns : tie.Need-returns
-returns c = let l = c .before .before .args .l in small-tree (l .count) (l .vertices) (c .if1 .taken)
+returns c = let n = c .before .before .args .n in small-tree (n .edges) (n .vertices) (c .if1 .taken)
 
 sub-if2 : tie.Need-sub-if2
 sub-if2 c = search needs

@@ -4,8 +4,12 @@ use mathlib.Core.Bool.{not}
 use Prim.Native.Nat.{_-_}
 use native.Mathlib.Omega.{arith}
 use lib.Dec.{T}
+use lib.Seq.{length-take-le}
+use Rattle.base.specs.Limits.{maxRows}
 use Rattle.tree.specs.Edges.{Edges}
-use Rattle.tree.specs.Growth.{sweeps}
+use Rattle.tree.specs.Growth.{growthOrder}
+use Rattle.edges.specs.Inner.{listIn}
+use Rattle.edges.proofs.Lent.{lent-of}
 use Rattle.plan.specs.Positions.{treePlan}
 use Rattle.plan.proofs.Answers.{answer, answer-found}
 use Rattle.plan_groups.specs.declared.Next.{Next}
@@ -23,27 +27,38 @@ refuse-requires c κs = search needs
 
 returns : tie.Need-returns
 returns c =
-    let a = c .before .before .before .before .before .before .args in
-    λ t. answer (c .refuse .ensures) (end-known (a .p .edges) (a .s .now) (a .at) (c .before .before .enum-told .given .1) (spare (a .s .now) (a .at) _ (c .before .if1 .taken)))
+    let s = c .before .before .before .before .before .before .before in
+    λ up t. answer (c .refuse .ensures) (end-known (listIn (s .args .p .edges) up (s .args .room .now)) (s .args .s .now) (s .args .at) (c .before .before .enum-told .given .1) (spare (s .args .s .now) (s .args .at) _ (c .before .if1 .taken)))
 
-slice-aggregate-tree-plan : tie.Need-slice-aggregate-tree-plan
-slice-aggregate-tree-plan c = search needs
+slice-aggregate-one : tie.Need-slice-aggregate-one
+slice-aggregate-one c =
+    let s = c .before .before .before .before .before .before .before in
+    let z = known (listIn (s .args .p .edges) (s .pre .0) (s .args .room .now)) (c .before .before .enum-told .given .1) (s .pre .1) in
+    sym (length-take-le maxRows (s .args .room .now) (omega (arith, lent-of (s .args .p .edges) (s .pre .0) (s .args .room .now) (z .0) .columns)))
 
-slice-aggregate-tree-plan-2 : tie.Need-slice-aggregate-tree-plan-2
-slice-aggregate-tree-plan-2 c = search needs
+sub-two : tie.Need-sub-two
+sub-two c = search needs
+
+part-two-start : tie.Need-part-two-start
+part-two-start c = search needs
+
+part-two-end : tie.Need-part-two-end
+part-two-end c =
+    let s = c .before .before .before .before .before .before .before in
+    let z = known (listIn (s .args .p .edges) (s .pre .0) (s .args .room .now)) (c .before .before .enum-told .given .1) (s .pre .1) in
+    omega (arith, lent-of (s .args .p .edges) (s .pre .0) (s .args .room .now) (z .0) .columns)
 
 cast-tree-plan : tie.Need-cast-tree-plan
 cast-tree-plan c =
-    let s = c .before .before .before .before .before .before .before .before .before .before in
-    let z = known (s .args .p .edges) (c .before .before .before .before .before .before .enum-told .given .1) (s .pre) in
+    let s = c .before .before .before .before .before .before .before .before .before in
+    let z = known (listIn (s .args .p .edges) (s .pre .0) (s .args .room .now)) (c .before .before .before .before .enum-told .given .1) (s .pre .1) in
     omega (arith, z .0 .within)
 
 tree-plan-requires : tie.Need-tree-plan-requires
 tree-plan-requires c κs =
-    let s = c .before .before .before .before .before .before .before .before .before .before in
-    let l = s .args .p .edges in
-    let z = known l (c .before .before .before .before .before .before .enum-told .given .1) (s .pre) in
-    (omega (arith, z .1), z .0 .within, tree-below l z, omega (arith, z .0 .within, z .0 .columns .one), omega (arith, z .0 .within, z .0 .columns .two))
+    let s = c .before .before .before .before .before .before .before .before .before in
+    let z = known (listIn (s .args .p .edges) (s .pre .0) (s .args .room .now)) (c .before .before .before .before .enum-told .given .1) (s .pre .1) in
+    (omega (arith, z .1), z .0 .within, tree-below (listIn (s .args .p .edges) (s .pre .0) (s .args .room .now)) z, omega (arith, z .0 .within, z .0 .columns .one), omega (arith, z .0 .within, z .0 .columns .two))
 
 accept-requires : tie.Need-accept-requires
 accept-requires c κs = search needs
@@ -56,12 +71,11 @@ refuse-requires-2 c κs = search needs
 
 returns-2 : tie.Need-returns-2
 returns-2 c =
-    let a = c .before .before .before .before .before .before .before .args in
-    λ t. answer (c .refuse2 .ensures) (end-known (a .p .edges) (a .s .now) (a .at) (c .before .before .before .next .given .1) (spare (a .s .now) (a .at) _ (λ e. c .before .if2 .taken (sym e))))
+    let s = c .before .before .before .before .before .before .before .before in
+    λ up t. answer (c .refuse2 .ensures) (end-known (listIn (s .args .p .edges) up (s .args .room .now)) (s .args .s .now) (s .args .at) (c .before .before .before .next .given .1) (spare (s .args .s .now) (s .args .at) _ (λ e. c .before .if2 .taken (sym e))))
 
 range-plan-requires : tie.Need-range-plan-requires
-range-plan-requires c κs =
-    let s = c .before .before .before .before .before .before in known (s .args .p .edges) (c .before .before .next .given .1) (s .pre)
+range-plan-requires c κs = let s = c .before .before .before .before .before .before .before in known (listIn (s .args .p .edges) (s .pre .0) (s .args .room .now)) (c .before .before .next .given .1) (s .pre .1)
 
 accept-requires-2 : tie.Need-accept-requires-2
 accept-requires-2 c κs = search needs
@@ -110,40 +124,40 @@ refuse-requires-9 c κs = search needs
 
 returns-3 : tie.Need-returns-3
 returns-3 c =
-    let s = c .before .before .before .before .before .before .before .before .before .before .before .before in
-    let a = s .args in
-    let l = a .p .edges in
-    let e = c .before .before .before .before .before .before .before .before .enum-told .given .1 in
-    λ t. answer-found (c .accept .ensures) (c .before .tree-plan .ensures ∙ ap (λ (E : Edges). treePlan (l .vertices) (sweeps (l .vertices - 1) E)) (tree-edges l (known l e (s .pre))))
-    (end-known l (a .s .now) (a .at) e (whole (a .s .now) (a .at) _ (c .before .before .before .before .before .before .before .if1 .left)))
+    let s = c .before .before .before .before .before .before .before .before .before .before .before in
+    let n = s .args .p .edges in
+    let e = c .before .before .before .before .before .before .enum-told .given .1 in
+    λ up t. answer-found (c .accept .ensures)
+    (c .before .tree-plan .ensures ∙ ap (λ (E : Edges). treePlan (n .vertices) (growthOrder E)) (tree-edges (listIn (s .args .p .edges) (s .pre .0) (s .args .room .now)) (known (listIn (s .args .p .edges) (s .pre .0) (s .args .room .now)) e (s .pre .1))))
+    (end-known (listIn (s .args .p .edges) up (s .args .room .now)) (s .args .s .now) (s .args .at) e (whole (s .args .s .now) (s .args .at) _ (c .before .before .before .before .before .if1 .left)))
 
 returns-4 : tie.Need-returns-4
 returns-4 c =
-    let a = c .before .before .before .before .before .before .before .before .args in
-    λ t. answer-found (c .accept2 .ensures) (c .before .range-plan .ensures) (end-known (a .p .edges) (a .s .now) (a .at) (c .before .before .before .before .next .given .1) (whole (a .s .now) (a .at) _ (sym (c .before .before .if2 .left))))
+    let s = c .before .before .before .before .before .before .before .before .before in
+    λ up t. answer-found (c .accept2 .ensures) (c .before .range-plan .ensures) (end-known (listIn (s .args .p .edges) up (s .args .room .now)) (s .args .s .now) (s .args .at) (c .before .before .before .before .next .given .1) (whole (s .args .s .now) (s .args .at) _ (sym (c .before .before .if2 .left))))
 
 returns-5 : tie.Need-returns-5
 returns-5 c =
-    let a = c .before .before .before .before .before .before .args in
-    λ t. answer (c .refuse3 .ensures) (end-known (a .p .edges) (a .s .now) (a .at) (c .before .before .next2 .given .1) refl)
+    let s = c .before .before .before .before .before .before .before in
+    λ up t. answer (c .refuse3 .ensures) (end-known (listIn (s .args .p .edges) up (s .args .room .now)) (s .args .s .now) (s .args .at) (c .before .before .next2 .given .1) refl)
 
 returns-6 : tie.Need-returns-6
-returns-6 c = λ t. absurd (subst (λ (n : Next). T (not (wanting n))) (c .before .enum-told2 .given .1) t)
+returns-6 c = λ up t. absurd (subst (λ (n : Next). T (not (wanting n))) (c .before .enum-told2 .given .1) t)
 
 returns-7 : tie.Need-returns-7
-returns-7 c = λ t. absurd (subst (λ (n : Next). T (not (wanting n))) (c .before .enum-told3 .given .1) t)
+returns-7 c = λ up t. absurd (subst (λ (n : Next). T (not (wanting n))) (c .before .enum-told3 .given .1) t)
 
 returns-8 : tie.Need-returns-8
-returns-8 c = λ t. absurd (subst (λ (n : Next). T (not (wanting n))) (c .before .enum-told4 .given .1) t)
+returns-8 c = λ up t. absurd (subst (λ (n : Next). T (not (wanting n))) (c .before .enum-told4 .given .1) t)
 
 returns-9 : tie.Need-returns-9
-returns-9 c = λ t. absurd (subst (λ (n : Next). T (not (wanting n))) (c .before .enum-told5 .given .1) t)
+returns-9 c = λ up t. absurd (subst (λ (n : Next). T (not (wanting n))) (c .before .enum-told5 .given .1) t)
 
 returns-10 : tie.Need-returns-10
-returns-10 c = λ t. absurd (subst (λ (n : Next). T (not (wanting n))) (c .before .enum-told6 .given .1) t)
+returns-10 c = λ up t. absurd (subst (λ (n : Next). T (not (wanting n))) (c .before .enum-told6 .given .1) t)
 
 returns-11 : tie.Need-returns-11
-returns-11 c = λ t. absurd (subst (λ (n : Next). T (not (wanting n))) (c .before .enum-told7 .given .1) t)
+returns-11 c = λ up t. absurd (subst (λ (n : Next). T (not (wanting n))) (c .before .enum-told7 .given .1) t)
 
 pub finish-spec : {M : Type 1} → statement M
 finish-spec =
@@ -152,8 +166,10 @@ finish-spec =
     enum-told
     refuse-requires
     returns
-    slice-aggregate-tree-plan
-    slice-aggregate-tree-plan-2
+    slice-aggregate-one
+    sub-two
+    part-two-start
+    part-two-end
     cast-tree-plan
     tree-plan-requires
     accept-requires
