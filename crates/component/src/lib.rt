@@ -1,23 +1,26 @@
-// Components of a plan: size, centre, neighbours, sides. A range takes a constant time for each, a tree one or two passes over its rows.
+// Components of a plan: size, centre, ports, neighbours, sides. A range takes a constant time for each, a tree at most two passes over its rows.
+// A plan is lent as its shape and its rows, ps and cs. A component of a range is its span. A component of a tree lives in an array of bytes:
+// 1 for each member as it is entered, and after the survey the member's port and one more; 0 elsewhere.
 ghost use mathlib.Core.Path.{_≡_};
 ghost use Prim.Native.Nat.{_≤_};
 ghost use lib.Dec.{T};
 ghost use Rattle.tree.specs.Component.{upto};
 ghost use Rattle.tree.specs.Inner.{middle};
 ghost use Rattle.plan.specs.Valid.{planValid};
-ghost use Rattle.marks.specs.Marks.{marked};
-ghost use Rattle.component_tree.specs.Inner.{tree, OfTree};
-ghost use Rattle.component.specs.Component.{sizeOf, centreOf, degreeOf, neighbourOf, sideOf};
-ghost use Rattle.component.specs.Inner.{members, OfPlan, surveyOf, surveyIn, portAt};
-ghost use Rattle.plan.specs.Tie.{asPlan};
+ghost use Rattle.plan.specs.Tie.{shaped};
+ghost use Rattle.component.specs.Component.{sizeOf, portOf, neighbourOf, sideOf};
+ghost use Rattle.component.specs.Inner.{portAt, Lent, OfPlan, members, Flat, Holds, Surveyed, HasSide, Finds};
 
-// Some positions of a plan.
-pub struct Component {
-    // the first and the last position, for a range
+// The first and the last position of a component of a range; nothing for a tree.
+pub struct Span {
     pub low: base::Position,
     pub high: base::Position,
-    // 1 for each position in it, for a tree
-    pub inside: [u8; base::MAX_VERTICES],
+}
+
+// The centre of a component of three or more positions, and how many neighbours it has there.
+pub struct Centre {
+    pub centre: base::Position,
+    pub degree: u32,
 }
 
 // What the rules ask of a component of three or more positions, and of the board's position in it.
@@ -28,51 +31,53 @@ pub struct Survey {
 }
 
 // All positions of a plan.
-pub fn whole(p: plan::Plan) -> Component
-    requires { ⌜ T (planValid (asPlan p)) ⌝ }
-    ensures { λ r. ⌜ members (asPlan p) r ≡ upto (p .count) ⌝ }
+pub fn whole(s: plan::Shape, ps: &[u16], cs: &[u16], ports: &mut [u8; base::MAX_VERTICES]) -> Span
+    requires { ⌜ T (planValid (shaped s (now ps) (now cs))) ⌝ }
+    ensures { λ r. ⌜ Holds (shaped s (now (ps .entry)) (now (cs .entry))) r (now (ports .exit)) (upto (s .count)) ⌝ }
 {
-    let mut inside = [0u8; base::MAX_VERTICES];
-    if p.kind == 1 {
-        marks::fill(&mut inside, p.count as usize);
-        return Component {
-            low: 0,
-            high: 0,
-            inside: inside,
-        };
+    if s.kind == 1 {
+        *ports = [0u8; base::MAX_VERTICES];
+        marks::fill(ports, s.count as usize);
+        return Span { low: 0, high: 0 };
     }
-    Component {
+    Span {
         low: 0,
-        high: p.count - 1,
-        inside: inside,
+        high: s.count - 1,
     }
 }
 
 // Is x a position of the component?
-pub fn contains(p: plan::Plan, c: Component, x: base::Position) -> bool
-    ensures { λ r. ⌜ r ≡ members (asPlan p) c x ⌝ }
+pub fn contains(
+    s: plan::Shape,
+    ps: &[u16],
+    cs: &[u16],
+    span: Span,
+    ports: &[u8; base::MAX_VERTICES],
+    x: base::Position,
+) -> bool
+    ensures { λ r. ⌜ r ≡ members (shaped s (now (ps .entry)) (now (cs .entry))) span (now (ports .entry)) x ⌝ }
 {
-    if p.kind == 1 {
-        let at = x as usize;
-        if at < base::MAX_VERTICES {
-            let inside = c.inside;
-            return inside[at] == 1;
-        }
-        return false;
+    if s.kind == 1 {
+        return marks::has_number(ports, x as usize);
     }
-    c.low <= x && x <= c.high
+    span.low <= x && x <= span.high
 }
 
 // How many positions it has.
-pub fn size(p: plan::Plan, c: Component) -> u32
-    requires { ⌜ OfPlan (asPlan p) (members (asPlan p) c) ⌝ }
-    ensures { λ r. ⌜ r ≡ sizeOf (asPlan p) (members (asPlan p) c) ⌝ }
+pub fn size(
+    s: plan::Shape,
+    ps: &[u16],
+    cs: &[u16],
+    span: Span,
+    ports: &[u8; base::MAX_VERTICES],
+) -> u32
+    requires { ⌜ OfPlan (shaped s (now ps) (now cs)) (members (shaped s (now ps) (now cs)) span (now ports)) × Flat (shaped s (now ps) (now cs)) (now ports) ⌝ }
+    ensures { λ r. ⌜ r ≡ sizeOf (shaped s (now (ps .entry)) (now (cs .entry))) (members (shaped s (now (ps .entry)) (now (cs .entry))) span (now (ports .entry))) ⌝ }
 {
-    if p.kind == 1 {
-        let inside = c.inside;
-        return marks::count(&inside, p.count as usize) as u32;
+    if s.kind == 1 {
+        return marks::count(ports, s.count as usize) as u32;
     }
-    c.high - c.low + 1
+    span.high - span.low + 1
 }
 
 // The centre of a component of a range.
@@ -96,63 +101,70 @@ fn range_port(m: base::Position, x: base::Position) -> u8
     0
 }
 
-// The survey of a component of a tree.
-fn tree_survey(
+// The centre; and each position of a tree gets its number.
+pub fn survey_ports(
+    s: plan::Shape,
     ps: &[u16],
     cs: &[u16],
-    inside: [u8; base::MAX_VERTICES],
-    n: usize,
-    x: usize,
-) -> Survey
-    requires { ⌜ OfTree (now ps) (now cs) n (marked inside) × T (marked inside x) ⌝ }
-    ensures { λ r. ⌜ r ≡ surveyIn (tree (now (ps .entry)) (now (cs .entry)) n) n (marked inside) x ⌝ }
+    span: Span,
+    ports: &mut [u8; base::MAX_VERTICES],
+) -> Centre
+    requires { ⌜ Lent (shaped s (now ps) (now cs)) × OfPlan (shaped s (now ps) (now cs)) (members (shaped s (now ps) (now cs)) span (now ports)) × (3 ≤ sizeOf (shaped s (now ps) (now cs)) (members (shaped s (now ps) (now cs)) span (now ports))) × Flat (shaped s (now ps) (now cs)) (now ports) ⌝ }
+    ensures { λ r. ⌜ Finds (shaped s (now (ps .entry)) (now (cs .entry))) span (members (shaped s (now (ps .entry)) (now (cs .entry))) span (now (ports .entry))) (now (ports .exit)) r ⌝ }
 {
-    let c = tree_pass_centre::centre(ps, cs, inside, n, n - 1);
-    let mut near = [0u8; base::MAX_VERTICES];
-    tree_pass::neighbours(ps, cs, &inside, &mut near, c, n, n - 1);
-    let d = marks::count(&near, n);
-    let k = component_tree::tree_port(ps, cs, inside, &near, n, c, x);
-    Survey {
-        centre: c as base::Position,
-        degree: d as u32,
-        port: k as u8,
+    if s.kind == 1 {
+        let n = s.count as usize;
+        let c = tree_pass_centre::centre(ps, cs, ports, n, n - 1);
+        let d = component_tree::number(ps, cs, ports, n, c);
+        return Centre {
+            centre: c as base::Position,
+            degree: d as u32,
+        };
+    }
+    let m = midpoint(span.low, span.high);
+    Centre {
+        centre: m,
+        degree: 2,
     }
 }
 
-// The survey with the board at x.
-pub fn survey_at(p: plan::Plan, c: Component, x: base::Position) -> Survey
-    requires { ⌜ OfPlan (asPlan p) (members (asPlan p) c) × (3 ≤ sizeOf (asPlan p) (members (asPlan p) c)) × T (members (asPlan p) c x) ⌝ }
-    ensures { λ r. ⌜ r ≡ surveyOf (asPlan p) (members (asPlan p) c) x ⌝ }
+// The port of x.
+pub fn port(
+    s: plan::Shape,
+    ps: &[u16],
+    cs: &[u16],
+    span: Span,
+    ports: &[u8; base::MAX_VERTICES],
+    x: base::Position,
+) -> u8
+    requires { ⌜ Surveyed (shaped s (now ps) (now cs)) span (now ports) × T (members (shaped s (now ps) (now cs)) span (now ports) x) ⌝ }
+    ensures { λ r. ⌜ r ≡ portOf (shaped s (now (ps .entry)) (now (cs .entry))) (members (shaped s (now (ps .entry)) (now (cs .entry))) span (now (ports .entry))) x ⌝ }
 {
-    if p.kind == 1 {
-        let parent = p.parent;
-        let child = p.child;
-        let inside = c.inside;
-        return tree_survey(&parent, &child, inside, p.count as usize, x as usize);
+    if s.kind == 1 {
+        return ports[x as usize] - 1;
     }
-    let m = midpoint(c.low, c.high);
-    let k = range_port(m, x);
-    Survey {
-        centre: m,
-        degree: 2,
-        port: k,
-    }
+    range_port(midpoint(span.low, span.high), x)
 }
 
 // Neighbour k of the centre.
-pub fn neighbour(p: plan::Plan, c: Component, centre: base::Position, k: u32) -> base::Position
-    requires { ⌜ OfPlan (asPlan p) (members (asPlan p) c) × (3 ≤ sizeOf (asPlan p) (members (asPlan p) c)) × (centre ≡ centreOf (asPlan p) (members (asPlan p) c)) × (1 ≤ k) × (k ≤ degreeOf (asPlan p) (members (asPlan p) c)) ⌝ }
-    ensures { λ r. ⌜ r ≡ neighbourOf (asPlan p) (members (asPlan p) c) k ⌝ }
+pub fn neighbour(
+    s: plan::Shape,
+    ps: &[u16],
+    cs: &[u16],
+    span: Span,
+    ports: &[u8; base::MAX_VERTICES],
+    centre: base::Position,
+    k: u32,
+) -> base::Position
+    requires { ⌜ Lent (shaped s (now ps) (now cs)) × HasSide (shaped s (now ps) (now cs)) span (now ports) centre k ⌝ }
+    ensures { λ r. ⌜ r ≡ neighbourOf (shaped s (now (ps .entry)) (now (cs .entry))) (members (shaped s (now (ps .entry)) (now (cs .entry))) span (now (ports .entry))) k ⌝ }
 {
-    if p.kind == 1 {
-        let parent = p.parent;
-        let child = p.child;
-        let inside = c.inside;
-        return component_tree::tree_neighbour(
-            &parent,
-            &child,
-            &inside,
-            p.count as usize,
+    if s.kind == 1 {
+        return component_tree::neighbour(
+            ps,
+            cs,
+            ports,
+            s.count as usize,
             centre as usize,
             k as usize,
         ) as base::Position;
@@ -164,39 +176,30 @@ pub fn neighbour(p: plan::Plan, c: Component, centre: base::Position, k: u32) ->
 }
 
 // Side k.
-pub fn side(p: plan::Plan, c: Component, centre: base::Position, k: u32) -> Component
-    requires { ⌜ OfPlan (asPlan p) (members (asPlan p) c) × (3 ≤ sizeOf (asPlan p) (members (asPlan p) c)) × (centre ≡ centreOf (asPlan p) (members (asPlan p) c)) × (1 ≤ k) × (k ≤ degreeOf (asPlan p) (members (asPlan p) c)) ⌝ }
-    ensures { λ r. ⌜ members (asPlan p) r ≡ sideOf (asPlan p) (members (asPlan p) c) k ⌝ }
+pub fn side(
+    s: plan::Shape,
+    ps: &[u16],
+    cs: &[u16],
+    span: Span,
+    ports: &mut [u8; base::MAX_VERTICES],
+    centre: base::Position,
+    k: u32,
+) -> Span
+    requires { ⌜ HasSide (shaped s (now ps) (now cs)) span (now ports) centre k ⌝ }
+    ensures { λ r. ⌜ Holds (shaped s (now (ps .entry)) (now (cs .entry))) r (now (ports .exit)) (sideOf (shaped s (now (ps .entry)) (now (cs .entry))) (members (shaped s (now (ps .entry)) (now (cs .entry))) span (now (ports .entry))) k) ⌝ }
 {
-    if p.kind == 1 {
-        let parent = p.parent;
-        let child = p.child;
-        let inside = c.inside;
-        let part = component_tree::tree_side(
-            &parent,
-            &child,
-            inside,
-            p.count as usize,
-            centre as usize,
-            k as usize,
-        );
-        return Component {
-            low: 0,
-            high: 0,
-            inside: part,
-        };
+    if s.kind == 1 {
+        marks::only(ports, k as u8 + 1);
+        return Span { low: 0, high: 0 };
     }
-    let none = [0u8; base::MAX_VERTICES];
     if k == 1 {
-        return Component {
-            low: c.low,
+        return Span {
+            low: span.low,
             high: centre - 1,
-            inside: none,
         };
     }
-    Component {
+    Span {
         low: centre + 1,
-        high: c.high,
-        inside: none,
+        high: span.high,
     }
 }

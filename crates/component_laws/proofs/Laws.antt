@@ -7,7 +7,7 @@ use native.Mathlib.Omega.{arith}
 use lib.Dec.{T, lt→ltb}
 use lib.ListN.{length}
 use Rattle.base.specs.Sets.{Set, count}
-use Rattle.base.specs.Limits.{maxDegree, levelCount}
+use Rattle.base.specs.Limits.{maxVertices, maxRows, maxDegree, levelCount}
 use Rattle.base.proofs.Counts.{member, count-pos, count-one}
 use Rattle.tree.specs.Walk.{Walk}
 use Rattle.tree.specs.Edges.{Adjacent}
@@ -19,8 +19,9 @@ use Rattle.plan.specs.Plan.{Plan}
 use Rattle.plan.specs.Positions.{edgesOf}
 use Rattle.plan.specs.Valid.{planValid}
 use Rattle.plan_laws.proofs.Shape.{shape}
+use Rattle.plan_laws.proofs.Parts.{tree-parts, valid-tree}
 use Rattle.component.specs.Component.{wholeOf, sizeOf, centreOf, degreeOf, portOf, neighbourOf, sideOf}
-use Rattle.component.specs.Inner.{OfPlan}
+use Rattle.component.specs.Inner.{Lent, OfPlan}
 
 -- ---- a component of a plan is one of its edges
 
@@ -151,3 +152,12 @@ module _ (p : Plan) (h : T (planValid p)) where
         s .many,
         tree.three-level (edgesOf p) (acyclic p h) (p .count) (upto (p .count)) (plan-component p (wholeOf p) (whole-plan p h)) (levelCount - 1) (s .sides) (s .entered) m t,
       )
+
+-- ---- lent rows
+
+-- arrays of maxRows rows hold those of any tree
+pub rows-lent : (p : Plan) → T (planValid p) → length (p .parent) ≡ maxRows → length (p .child) ≡ maxRows → Lent p
+rows-lent p h i j = record { parents = λ k. omega (arith, most k); children = λ k. omega (arith, most k) }
+  where
+    most : p .kind ≡ 1 → p .count ≤ maxVertices
+    most k = tree-parts p (subst T (sym (valid-tree p k refl)) h) .most

@@ -1,74 +1,122 @@
-// Components of a tree given by its rows: ports, neighbours and sides, each by one or two passes over the rows.
+// Components of a tree given by its rows: the ports of all positions and the neighbours of the centre, each by one pass over the rows.
 ghost use mathlib.Core.Path.{_≡_};
-ghost use Prim.Native.Nat.{_≤_, _<_};
-ghost use lib.Dec.{T};
-ghost use lib.ListN.{length};
+ghost use Prim.Native.Nat.{ℕ, suc, _+_, _≤_, _<_};
+ghost use lib.Dec.{T, eqb, ltb};
+ghost use lib.ListN.{length, getD, set};
 ghost use Rattle.base.specs.Limits.{maxVertices};
-ghost use Rattle.tree.specs.Component.{without, centre, neighbours, degree, neighbour, side, port};
-ghost use Rattle.marks.specs.Marks.{marked};
-ghost use Rattle.component_tree.specs.Inner.{tree, OfTree};
+ghost use Rattle.base.specs.Pick.{pick};
+ghost use Rattle.base.specs.Sets.{bit, count};
+ghost use Rattle.tree.specs.Component.{centre, degree, neighbour};
+ghost use Rattle.marks.specs.Marks.{marked, numbered};
+ghost use Rattle.component_tree.specs.Inner.{tree, OfTree, Ports, Apart, found};
 
-// The marks without c's.
-fn leave_out(inside: [u8; base::MAX_VERTICES], c: usize) -> [u8; base::MAX_VERTICES]
-    requires { ⌜ c < maxVertices ⌝ }
-    ensures { λ r. ⌜ marked r ≡ without (marked inside) c ⌝ }
-{
-    let mut rest = inside;
-    rest[c] = 0;
-    rest
-}
+// Labels are bytes: a table has a place for each.
+const LABELS: usize = 256;
 
-// The port of x in a component of a tree; `near` marks the neighbours of its centre c.
-pub fn tree_port(
-    ps: &[u16],
-    cs: &[u16],
-    inside: [u8; base::MAX_VERTICES],
-    near: &[u8],
-    n: usize,
-    c: usize,
-    x: usize,
-) -> usize
-    requires { ⌜ OfTree (now ps) (now cs) n (marked inside) × T (marked inside x) × (c ≡ centre (tree (now ps) (now cs) n) n (marked inside)) × (marked (now near) ≡ neighbours (tree (now ps) (now cs) n) n (marked inside)) × (n ≤ length (now near)) ⌝ }
-    ensures { λ r. ⌜ (r ≡ port (tree (now (ps .entry)) (now (cs .entry)) n) n (marked inside) x) × (r ≤ n) ⌝ }
+// The number after k's rank is written at a place of the table if there is a mark; how many ranks there are then.
+fn rank(mark: u8, table: &mut [u8], at: usize, k: u8) -> u8
+    requires { ⌜ (at < length (now table)) × (mark ≡ 1 → k + 2 ≤ maxVertices) ⌝ }
+    ensures { λ r. ⌜ (r ≡ k + bit (eqb mark 1)) × (now (table .exit) ≡ pick (eqb mark 1) (set (now (table .entry)) at (k + 2)) (now (table .entry))) ⌝ }
 {
-    if x == c {
-        return 0;
+    if mark == 1 {
+        table[at] = k + 2;
+        return k + 1;
     }
-    let rest = leave_out(inside, c);
-    let mut labels = [0u16; base::MAX_VERTICES];
-    tree_pass::labels(ps, cs, &rest, &mut labels, n, n - 1);
-    let a = labels[x];
-    let w = marks::first_labelled(near, &labels, a, n);
-    marks::count(near, w + 1)
+    k
 }
 
-// Neighbour k of the centre of a component of a tree.
-pub fn tree_neighbour(ps: &[u16], cs: &[u16], inside: &[u8], n: usize, c: usize, k: usize) -> usize
-    requires { ⌜ OfTree (now ps) (now cs) n (marked (now inside)) × (n ≤ length (now inside)) × (c ≡ centre (tree (now ps) (now cs) n) n (marked (now inside))) × (1 ≤ k) ⌝ }
-    ensures { λ r. ⌜ r ≡ neighbour (tree (now (ps .entry)) (now (cs .entry)) n) n (marked (now (inside .entry))) k ⌝ }
+// How many neighbours there are; at the label of each its rank in rising order and one more is written.
+fn ranks(near: &[u8], labels: &[u8], table: &mut [u8; LABELS], n: usize) -> usize
+    requires { ⌜ (n ≤ length (now near)) × (n ≤ length (now labels)) × Apart (now near) (now labels) n × (count n (marked (now near)) < maxVertices) ⌝ }
+    ensures { λ r. ⌜ (r ≡ count n (marked (now (near .entry)))) × ((w : ℕ) → w < n → T (marked (now (near .entry)) w) → getD (now (table .exit)) (getD (now (labels .entry)) w 0) 0 ≡ suc (count (suc w) (marked (now (near .entry))))) ⌝ }
 {
-    let mut near = [0u8; base::MAX_VERTICES];
-    tree_pass::neighbours(ps, cs, inside, &mut near, c, n, n - 1);
-    marks::nth(&near, n, k)
+    let mut k: u8 = 0;
+    let mut x = 0;
+    while x < n {
+        k = rank(near[x], table, marks::wide(labels[x]), k);
+        x += 1;
+    }
+    marks::wide(k)
 }
 
-// Side k of a component of a tree.
-pub fn tree_side(
+// v where there is a mark, else 0.
+fn only(mark: u8, v: u8) -> u8
+    ensures { λ r. ⌜ r ≡ pick (eqb mark 1) v 0 ⌝ }
+{
+    if mark == 1 {
+        return v;
+    }
+    0
+}
+
+// Each of the first n positions that is a member gets the number that the table has for its label.
+fn renumber(ports: &mut [u8], labels: &[u8], table: &[u8; LABELS], n: usize)
+    requires { ⌜ (n ≤ length (now ports)) × (n ≤ length (now labels)) ⌝ }
+    ensures { λ _. ⌜ ((x : ℕ) → getD (now (ports .exit)) x 0 ≡ pick (ltb x n) (pick (marked (now (ports .entry)) x) (getD (now (table .entry)) (getD (now (labels .entry)) x 0) 0) 0) (getD (now (ports .entry)) x 0)) ⌝ }
+{
+    let mut x = 0;
+    while x < n {
+        ports[x] = only(ports[x], table[marks::wide(labels[x])]);
+        x += 1;
+    }
+}
+
+// How many neighbours the centre c of a component has; each position gets its port's number in place of its mark.
+pub fn number(
     ps: &[u16],
     cs: &[u16],
-    inside: [u8; base::MAX_VERTICES],
+    ports: &mut [u8; base::MAX_VERTICES],
     n: usize,
     c: usize,
-    k: usize,
-) -> [u8; base::MAX_VERTICES]
-    requires { ⌜ OfTree (now ps) (now cs) n (marked inside) × (c ≡ centre (tree (now ps) (now cs) n) n (marked inside)) × (1 ≤ k) × (k ≤ degree (tree (now ps) (now cs) n) n (marked inside)) ⌝ }
-    ensures { λ r. ⌜ marked r ≡ side (tree (now (ps .entry)) (now (cs .entry)) n) n (marked inside) k ⌝ }
+) -> usize
+    requires { ⌜ OfTree (now ps) (now cs) n (marked (now ports)) × ((x : ℕ) → getD (now ports) x 0 ≤ 1) × (c ≡ centre (tree (now ps) (now cs) n) n (marked (now ports))) ⌝ }
+    ensures { λ r. ⌜ (r ≡ degree (tree (now (ps .entry)) (now (cs .entry)) n) n (marked (now (ports .entry)))) × Ports (tree (now (ps .entry)) (now (cs .entry)) n) n (marked (now (ports .entry))) (now (ports .exit)) ⌝ }
 {
-    let w = tree_neighbour(ps, cs, &inside, n, c, k);
-    let mut rest = leave_out(inside, c);
-    let mut labels = [0u16; base::MAX_VERTICES];
-    tree_pass::labels(ps, cs, &rest, &mut labels, n, n - 1);
-    let a = labels[w];
-    marks::keep(&mut rest, &labels, a, n);
-    rest
+    ports[c] = 0;
+    let mut labels = [0u8; base::MAX_VERTICES];
+    let mut near = [0u8; base::MAX_VERTICES];
+    tree_pass::around(ps, cs, ports, &mut labels, &mut near, c, n, n - 1);
+    let mut table = [0u8; LABELS];
+    let d = ranks(&near, &labels, &mut table, n);
+    renumber(ports, &labels, &table, n);
+    ports[c] = 1;
+    d
+}
+
+// v where the number x is a, else w.
+fn if_number(x: u8, a: usize, v: usize, w: usize) -> usize
+    ensures { λ r. ⌜ r ≡ pick (eqb x a) v w ⌝ }
+{
+    if marks::wide(x) == a {
+        return v;
+    }
+    w
+}
+
+// The other end of a row at c, if its number is a; else w.
+fn beside(ports: &[u8], c: usize, a: usize, p: usize, v: usize, w: usize) -> usize
+    requires { ⌜ (p < length (now ports)) × (v < length (now ports)) ⌝ }
+    ensures { λ r. ⌜ r ≡ found (now (ports .entry)) c a p v w ⌝ }
+{
+    if c == p {
+        return if_number(ports[v], a, v, w);
+    }
+    if c == v {
+        return if_number(ports[p], a, p, w);
+    }
+    w
+}
+
+// Neighbour k of the centre of a component.
+pub fn neighbour(ps: &[u16], cs: &[u16], ports: &[u8], n: usize, c: usize, k: usize) -> usize
+    requires { ⌜ OfTree (now ps) (now cs) n (numbered (now ports)) × Ports (tree (now ps) (now cs) n) n (numbered (now ports)) (now ports) × (n ≤ length (now ports)) × (c ≡ centre (tree (now ps) (now cs) n) n (numbered (now ports))) × (1 ≤ k) × (k ≤ degree (tree (now ps) (now cs) n) n (numbered (now ports))) ⌝ }
+    ensures { λ r. ⌜ r ≡ neighbour (tree (now (ps .entry)) (now (cs .entry)) n) n (numbered (now (ports .entry))) k ⌝ }
+{
+    let mut w = n;
+    let mut i = 0;
+    while i < n - 1 {
+        w = beside(ports, c, k + 1, base::wide(ps[i]), base::wide(cs[i]), w);
+        i += 1;
+    }
+    w
 }

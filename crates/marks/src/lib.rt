@@ -1,19 +1,35 @@
-// Sets of positions as arrays of marks, 1 for each member: counts, searches and parts of them, each in one pass.
+// Sets of positions as bytes, 1 for each member: counts, searches, members set, each in one pass.
 ghost use mathlib.Core.Path.{_≡_};
-ghost use mathlib.Core.Bool.{_&&_, _||_};
-ghost use Prim.Native.Nat.{ℕ, _≤_, _<_};
+ghost use Prim.Native.Nat.{ℕ, _≤_};
 ghost use lib.Dec.{eqb, ltb};
-ghost use lib.ListN.{getD};
+ghost use lib.ListN.{length, getD};
+ghost use Rattle.base.specs.Limits.{maxVertices};
 ghost use Rattle.base.specs.Pick.{pick, smallest};
 ghost use Rattle.base.specs.Sets.{bit, count};
-ghost use Rattle.marks.specs.Marks.{marked};
-ghost use Rattle.marks.specs.Inner.{ranked, labelled, among};
+ghost use Rattle.marks.specs.Marks.{marked, numbered};
 
-// 1 for a mark, else 0.
-pub fn one(x: u8) -> usize
-    ensures { λ r. ⌜ r ≡ bit (eqb x 1) ⌝ }
+// A byte as an index.
+pub fn wide(x: u8) -> usize
+    ensures { λ r. ⌜ r ≡ x ⌝ }
 {
-    if x == 1 {
+    x as usize
+}
+
+// Has x a number other than 0?
+pub fn has_number(m: &[u8], x: usize) -> bool
+    ensures { λ r. ⌜ r ≡ numbered (now (m .entry)) x ⌝ }
+{
+    if x < m.len() {
+        return m[x] != 0;
+    }
+    false
+}
+
+// 1 where x is k, else 0.
+fn mark(x: u8, k: u8) -> u8
+    ensures { λ r. ⌜ r ≡ bit (eqb x k) ⌝ }
+{
+    if x == k {
         return 1;
     }
     0
@@ -21,21 +37,21 @@ pub fn one(x: u8) -> usize
 
 // How many of the first n positions are members.
 pub fn count(m: &[u8], n: usize) -> usize
-    requires { do ⌜ n ≤ (← ⟦m.len()⟧) ⌝ }
+    requires { ⌜ (n ≤ length (now m)) × (n ≤ maxVertices) ⌝ }
     ensures { λ r. ⌜ r ≡ count n (marked (now (m .entry))) ⌝ }
 {
-    let mut r: usize = 0;
+    let mut r: u8 = 0;
     let mut x = 0;
     while x < n {
-        r += one(m[x]);
+        r += mark(m[x], 1);
         x += 1;
     }
-    r
+    wide(r)
 }
 
 // The smallest member, or n where there is none below n.
 pub fn first(m: &[u8], n: usize) -> usize
-    requires { do ⌜ n ≤ (← ⟦m.len()⟧) ⌝ }
+    requires { ⌜ n ≤ length (now m) ⌝ }
     ensures { λ r. ⌜ r ≡ smallest n (marked (now (m .entry))) ⌝ }
 {
     let mut x = 0;
@@ -48,75 +64,26 @@ pub fn first(m: &[u8], n: usize) -> usize
     n
 }
 
-// The k-th member in rising order, or n where there are fewer below n.
-pub fn nth(m: &[u8], n: usize, k: usize) -> usize
-    requires { do ⌜ (n ≤ (← ⟦m.len()⟧)) × (1 ≤ k) ⌝ }
-    ensures { λ r. ⌜ r ≡ smallest n (ranked (marked (now (m .entry))) k) ⌝ }
-{
-    let mut r: usize = 0;
-    let mut x = 0;
-    while x < n {
-        r += one(m[x]);
-        if r == k {
-            return x;
-        }
-        x += 1;
-    }
-    n
-}
-
-// Is x a mark, and are a and b equal?
-fn is_both(x: u8, a: u16, b: u16) -> bool
-    ensures { λ r. ⌜ r ≡ (eqb x 1 && eqb a b) ⌝ }
-{
-    x == 1 && a == b
-}
-
-// The smallest member that the table gives the number a, or n where there is none below n.
-pub fn first_labelled(m: &[u8], t: &[u16], a: u16, n: usize) -> usize
-    requires { do ⌜ (n ≤ (← ⟦m.len()⟧)) × (n ≤ (← ⟦t.len()⟧)) ⌝ }
-    ensures { λ r. ⌜ r ≡ smallest n (among (marked (now (m .entry))) (labelled (now (t .entry)) a)) ⌝ }
-{
-    let mut x = 0;
-    while x < n {
-        if is_both(m[x], t[x], a) {
-            return x;
-        }
-        x += 1;
-    }
-    n
-}
-
-// The mark x where a and b are equal, else no mark.
-fn kept(x: u8, a: u16, b: u16) -> u8
-    ensures { λ r. ⌜ r ≡ pick (eqb a b) x 0 ⌝ }
-{
-    if a == b {
-        return x;
-    }
-    0
-}
-
-// Of the first n positions only those that the table gives the number a stay members.
-pub fn keep(m: &mut [u8], t: &[u16], a: u16, n: usize)
-    requires { do ⌜ (n ≤ (← ⟦m.len()⟧)) × (n ≤ (← ⟦t.len()⟧)) ⌝ }
-    ensures { λ _. ⌜ ((x : ℕ) → marked (now (m .exit)) x ≡ pick (ltb x n) (among (marked (now (m .entry))) (labelled (now (t .entry)) a) x) (marked (now (m .entry)) x)) ⌝ }
-{
-    let mut x = 0;
-    while x < n {
-        m[x] = kept(m[x], t[x], a);
-        x += 1;
-    }
-}
-
 // The first n positions become members.
 pub fn fill(m: &mut [u8], n: usize)
-    requires { do ⌜ n ≤ (← ⟦m.len()⟧) ⌝ }
-    ensures { λ _. ⌜ ((x : ℕ) → marked (now (m .exit)) x ≡ (ltb x n || marked (now (m .entry)) x)) ⌝ }
+    requires { ⌜ n ≤ length (now m) ⌝ }
+    ensures { λ _. ⌜ ((x : ℕ) → getD (now (m .exit)) x 0 ≡ pick (ltb x n) 1 (getD (now (m .entry)) x 0)) ⌝ }
 {
     let mut x = 0;
     while x < n {
         m[x] = 1;
+        x += 1;
+    }
+}
+
+// The positions with the number k, and no others, become members.
+pub fn only(m: &mut [u8], k: u8)
+    requires { ⌜ 1 ≤ k ⌝ }
+    ensures { λ _. ⌜ ((x : ℕ) → getD (now (m .exit)) x 0 ≡ bit (eqb (getD (now (m .entry)) x 0) k)) ⌝ }
+{
+    let mut x = 0;
+    while x < m.len() {
+        m[x] = mark(m[x], k);
         x += 1;
     }
 }

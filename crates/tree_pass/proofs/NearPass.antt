@@ -27,18 +27,34 @@ pub noted-off : (ins near : List ℕ) (w : ℕ) → (getD ins w 0 ≡ 1 → ⊥)
 unfolding noted marked
 noted-off ins near w d = rw (ne-eqb (getD ins w 0) 1 d)
 
-module _ (ins near : List ℕ) (c p v : ℕ) where
+-- c is not in the set
+module _ (ins near : List ℕ) (c p v : ℕ) (out : getD ins c 0 ≡ 0) where
+  other : (x : ℕ) → getD ins x 0 ≡ 1 → c ≡ x → ⊥
+  other x a e = omega (arith, ap (λ (z : ℕ). getD ins z 0) e)
+
+  pub beside-both : getD ins p 0 ≡ 1 → getD ins v 0 ≡ 1 → near ≡ beside ins near c p v
+  unfolding beside
+  beside-both a b = rw (ne-eqb c p (other p a), ne-eqb c v (other v b))
+
+  pub beside-second : getD ins p 0 ≡ 1 → c ≡ v → set near p 1 ≡ beside ins near c p v
+  unfolding beside
+  beside-second a e = rw (ne-eqb c p (other p a), eq-eqb c v e) (noted-on ins near p a)
+
+  pub beside-away : getD ins p 0 ≡ 1 → (c ≡ v → ⊥) → near ≡ beside ins near c p v
+  unfolding beside
+  beside-away a d = rw (ne-eqb c p (other p a), ne-eqb c v d)
+
   pub beside-first : c ≡ p → noted ins near v ≡ beside ins near c p v
   unfolding beside
   beside-first e = rw (eq-eqb c p e)
 
-  pub beside-second : (c ≡ p → ⊥) → c ≡ v → noted ins near p ≡ beside ins near c p v
+  pub beside-none : (getD ins p 0 ≡ 1 → ⊥) → (c ≡ p → ⊥) → near ≡ beside ins near c p v
   unfolding beside
-  beside-second d e = rw (ne-eqb c p d, eq-eqb c v e)
-
-  pub beside-none : (c ≡ p → ⊥) → (c ≡ v → ⊥) → near ≡ beside ins near c p v
-  unfolding beside
-  beside-none d f = rw (ne-eqb c p d, ne-eqb c v f)
+  beside-none a d = rw (ne-eqb c p d) (go (ℕ-discrete c v))
+    where
+      go : Dec (c ≡ v) → near ≡ pick (eqb c v) (noted ins near p) near
+      go (yes e) = rw (eq-eqb c v e) (noted-off ins near p a)
+      go (no e) = rw (ne-eqb c v e)
 
 or-false : (a : Bool) → a ≡ a || false
 or-false true = refl

@@ -1,27 +1,26 @@
--- The pass that clears the marks of members that are not light.
-use mathlib.Core.Path.{_≡_, refl, ap, _∙_}
+-- The pass back clears the marks of members that are not light.
+use mathlib.Core.Path.{_≡_, refl, ap, _∙_, subst}
 use mathlib.Core.List.{List}
 use mathlib.Core.Bool.{Bool, true, false, not, _&&_, _||_}
-use Prim.Native.Nat.{ℕ, _+_, _-_, _*_, _≤_, _<_}
+use Prim.Native.Nat.{ℕ, suc, _-_, _*_, _≤_, _<_}
 use native.Mathlib.Decide.{ℕ-discrete}
-use native.Mathlib.Numerals.{add-one}
 use native.Mathlib.Omega.{arith}
 use lib.Dec.{T, eqb, ltb, ltb→lt, lt→ltb}
 use lib.ListN.{length, getD, set}
 use borrow.Author.Tests.{eq-eqb, ne-eqb, lt-ltb, le-ltb}
 use Rattle.base.specs.Pick.{pick, smallest}
-use Rattle.base.specs.Sets.{count}
+use Rattle.base.specs.Sets.{Set, count}
 use Rattle.base.proofs.Bools.{T-ext}
 use Rattle.base.proofs.Smallest.{smallest-same}
 use Rattle.tree.specs.Edges.{Edge}
 use Rattle.tree.specs.Inner.{inside, subtree, shows, bad, unshown}
-use Rattle.tree.proofs.GrowthLight.{bad-same}
 use Rattle.edges.specs.Rows.{rows}
 use Rattle.marks.specs.Marks.{marked}
 use Rattle.marks.proofs.Marks.{marked-same, marked-other}
 use Rattle.tree_pass.specs.Inner.{Rows}
 use Rattle.tree_pass_centre.specs.Inner.{cleared}
 use Rattle.tree_pass.proofs.Rows.{row, below-row, both, not-first, not-second}
+use Rattle.tree_pass_centre.proofs.SizePass.{Climbed, climbed-child, one-less}
 
 -- ---- one row
 
@@ -112,43 +111,57 @@ cleared-shows ins sub light s e lp lv x = go (inside (marked ins) e) ∙ ap (λ 
     go true = at (ltb s (a * 2)) (ltb (a * 2) s) (λ h k. let i : s < a * 2 = ltb→lt s (a * 2) h in let j : a * 2 < s = ltb→lt (a * 2) s k in omega arith)
     go false = and-true (marked light x)
 
+-- a row shows by its child's size
+shows-same : (S : Set) (f g : ℕ → ℕ) (s : ℕ) (e : Edge) (x : ℕ) → f (e .two) ≡ g (e .two) → shows S f s e x ≡ shows S g s e x
+unfolding shows
+shows-same S f g s e x i = rw i
+
 -- ---- the pass
 
--- of the marks in light₀ those are left of which none of the first i rows shows that they are not light
-abbrev pub Left : List ℕ → List ℕ → List ℕ → List ℕ → List ℕ → ℕ → ℕ → List ℕ → Type 0
-Left ps cs ins sub light₀ s i light = (x : ℕ) → marked light x ≡ (marked light₀ x && not (bad (marked ins) (λ y. getD sub y 0) s (rows ps cs i) x))
+-- the members that the first i rows leave of the marks are those that all m rows leave of light₀; the sizes are those of subtrees
+abbrev pub Left : List ℕ → List ℕ → Set → List ℕ → ℕ → ℕ → ℕ → List ℕ → Type 0
+Left ps cs S light₀ s m i light =
+    (x : ℕ) → marked light x && not (bad S (subtree S (rows ps cs m)) s (rows ps cs i) x) ≡ marked light₀ x && not (bad S (subtree S (rows ps cs m)) s (rows ps cs m) x)
 
-pub left-start : (ps cs ins sub light : List ℕ) (s : ℕ) → Left ps cs ins sub light s 0 light
+-- row i is done
+left-row : (ps cs ins sub light₀ : List ℕ) (s n m i : ℕ) (light light′ : List ℕ) (p v : ℕ) → Rows ps cs n m → n ≤ length light → i < m → p ≡ getD ps i 0 → v ≡ getD cs i 0
+    → Climbed ps cs (marked ins) n m (suc i) sub → light′ ≡ cleared ins sub light s p v → Left ps cs (marked ins) light₀ s m (suc i) light → Left ps cs (marked ins) light₀ s m i light′
 unfolding bad rows
-left-start ps cs ins sub light s x = and-true (marked light x)
-
-pub left-more : (ps cs ins sub light₀ : List ℕ) (s n m i : ℕ) (light light′ : List ℕ) (p v : ℕ) → Rows ps cs n m → n ≤ length light → i < m → p ≡ getD ps i 0 → v ≡ getD cs i 0 → light′ ≡ cleared ins sub light s p v
-    → Left ps cs ins sub light₀ s i light → Left ps cs ins sub light₀ s (i + 1) light′
-unfolding bad rows
-left-more ps cs ins sub light₀ s n m i light light′ p v R l h a b e k x =
+left-row ps cs ins sub light₀ s n m i light light′ p v R l h a b z e k x =
     let w = below-row ps cs n m R i h in
-    rw (e, a, b, add-one i)
-    (cleared-shows ins sub light s (row ps cs i) (omega (arith, w .0)) (omega (arith, w .1)) x
-    ∙ ap (λ (t : Bool). t && not (shows (marked ins) (λ y. getD sub y 0) s (row ps cs i) x)) (k x)
-    ∙ regroup (marked light₀ x) (bad (marked ins) (λ y. getD sub y 0) s (rows ps cs i) x) (shows (marked ins) (λ y. getD sub y 0) s (row ps cs i) x))
+    rw (e, a, b)
+    (ap (λ (t : Bool). t && not (bad S f s (rows ps cs i) x)) (cleared-shows ins sub light s (row ps cs i) (omega (arith, w .0)) (omega (arith, w .1)) x)
+    ∙ ap (λ (t : Bool). (marked light x && not t) && not (bad S f s (rows ps cs i) x)) (shows-same S (λ y. getD sub y 0) f s (row ps cs i) x (climbed-child ps cs ins n m i sub R h z))
+    ∙ regroup (marked light x) (shows S f s (row ps cs i) x) (bad S f s (rows ps cs i) x)
+    ∙ k x)
   where
-    regroup : (a b c : Bool) → (a && not b) && not c ≡ a && not (c || b)
-    regroup true true true = refl
-    regroup true true false = refl
-    regroup true false true = refl
-    regroup true false false = refl
+    S : Set
+    S = marked ins
+
+    f : ℕ → ℕ
+    f = subtree S (rows ps cs m)
+
+    regroup : (a b c : Bool) → (a && not b) && not c ≡ a && not (b || c)
+    regroup true true c = refl
+    regroup true false c = refl
     regroup false b c = refl
 
-pub left-end : (ps cs ins sub light₀ : List ℕ) (s i m : ℕ) (light : List ℕ) → i ≡ m → Left ps cs ins sub light₀ s i light → Left ps cs ins sub light₀ s m light
-left-end ps cs ins sub light₀ s i m light e k = rw (← e) k
+pub left-more : (ps cs ins sub light₀ : List ℕ) (s n m i : ℕ) (light light′ : List ℕ) (p v : ℕ) → Rows ps cs n m → n ≤ length light → 0 < i → i ≤ m → p ≡ getD ps (i - 1) 0 → v ≡ getD cs (i - 1) 0
+    → Climbed ps cs (marked ins) n m i sub → light′ ≡ cleared ins sub light s p v → Left ps cs (marked ins) light₀ s m i light → Left ps cs (marked ins) light₀ s m (i - 1) light′
+left-more ps cs ins sub light₀ s n m i light light′ p v R l z h a b k e j =
+    left-row ps cs ins sub light₀ s n m (i - 1) light light′ p v R l (omega arith) a b (rw (one-less i z) k) e (rw (one-less i z) j)
 
--- ---- all passes
+pub left-end : (ps cs : List ℕ) (S : Set) (light₀ : List ℕ) (s m i : ℕ) (light : List ℕ) → i ≡ 0 → Left ps cs S light₀ s m i light
+    → (x : ℕ) → marked light x ≡ marked light₀ x && not (bad S (subtree S (rows ps cs m)) s (rows ps cs m) x)
+unfolding bad rows
+left-end ps cs S light₀ s m i light e k x =
+    and-true (marked light x) ∙ subst (λ (z : ℕ). marked light x && not (bad S (subtree S (rows ps cs m)) s (rows ps cs z) x) ≡ marked light₀ x && not (bad S (subtree S (rows ps cs m)) s (rows ps cs m) x)) e (k x)
 
--- with the sizes of subtrees, the marks that are left of the set's are the members that no row shows
-pub left-unshown : (ps cs ins sub light : List ℕ) (s n m r : ℕ) → Rows ps cs n m → ((x : ℕ) → x < n → getD sub x 0 ≡ subtree (marked ins) (rows ps cs m) x) → s ≡ count n (marked ins)
-    → Left ps cs ins sub ins s m light → r ≡ smallest n (marked light) → r ≡ smallest n (unshown (rows ps cs m) n (marked ins))
+-- the marks that are left of the set's are the members that no row shows
+pub left-unshown : (ps cs ins light : List ℕ) (s n m r : ℕ) → s ≡ count n (marked ins)
+    → ((x : ℕ) → marked light x ≡ marked ins x && not (bad (marked ins) (subtree (marked ins) (rows ps cs m)) s (rows ps cs m) x))
+    → r ≡ smallest n (marked light) → r ≡ smallest n (unshown (rows ps cs m) n (marked ins))
 unfolding unshown
-left-unshown ps cs ins sub light s n m r R sizes e k q =
+left-unshown ps cs ins light s n m r e k q =
     q ∙ smallest-same n (marked light) (unshown (rows ps cs m) n (marked ins)) (λ i l. k i
-    ∙ ap (λ (t : Bool). marked ins i && not t) (bad-same n (marked ins) (λ y. getD sub y 0) (subtree (marked ins) (rows ps cs m)) s (rows ps cs m) (R .below) sizes i
-    ∙ ap (λ (z : ℕ). bad (marked ins) (subtree (marked ins) (rows ps cs m)) z (rows ps cs m) i) e))
+    ∙ ap (λ (z : ℕ). marked ins i && not (bad (marked ins) (subtree (marked ins) (rows ps cs m)) z (rows ps cs m) i)) e)

@@ -1,11 +1,11 @@
 -- The pass back that adds up the sizes of subtrees.
-use mathlib.Core.Path.{_≡_, refl, ap, _∙_, subst}
-use mathlib.Core.List.{List, _∷_}
+use mathlib.Core.Path.{_≡_, refl, sym, ap, _∙_, subst}
+use mathlib.Core.List.{List, [], _∷_}
 use mathlib.Core.Bool.{Bool, true, false, _&&_}
 use Prim.Native.Nat.{ℕ, suc, _+_, _-_, _≤_, _<_}
 use native.Mathlib.Decide.{ℕ-discrete}
 use native.Mathlib.Omega.{arith}
-use lib.Dec.{eqb}
+use lib.Dec.{T, eqb}
 use lib.ListN.{length, getD, set}
 use lib.Seq.{getD-set-same, getD-set-other}
 use borrow.Author.Tests.{eq-eqb, ne-eqb}
@@ -13,7 +13,8 @@ use Rattle.base.specs.Limits.{maxVertices}
 use Rattle.base.specs.Pick.{pick}
 use Rattle.base.specs.Sets.{Set, bit}
 use Rattle.base.proofs.Counts.{count-le}
-use Rattle.tree.specs.Edges.{Edge}
+use Rattle.tree.specs.Edges.{Edge, Edges}
+use Rattle.tree.specs.Growth.{reached}
 use Rattle.tree.specs.Inner.{Below, Grown, inside, lift, up, subtree}
 use Rattle.tree.proofs.Growth.{reached-old}
 use Rattle.tree.proofs.GrowthSizes.{up-same, up-least, up-most}
@@ -24,20 +25,8 @@ use Rattle.tree_pass_centre.specs.Inner.{raised, Room}
 use Rattle.tree_pass.proofs.Rows.{row, below-row, grown-row, reached-later, both, not-first, not-second}
 
 -- below x every member counts one
-abbrev pub Ones : List ℕ → ℕ → List ℕ → Type 0
+abbrev Ones : List ℕ → ℕ → List ℕ → Type 0
 Ones ins x sub = (y : ℕ) → y < x → getD sub y 0 ≡ bit (marked ins y)
-
-pub ones-more : (ins : List ℕ) (x : ℕ) (sub : List ℕ) (k : ℕ) → x < length sub → k ≡ bit (eqb (getD ins x 0) 1) → Ones ins x sub → Ones ins (x + 1) (set sub x k)
-unfolding marked
-ones-more ins x sub k l e h y b = go (ℕ-discrete y x)
-  where
-    go : Dec (y ≡ x) → getD (set sub x k) y 0 ≡ bit (marked ins y)
-    go (yes i) = rw i (getD-set-same sub x k 0 l ∙ e)
-    go (no d) = getD-set-other sub x y k 0 d ∙ h y (omega arith)
-
-pub one-small : (k : ℕ) (b : Bool) → k ≡ bit b → k ≤ 1
-one-small k true e = omega arith
-one-small k false e = omega arith
 
 -- ---- one row
 
@@ -120,7 +109,34 @@ climbed-most ps cs ins n m i sub R h k a b =
     at : pick (inside S (row ps cs i) && eqb p p) (getD sub p 0 + getD sub v 0) (getD sub p 0) ≡ getD sub p 0 + getD sub v 0
     at = rw (both ins p v a b, eq-eqb p p refl)
 
-one-less : (i : ℕ) → 0 < i → suc (i - 1) ≡ i
+-- what is not reached keeps what it holds
+kept : (S : Set) (F : Edges) → Grown F → (f : ℕ → ℕ) (v : ℕ) → (T (reached F v) → ⊥) → up S F f v ≡ f v
+unfolding up lift
+kept S [] g f v d = refl
+kept S (e ∷ F) g f v d = kept S F (g .2) (lift S e f) v (λ h. d (reached-old e F v h)) ∙ go (inside S e) (ℕ-discrete v (e .one))
+  where
+    go : (a : Bool) → Dec (v ≡ e .one) → pick (a && eqb v (e .one)) (f v + f (e .two)) (f v) ≡ f v
+    go a (yes i) = absurd (d (reached-old e F v (subst (λ z. T (reached F z)) (sym i) (g .0))))
+    go true (no i) = rw (ne-eqb v (e .one) i)
+    go false (no i) = refl
+
+-- a row's child holds its size as the row comes
+pub climbed-child : (ps cs ins : List ℕ) (n m i : ℕ) (sub : List ℕ) → Rows ps cs n m → i < m → Climbed ps cs (marked ins) n m (suc i) sub
+    → getD sub (getD cs i 0) 0 ≡ subtree (marked ins) (rows ps cs m) (getD cs i 0)
+unfolding rows up lift
+climbed-child ps cs ins n m i sub R h k =
+    let g : Grown (row ps cs i ∷ rows ps cs i) = grown-row ps cs n m R i h in
+    let v : ℕ = getD cs i 0 in
+    let f : ℕ → ℕ = λ z. getD sub z 0 in
+    let d : v ≡ getD ps i 0 → ⊥ = λ j. g .1 (subst (λ z. T (reached (rows ps cs i) z)) (sym j) (g .0)) in
+    sym (kept (marked ins) (rows ps cs i) (g .2) (lift (marked ins) (row ps cs i) f) v (g .1) ∙ same (marked ins (getD ps i 0) && marked ins v) v (getD ps i 0) d (f v + f v) (f v))
+    ∙ k v (below-row ps cs n m R i h .1)
+  where
+    same : (a : Bool) (v p : ℕ) → (v ≡ p → ⊥) → (x y : ℕ) → pick (a && eqb v p) x y ≡ y
+    same true v p d x y = rw (ne-eqb v p d)
+    same false v p d x y = refl
+
+pub one-less : (i : ℕ) → 0 < i → suc (i - 1) ≡ i
 one-less i h = omega arith
 
 pub climbed-more : (ps cs ins : List ℕ) (n m i : ℕ) (sub sub′ : List ℕ) (p v : ℕ) → Rows ps cs n m → n ≤ length sub → 0 < i → i ≤ m → p ≡ getD ps (i - 1) 0 → v ≡ getD cs (i - 1) 0 → sub′ ≡ raised ins sub p v
@@ -131,7 +147,3 @@ climbed-more ps cs ins n m i sub sub′ p v R l z h a b e k = climbed-row ps cs 
 pub climbed-room : (ps cs ins : List ℕ) (n m i : ℕ) (sub : List ℕ) (p v : ℕ) → Rows ps cs n m → n ≤ maxVertices → 0 < i → i ≤ m → Climbed ps cs (marked ins) n m i sub → p ≡ getD ps (i - 1) 0 → v ≡ getD cs (i - 1) 0 → Room ins sub p v
 climbed-room ps cs ins n m i sub p v R z y h k a b c d =
     omega (arith, climbed-most ps cs ins n m (i - 1) sub R (omega arith) (rw (one-less i y) k) (rw a at c) (rw b at d), ap (λ w. getD sub w 0) a, ap (λ w. getD sub w 0) b)
-
-pub climbed-end : (ps cs ins : List ℕ) (n m i : ℕ) (sub : List ℕ) → i ≡ 0 → Climbed ps cs (marked ins) n m i sub → (x : ℕ) → x < n → getD sub x 0 ≡ subtree (marked ins) (rows ps cs m) x
-unfolding rows up
-climbed-end ps cs ins n m i sub e k x l = subst (λ z. up (marked ins) (rows ps cs z) (λ y. getD sub y 0) x ≡ subtree (marked ins) (rows ps cs m) x) e (k x l)

@@ -1,86 +1,79 @@
-use mathlib.Core.Path.{_≡_, sym, _∙_}
-use Prim.Native.Nat.{_-_}
+use Prim.Native.Nat.{ℕ, _-_, _≤_}
+use mathlib.Core.Path.{sym, _∙_, subst}
 use native.Mathlib.Omega.{arith}
-use lib.ListN.{length}
 use borrow.Author.Needs.{needs}
-use Rattle.base.specs.Limits.{maxVertices, maxRows}
-use Rattle.tree.specs.Component.{centre, neighbour}
+use Rattle.tree.specs.Component.{centre, degree, neighbour}
 use Rattle.edges.specs.Rows.{rows}
-use Rattle.marks.specs.Marks.{marked}
-use Rattle.plan.specs.Tie.{asPlan}
-use Rattle.component.proofs.Members.{tree-most, of-tree, as-tree, neighbour-most}
+use Rattle.marks.specs.Marks.{numbered}
+use Rattle.plan.specs.Tie.{shaped}
+use Rattle.component.proofs.Members.{tree-most, of-tree, as-tree, ports-tree, neighbour-most}
 use Rattle.component.proofs.RangeLaws.{in-range, centre-inside, neighbour-below, neighbour-above}
 use Rattle.component.proofs.neighbour.Statement.{statement}
 use Rattle.component.proofs.neighbour.Tie as tie
 
-slice-aggregate-tree-neighbour : tie.Need-slice-aggregate-tree-neighbour
-slice-aggregate-tree-neighbour c = search needs
+cast-neighbour : tie.Need-cast-neighbour
+cast-neighbour c = search needs
 
-slice-aggregate-tree-neighbour-2 : tie.Need-slice-aggregate-tree-neighbour-2
-slice-aggregate-tree-neighbour-2 c = search needs
-
-slice-aggregate-tree-neighbour-3 : tie.Need-slice-aggregate-tree-neighbour-3
-slice-aggregate-tree-neighbour-3 c = search needs
-
-cast-tree-neighbour : tie.Need-cast-tree-neighbour
-cast-tree-neighbour c = search needs
-
-tree-neighbour-requires : tie.Need-tree-neighbour-requires
-tree-neighbour-requires c κs =
-    let s = c .before .before .before .before .before .before .before .before .before in
-    let k = c .before .before .before .before .before .before .before .if1 .taken in
-    let a : length (s .args .p .parent) ≡ maxRows = search needs in
-    let b : length (s .args .p .child) ≡ maxRows = search needs in
-    let i : length (s .args .c .inside) ≡ maxVertices = search needs in
-    let m = tree-most (asPlan (s .args .p)) (s .pre .0 .valid) k in
-    let O = of-tree (asPlan (s .args .p)) (s .args .c) (s .pre .0) k (omega arith) (omega arith) in
-    (O, omega arith, s .pre .2 ∙ as-tree (λ E S. centre E (s .args .p .count) S) (asPlan (s .args .p)) (s .args .c) k, s .pre .3)
+neighbour-requires : tie.Need-neighbour-requires
+neighbour-requires c κs =
+    let a = c .before .before .before .before .before .before in
+    let p = shaped (a .args .s) (a .args .ps .now) (a .args .cs .now) in
+    let H = a .pre .1 in
+    let k = c .before .before .if1 .taken in
+    let O = of-tree p (a .args .span) (a .args .ports .now) k (a .pre .0) (H .surveyed .of) in
+    (O, ports-tree p (a .args .span) (a .args .ports .now) k (H .surveyed .numbers), omega (arith, O .most), H .at ∙ as-tree p (a .args .span) (a .args .ports .now) k (λ E S. centre E (p .count) S), H .low, subst (λ (d : ℕ). a .args .k ≤ d) (as-tree p (a .args .span) (a .args .ports .now) k (λ E S. degree E (p .count) S)) (H .high))
 
 cast-result : tie.Need-cast-result
 cast-result c =
-    let s = c .before .before .before .before .before .before .before .before .before .before in
-    let k = c .before .before .before .before .before .before .before .before .if1 .taken in
-    let l = neighbour-most (rows (s .args .p .parent) (s .args .p .child) (s .args .p .count - 1)) (s .args .p .count) (marked (s .args .c .inside)) (s .args .k) in
-    record { fits = omega (arith, c .tree-neighbour .ensures, tree-most (asPlan (s .args .p)) (s .pre .0 .valid) k) }
+    let a = c .before .before .before .before .before .before .before in
+    let p = shaped (a .args .s) (a .args .ps .now) (a .args .cs .now) in
+    let l = neighbour-most (rows (p .parent) (p .child) (p .count - 1)) (p .count) (numbered (a .args .ports .now)) (a .args .k) in
+    record { fits = omega (arith, c .neighbour .ensures, tree-most p (a .pre .1 .surveyed .of .valid) (c .before .before .before .if1 .taken)) }
 
 returns : tie.Need-returns
 returns c =
-    let s = c .before .before .before .before .before .before .before .before .before .before in
-    c .tree-neighbour .ensures ∙ sym (as-tree (λ E S. neighbour E (s .args .p .count) S (s .args .k)) (asPlan (s .args .p)) (s .args .c) (c .before .before .before .before .before .before .before .before .if1 .taken))
+    let a = c .before .before .before .before .before .before .before in
+    let p = shaped (a .args .s) (a .args .ps .now) (a .args .cs .now) in
+    c .neighbour .ensures ∙ sym (as-tree p (a .args .span) (a .args .ports .now) (c .before .before .before .if1 .taken) (λ E S. neighbour E (p .count) S (a .args .k)))
 
 sub-result : tie.Need-sub-result
 sub-result c =
-    let s = c .before .before .before in
-    let R = in-range (asPlan (s .args .p)) (s .args .c) (s .pre .0) (c .before .if1 .left) in
-    omega (arith, centre-inside (asPlan (s .args .p)) (s .args .c) R (s .pre .1) (s .args .centre) (s .args .k) (s .pre .2) .0)
+    let a = c .before .before .before .before .before in
+    let p = shaped (a .args .s) (a .args .ps .now) (a .args .cs .now) in
+    let H = a .pre .1 in
+    let R = in-range p (a .args .span) (a .args .ports .now) (H .surveyed .of) (c .before .if1 .left) in
+    omega (arith, centre-inside p (a .args .span) (a .args .ports .now) R (H .surveyed .three) (a .args .centre) (a .args .k) (H .at) .0)
 
 returns-2 : tie.Need-returns-2
 returns-2 c =
-    let s = c .before .before .before in
-    let R = in-range (asPlan (s .args .p)) (s .args .c) (s .pre .0) (c .before .if1 .left) in
-    neighbour-below (asPlan (s .args .p)) (s .args .c) R (s .pre .1) (s .args .centre) (s .args .k) (s .pre .2) (c .if2 .taken)
+    let a = c .before .before .before .before .before in
+    let p = shaped (a .args .s) (a .args .ps .now) (a .args .cs .now) in
+    let H = a .pre .1 in
+    let R = in-range p (a .args .span) (a .args .ports .now) (H .surveyed .of) (c .before .if1 .left) in
+    neighbour-below p (a .args .span) (a .args .ports .now) R (H .surveyed .three) (a .args .centre) (a .args .k) (H .at) (c .if2 .taken)
 
 add-result : tie.Need-add-result
 add-result c =
-    let s = c .before .before .before in
-    let R = in-range (asPlan (s .args .p)) (s .args .c) (s .pre .0) (c .before .if1 .left) in
-    record { fits = omega (arith, centre-inside (asPlan (s .args .p)) (s .args .c) R (s .pre .1) (s .args .centre) (s .args .k) (s .pre .2) .1, R .high, R .most) }
+    let a = c .before .before .before .before .before in
+    let p = shaped (a .args .s) (a .args .ps .now) (a .args .cs .now) in
+    let H = a .pre .1 in
+    let R = in-range p (a .args .span) (a .args .ports .now) (H .surveyed .of) (c .before .if1 .left) in
+    record { fits = omega (arith, centre-inside p (a .args .span) (a .args .ports .now) R (H .surveyed .three) (a .args .centre) (a .args .k) (H .at) .1, R .high, R .most) }
 
 returns-3 : tie.Need-returns-3
 returns-3 c =
-    let s = c .before .before .before in
-    let R = in-range (asPlan (s .args .p)) (s .args .c) (s .pre .0) (c .before .if1 .left) in
-    neighbour-above (asPlan (s .args .p)) (s .args .c) R (s .pre .1) (s .args .centre) (s .args .k) (s .pre .2) (s .pre .3) (s .pre .4) (c .if2 .left)
+    let a = c .before .before .before .before .before in
+    let p = shaped (a .args .s) (a .args .ps .now) (a .args .cs .now) in
+    let H = a .pre .1 in
+    let R = in-range p (a .args .span) (a .args .ports .now) (H .surveyed .of) (c .before .if1 .left) in
+    neighbour-above p (a .args .span) (a .args .ports .now) R (H .surveyed .three) (a .args .centre) (a .args .k) (H .at) (H .low) (H .high) (c .if2 .left)
 
 pub neighbour-spec : {M : Type 1} → statement M
 neighbour-spec =
     tie.close
     (tie.spec
-    slice-aggregate-tree-neighbour
-    slice-aggregate-tree-neighbour-2
-    slice-aggregate-tree-neighbour-3
-    cast-tree-neighbour
-    tree-neighbour-requires
+    cast-neighbour
+    neighbour-requires
     cast-result
     returns
     sub-result

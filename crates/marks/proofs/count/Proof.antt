@@ -1,4 +1,4 @@
-use mathlib.Core.Path.{_≡_}
+use mathlib.Core.Path.{_≡_, _∙_}
 use Prim.Native.Nat.{_≤_, _-_}
 use native.Mathlib.Omega.{arith}
 use borrow.Author.Needs.{needs}
@@ -17,16 +17,16 @@ abbrev μ-loop : tie.MeasureT-loop
 loop-holds : tie.Need-loop-holds Inv-loop μ-loop
 loop-holds c = (search needs, count-start (c .before .args .m .now))
 
-shared-slice-read-one : tie.Need-shared-slice-read-one Inv-loop μ-loop
-shared-slice-read-one c = search needs
+shared-slice-read-mark : tie.Need-shared-slice-read-mark Inv-loop μ-loop
+shared-slice-read-mark c = search needs
 
-one-requires : tie.Need-one-requires Inv-loop μ-loop
-one-requires c κs = search needs
+mark-requires : tie.Need-mark-requires Inv-loop μ-loop
+mark-requires c κs = search needs
 
 add-r : tie.Need-add-r Inv-loop μ-loop
 add-r c =
     let o = c .before .before .before .loop in
-    record { fits = omega (arith, count-few (c .before .before .before .before .before .args .m .now) (o .x) (o .r) (c .one .result) (o .inv .1) (c .one .ensures)) }
+    record { fits = omega (arith, count-few (c .before .before .before .before .before .args .m .now) (o .x) (o .r) (c .mark .result) (o .inv .1) (c .mark .ensures)) }
 
 add-x : tie.Need-add-x Inv-loop μ-loop
 add-x c = search needs
@@ -37,13 +37,16 @@ loop-less c = search needs
 loop-again : tie.Need-loop-again Inv-loop μ-loop
 loop-again c =
     let o = c .before .before .before .loop in
-    (search needs, count-step (c .before .before .before .before .before .args .m .now) (o .x) (o .r) (c .one .result) (o .inv .1) (c .one .ensures))
+    (search needs, count-step (c .before .before .before .before .before .args .m .now) (o .x) (o .r) (c .mark .result) (o .inv .1) (c .mark .ensures))
+
+wide-requires : tie.Need-wide-requires Inv-loop μ-loop
+wide-requires c κs = search needs
 
 returns : tie.Need-returns Inv-loop μ-loop
 returns c =
-    let s = c .before .before .before in
-    let o = c .before .loop in
-    count-end (s .args .m .now) (s .args .n) (o .x) (o .r) (omega arith) (o .inv .1)
+    let s = c .before .before .before .before in
+    let o = c .before .before .loop in
+    c .wide .ensures ∙ count-end (s .args .m .now) (s .args .n) (o .x) (o .r) (omega arith) (o .inv .1)
 
 pub count-spec : {M : Type 1} → statement M
 count-spec =
@@ -52,10 +55,11 @@ count-spec =
     Inv-loop
     μ-loop
     loop-holds
-    shared-slice-read-one
-    one-requires
+    shared-slice-read-mark
+    mark-requires
     add-r
     add-x
     loop-less
     loop-again
+    wide-requires
     returns)

@@ -19,9 +19,6 @@ loop-holds c = search needs
 cast-out : tie.Need-cast-out Inv-loop μ-loop
 cast-out c = search needs
 
-mul-out : tie.Need-mul-out Inv-loop μ-loop
-mul-out c = search needs
-
 slice-write-out : tie.Need-slice-write-out Inv-loop μ-loop
 slice-write-out c = search needs
 
@@ -50,7 +47,6 @@ fresh-spec =
     μ-loop
     loop-holds
     cast-out
-    mul-out
     slice-write-out
     add-x
     loop-less

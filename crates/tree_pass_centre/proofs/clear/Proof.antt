@@ -10,9 +10,6 @@ shared-slice-read-if1 c = search needs
 shared-slice-read-if2 : tie.Need-shared-slice-read-if2
 shared-slice-read-if2 c = search needs
 
-mul-wide : tie.Need-mul-wide
-mul-wide c = search needs
-
 shared-slice-read-wide : tie.Need-shared-slice-read-wide
 shared-slice-read-wide c = search needs
 
@@ -65,7 +62,6 @@ clear-spec =
     (tie.spec
     shared-slice-read-if1
     shared-slice-read-if2
-    mul-wide
     shared-slice-read-wide
     wide-requires
     mul-twice

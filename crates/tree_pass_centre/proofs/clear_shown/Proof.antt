@@ -1,23 +1,29 @@
-use mathlib.Core.Path.{_≡_}
+use mathlib.Core.Path.{_≡_, refl}
 use Prim.Native.Nat.{_≤_, _-_}
 use native.Mathlib.Omega.{arith}
 use lib.ListN.{length}
 use borrow.Author.Needs.{needs}
-use Rattle.tree_pass_centre.proofs.LightPass.{Left, left-start, left-more, left-end}
+use Rattle.marks.specs.Marks.{marked}
 use Rattle.tree_pass.proofs.Rows.{row-ends}
+use Rattle.tree_pass_centre.proofs.SizePass.{Climbed, climbed-start, climbed-more, climbed-room}
+use Rattle.tree_pass_centre.proofs.LightPass.{Left, left-more, left-end}
 use Rattle.tree_pass_centre.proofs.clear_shown.Statement.{statement}
 use Rattle.tree_pass_centre.proofs.clear_shown.Tie as tie
 
 abbrev Inv-loop : tie.InvT-loop
-Inv-loop ps cs ins sub light₀ s n m i₀ light i = (i ≤ m) × (length light ≡ length light₀) × Left ps cs ins sub light₀ s i light
+Inv-loop ps cs ins sub₀ light₀ s n m i₀ sub light i =
+    (i ≤ m) × (length sub ≡ length sub₀) × (length light ≡ length light₀) × Climbed ps cs (marked ins) n m i sub × Left ps cs (marked ins) light₀ s m i light
 
 abbrev μ-loop : tie.MeasureT-loop
-μ-loop ps cs ins sub light₀ s n m i₀ light i = m - i
+μ-loop ps cs ins sub₀ light₀ s n m i₀ sub light i = i
 
 loop-holds : tie.Need-loop-holds Inv-loop μ-loop
 loop-holds c =
     let s = c .before .before .before .before .before in
-    (search needs, search needs, left-start (s .args .ps .now) (s .args .cs .now) (s .args .ins .now) (s .args .sub .now) (s .args .light .now) (s .args .s))
+    (search needs, search needs, search needs, climbed-start (s .args .ps .now) (s .args .cs .now) (s .args .ins .now) (s .args .n) (s .args .m) (s .args .sub .now) (s .pre .0) (s .pre .5), λ x. refl)
+
+sub-i : tie.Need-sub-i Inv-loop μ-loop
+sub-i c = search needs
 
 mul-wide : tie.Need-mul-wide Inv-loop μ-loop
 mul-wide c = search needs
@@ -39,37 +45,51 @@ wide-requires-2 c κs = search needs
 
 clear-requires : tie.Need-clear-requires Inv-loop μ-loop
 clear-requires c κs =
-    let o = c .before .before .before .before .before .before .loop in
-    let s = c .before .before .before .before .before .before .before .before .before .before .before .before in
-    let r = row-ends (s .args .ps .now) (s .args .cs .now) (s .args .n) (s .args .m) (s .pre .0) (o .i) (c .before .before .before .before .before .loop-test .taken) (c .before .before .wide .result) (c .wide2 .result) (c .before .before .wide .ensures) (c .wide2 .ensures) in
+    let s = c .before .before .before .before .before .before .before .before .before .before .before .before .before in
+    let o = c .before .before .before .before .before .before .before .loop in
+    let r = row-ends (s .args .ps .now) (s .args .cs .now) (s .args .n) (s .args .m) (s .pre .0) (o .i - 1) (omega arith) (c .before .before .before .before .wide .result) (c .before .before .wide2 .result) (c .before .before .before .before .wide .ensures) (c .before .before .wide2 .ensures) in
     let h = s .pre in
-    let v = o .inv .1 in
+    let k = o .inv .1 in
+    let l = o .inv .2 in
     (omega (arith, r .0), omega (arith, r .1), omega (arith, r .1), omega (arith, r .0), omega (arith, r .1))
 
-add-i : tie.Need-add-i Inv-loop μ-loop
-add-i c = search needs
+raise-requires : tie.Need-raise-requires Inv-loop μ-loop
+raise-requires c κs =
+    let s = c .before .before .before .before .before .before .before .before .before .before .before .before .before .before .before .before .before in
+    let o = c .before .before .before .before .before .before .before .before .before .before .before .loop in
+    let r = row-ends (s .args .ps .now) (s .args .cs .now) (s .args .n) (s .args .m) (s .pre .0) (o .i - 1) (omega arith) (c .before .before .before .before .before .before .before .before .wide .result) (c .before .before .before .before .before .before .wide2 .result) (c .before .before .before .before .before .before .before .before .wide .ensures) (c .before .before .before .before .before .before .wide2 .ensures) in
+    let h = s .pre in
+    let l = o .inv .1 in
+    let k = climbed-room (s .args .ps .now) (s .args .cs .now) (s .args .ins .now) (s .args .n) (s .args .m) (o .i) (o .sub) (c .before .before .before .before .before .before .before .before .wide .result) (c .before .before .before .before .before .before .wide2 .result) (s .pre .0) (s .pre .4) (c .before .before .before .before .before .before .before .before .before .before .loop-test .taken) (o .inv .0) (o .inv .3) (c .before .before .before .before .before .before .before .before .wide .ensures) (c .before .before .before .before .before .before .wide2 .ensures) in
+    (omega (arith, r .0), omega (arith, r .1), omega (arith, r .0), omega (arith, r .1), k)
 
 loop-less : tie.Need-loop-less Inv-loop μ-loop
 loop-less c = search needs
 
 loop-again : tie.Need-loop-again Inv-loop μ-loop
 loop-again c =
-    let s = c .before .before .before .before .before .before .before .before .before .before .before .before .before .before .before in
-    let o = c .before .before .before .before .before .before .before .before .before .loop in (
+    let s = c .before .before .before .before .before .before .before .before .before .before .before .before .before .before .before .before .before .before .before .before in
+    let o = c .before .before .before .before .before .before .before .before .before .before .before .before .before .before .loop in (
       search needs,
       search needs,
-      left-more (s .args .ps .now) (s .args .cs .now) (s .args .ins .now) (s .args .sub .now) (s .args .light .now) (s .args .s) (s .args .n) (s .args .m) (o .i) (o .light) (c .before .before .clear .last .1 .1 .0) (c .before .before .before .before .before .wide .result) (c .before .before .before .wide2 .result)
-          (s .pre .0) (omega arith) (c .before .before .before .before .before .before .before .before .loop-test .taken) (c .before .before .before .before .before .wide .ensures) (c .before .before .before .wide2 .ensures) (c .before .before .clear .ensures) (o .inv .2),
+      search needs,
+      climbed-more (s .args .ps .now) (s .args .cs .now) (s .args .ins .now) (s .args .n) (s .args .m) (o .i) (o .sub) (c .before .before .raise .last .1 .0) (c .before .before .before .before .before .before .before .before .before .before .before .wide .result) (c .before .before .before .before .before .before .before .before .before .wide2 .result)
+          (s .pre .0) (omega arith) (c .before .before .before .before .before .before .before .before .before .before .before .before .before .loop-test .taken) (o .inv .0) (c .before .before .before .before .before .before .before .before .before .before .before .wide .ensures) (c .before .before .before .before .before .before .before .before .before .wide2 .ensures) (c .before .before .raise .ensures) (o .inv .3),
+      left-more (s .args .ps .now) (s .args .cs .now) (s .args .ins .now) (o .sub) (s .args .light .now) (s .args .s) (s .args .n) (s .args .m) (o .i) (o .light) (c .before .before .before .before .before .before .clear .last .1 .1 .0) (c .before .before .before .before .before .before .before .before .before .before .before .wide .result) (c .before .before .before .before .before .before .before .before .before .wide2 .result)
+          (s .pre .0) (omega arith) (c .before .before .before .before .before .before .before .before .before .before .before .before .before .loop-test .taken) (o .inv .0) (c .before .before .before .before .before .before .before .before .before .before .before .wide .ensures) (c .before .before .before .before .before .before .before .before .before .wide2 .ensures) (o .inv .3) (c .before .before .before .before .before .before .clear .ensures) (o .inv .4),
     )
 
 same-length : tie.Need-same-length Inv-loop μ-loop
 same-length c = search needs
 
+same-length-2 : tie.Need-same-length-2 Inv-loop μ-loop
+same-length-2 c = search needs
+
 returns : tie.Need-returns Inv-loop μ-loop
 returns c =
     let s = c .before .before .before .before .before .before .before in
     let o = c .before .loop in
-    left-end (s .args .ps .now) (s .args .cs .now) (s .args .ins .now) (s .args .sub .now) (s .args .light .now) (s .args .s) (o .i) (s .args .m) (o .light) (omega arith) (o .inv .2)
+    left-end (s .args .ps .now) (s .args .cs .now) (marked (s .args .ins .now)) (s .args .light .now) (s .args .s) (s .args .m) (o .i) (o .light) (omega arith) (o .inv .4)
 
 pub clear-shown-spec : {M : Type 1} → statement M
 clear-shown-spec =
@@ -78,6 +98,7 @@ clear-shown-spec =
     Inv-loop
     μ-loop
     loop-holds
+    sub-i
     mul-wide
     shared-slice-read-wide
     wide-requires
@@ -85,8 +106,9 @@ clear-shown-spec =
     shared-slice-read-wide-2
     wide-requires-2
     clear-requires
-    add-i
+    raise-requires
     loop-less
     loop-again
     same-length
+    same-length-2
     returns)

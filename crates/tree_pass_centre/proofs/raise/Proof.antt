@@ -10,23 +10,14 @@ shared-slice-read-if1 c = search needs
 shared-slice-read-if2 : tie.Need-shared-slice-read-if2
 shared-slice-read-if2 c = search needs
 
-mul-sub : tie.Need-mul-sub
-mul-sub c = search needs
-
 slice-read-sub : tie.Need-slice-read-sub
 slice-read-sub c = search needs
-
-mul-sub-2 : tie.Need-mul-sub-2
-mul-sub-2 c = search needs
 
 slice-read-sub-2 : tie.Need-slice-read-sub-2
 slice-read-sub-2 c = search needs
 
 add-sub : tie.Need-add-sub
 add-sub c = omega (arith, c .before .before .before .before .before .before .pre .4 (c .before .before .before .before .if1 .taken) (c .before .before .if2 .taken))
-
-mul-sub-3 : tie.Need-mul-sub-3
-mul-sub-3 c = search needs
 
 slice-write-sub : tie.Need-slice-write-sub
 slice-write-sub c = search needs
@@ -49,12 +40,9 @@ raise-spec =
     (tie.spec
     shared-slice-read-if1
     shared-slice-read-if2
-    mul-sub
     slice-read-sub
-    mul-sub-2
     slice-read-sub-2
     add-sub
-    mul-sub-3
     slice-write-sub
     same-length
     returns
