@@ -17,7 +17,6 @@ pub record InLimits (c : Context) (l : Level) : Type 0 where
 -- what reading past the last level of an array gives
 abbrev pub noCodeLevel : Code.Level
 noCodeLevel = record {
-  sets = [];
   entered = false;
   side = 0;
   position = 0;

@@ -1,10 +1,7 @@
-// One level of a party: what was heard at it, what was made at it, and the fourteen rules.
+// One level of a party: what the board did at it, and the fourteen rules over what it heard there.
 ghost use mathlib.Core.Path.{_≡_};
-ghost use mathlib.Core.Bool.{true};
-ghost use Prim.Native.Nat.{_<_};
-ghost use Rattle.base.specs.Limits.{maxBoards};
-ghost use Rattle.message.specs.Message.{bodyInTable};
-ghost use Rattle.level.specs.Level.{blankLevel, withHeard, held};
+ghost use lib.ListN.{replicate};
+ghost use Rattle.level.specs.Level.{blankLevel, slotCount};
 ghost use Rattle.level.specs.Rules;
 ghost use Rattle.level.specs.Tie.{asLevel};
 
@@ -17,9 +14,8 @@ pub const NOT_YET: u8 = level_counts::NOT_YET;
 // An output that is not there yet: one more than the largest position.
 pub const NO_OUTPUT: base::Position = base::MAX_POSITION + 1;
 
+// What the board did at a level. What it heard there is lent beside it: the senders of each message, by its slot.
 pub struct Level {
-    // the senders of each message of this level, by its slot
-    pub sets: level_counts::Sets,
     // has the board entered the level, by which side of the level above (0 at level 0), and at which position?
     pub entered: bool,
     pub side: u8,
@@ -89,12 +85,11 @@ pub fn applies(e: Effect) -> bool
 }
 
 impl Level {
-    // A level that was not entered and at which nothing was heard.
+    // A level that was not entered: the blank one where nothing was heard.
     pub fn blank() -> Level
-        ensures { λ r. ⌜ asLevel r ≡ blankLevel ⌝ }
+        ensures { λ r. ⌜ asLevel (replicate slotCount 0) r ≡ blankLevel ⌝ }
     {
         Level {
-            sets: [0; level_counts::SLOTS],
             entered: false,
             side: 0,
             position: 0,
@@ -109,34 +104,5 @@ impl Level {
             told_centre: false,
             output: NO_OUTPUT,
         }
-    }
-
-    // The senders of a message.
-    pub fn senders(self, b: message::Body) -> senders::Mask
-        requires { ⌜ bodyInTable b ≡ true ⌝ }
-        ensures { λ r. ⌜ r ≡ Rattle.level.specs.Level.senders (asLevel self) b ⌝ }
-    {
-        let i = level_counts::slot(b);
-        self.sets[i]
-    }
-
-    // The level with a message taken from sender s.
-    pub fn hear(self, b: message::Body, s: u8) -> Level
-        requires { ⌜ (bodyInTable b ≡ true) × (s < maxBoards) ⌝ }
-        ensures { λ r. ⌜ asLevel r ≡ withHeard (asLevel self) b s ⌝ }
-    {
-        let i = level_counts::slot(b);
-        let mut l = self;
-        let m = l.sets[i];
-        l.sets[i] = senders::add(m, s);
-        l
-    }
-
-    // Was the message taken from s already?
-    pub fn holds(self, b: message::Body, s: u8) -> bool
-        requires { ⌜ (bodyInTable b ≡ true) × (s < maxBoards) ⌝ }
-        ensures { λ r. ⌜ r ≡ held (asLevel self) b s ⌝ }
-    {
-        senders::contains(self.senders(b), s)
     }
 }

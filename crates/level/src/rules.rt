@@ -8,8 +8,11 @@ use crate::NONE;
 use crate::NOT_YET;
 use message::Body;
 ghost use mathlib.Core.Path.{_≡_};
+ghost use mathlib.Core.List.{List};
+ghost use Prim.Native.Nat.{ℕ, _≤_};
+ghost use lib.ListN.{length};
 ghost use Rattle.level.specs.declared.Effect.the-variants.{Quiet};
-ghost use Rattle.level.specs.Level.{withOutput};
+ghost use Rattle.level.specs.Level.{notYet, slotCount, withOutput};
 ghost use Rattle.level.specs.Inner.{InLimits};
 ghost use Rattle.level.specs.Rules;
 ghost use Rattle.level.specs.Tie.{asLevel, asApplied};
@@ -17,7 +20,7 @@ ghost use Rattle.level.specs.Tie.{asLevel, asApplied};
 impl Level {
     // The rule does not apply.
     fn idle(self) -> Applied
-        ensures { λ r. ⌜ asApplied r ≡ Rules.idle (asLevel self) ⌝ }
+        ensures { λ r. ⌜ ((s : List ℕ) → asApplied s r ≡ Rules.idle (asLevel s self)) ⌝ }
     {
         Applied {
             level: self,
@@ -27,7 +30,7 @@ impl Level {
 
     // First echo of the port.
     pub fn rule1(self, c: Context) -> Applied
-        ensures { λ r. ⌜ asApplied r ≡ Rules.rule1 c (asLevel self) ⌝ }
+        ensures { λ r. ⌜ ((s : List ℕ) → asApplied s r ≡ Rules.rule1 c (asLevel s self)) ⌝ }
     {
         if self.echoed_port {
             return self.idle();
@@ -42,14 +45,14 @@ impl Level {
     }
 
     // First echo of none.
-    pub fn rule2(self, c: Context) -> Applied
-        requires { ⌜ InLimits c (asLevel self) ⌝ }
-        ensures { λ r. ⌜ asApplied r ≡ Rules.rule2 c (asLevel self) ⌝ }
+    pub fn rule2(self, sets: &[senders::Mask], c: Context) -> Applied
+        requires { ⌜ InLimits c (asLevel (now sets) self) × (slotCount ≤ length (now sets)) ⌝ }
+        ensures { λ r. ⌜ asApplied (now (sets .entry)) r ≡ Rules.rule2 c (asLevel (now (sets .entry)) self) ⌝ }
     {
         if self.echoed_none {
             return self.idle();
         }
-        if !level_counts_first::none_due(&self.sets, c.degree, c.port, c.t) {
+        if !level_counts_first::none_due(sets, c.degree, c.port, c.t) {
             return self.idle();
         }
         let mut l = self;
@@ -62,14 +65,14 @@ impl Level {
     }
 
     // First proposal.
-    pub fn rule3(self, c: Context) -> Applied
-        requires { ⌜ InLimits c (asLevel self) ⌝ }
-        ensures { λ r. ⌜ asApplied r ≡ Rules.rule3 c (asLevel self) ⌝ }
+    pub fn rule3(self, sets: &[senders::Mask], c: Context) -> Applied
+        requires { ⌜ InLimits c (asLevel (now sets) self) × (slotCount ≤ length (now sets)) ⌝ }
+        ensures { λ r. ⌜ asApplied (now (sets .entry)) r ≡ Rules.rule3 c (asLevel (now (sets .entry)) self) ⌝ }
     {
         if self.proposal != NOT_YET {
             return self.idle();
         }
-        let v = level_counts_first::proposal(&self.sets, c.degree, c.t);
+        let v = level_counts_first::proposal(sets, c.degree, c.t);
         if v == NOT_YET {
             return self.idle();
         }
@@ -83,14 +86,14 @@ impl Level {
     }
 
     // First result.
-    pub fn rule4(self, c: Context) -> Applied
-        requires { ⌜ InLimits c (asLevel self) ⌝ }
-        ensures { λ r. ⌜ asApplied r ≡ Rules.rule4 c (asLevel self) ⌝ }
+    pub fn rule4(self, sets: &[senders::Mask], c: Context) -> Applied
+        requires { ⌜ InLimits c (asLevel (now sets) self) × (slotCount ≤ length (now sets)) ⌝ }
+        ensures { λ r. ⌜ asApplied (now (sets .entry)) r ≡ Rules.rule4 c (asLevel (now (sets .entry)) self) ⌝ }
     {
         if self.first != NOT_YET {
             return self.idle();
         }
-        let w = level_counts_first::result(&self.sets, c.degree, c.n, c.t);
+        let w = level_counts_first::result(sets, c.degree, c.n, c.t);
         if w == NOT_YET {
             return self.idle();
         }
@@ -104,8 +107,8 @@ impl Level {
 
     // Second echo of the first result.
     pub fn rule5(self, c: Context) -> Applied
-        requires { ⌜ InLimits c (asLevel self) ⌝ }
-        ensures { λ r. ⌜ asApplied r ≡ Rules.rule5 c (asLevel self) ⌝ }
+        requires { ⌜ self .first ≤ notYet ⌝ }
+        ensures { λ r. ⌜ ((s : List ℕ) → asApplied s r ≡ Rules.rule5 c (asLevel s self)) ⌝ }
     {
         let w = self.first;
         if w == NOT_YET {
@@ -125,15 +128,15 @@ impl Level {
     }
 
     // Second echo of what t+1 boards echoed.
-    pub fn rule6(self, c: Context) -> Applied
-        requires { ⌜ InLimits c (asLevel self) ⌝ }
-        ensures { λ r. ⌜ asApplied r ≡ Rules.rule6 c (asLevel self) ⌝ }
+    pub fn rule6(self, sets: &[senders::Mask], c: Context) -> Applied
+        requires { ⌜ InLimits c (asLevel (now sets) self) × (slotCount ≤ length (now sets)) ⌝ }
+        ensures { λ r. ⌜ asApplied (now (sets .entry)) r ≡ Rules.rule6 c (asLevel (now (sets .entry)) self) ⌝ }
     {
         if self.first == NOT_YET {
             return self.idle();
         }
         let echoed = self.echoed;
-        let v = level_counts_second::echo(&self.sets, &echoed, c.degree, c.t);
+        let v = level_counts_second::echo(sets, &echoed, c.degree, c.t);
         if v == NOT_YET {
             return self.idle();
         }
@@ -148,9 +151,9 @@ impl Level {
     }
 
     // Second proposal.
-    pub fn rule7(self, c: Context) -> Applied
-        requires { ⌜ InLimits c (asLevel self) ⌝ }
-        ensures { λ r. ⌜ asApplied r ≡ Rules.rule7 c (asLevel self) ⌝ }
+    pub fn rule7(self, sets: &[senders::Mask], c: Context) -> Applied
+        requires { ⌜ InLimits c (asLevel (now sets) self) × (slotCount ≤ length (now sets)) ⌝ }
+        ensures { λ r. ⌜ asApplied (now (sets .entry)) r ≡ Rules.rule7 c (asLevel (now (sets .entry)) self) ⌝ }
     {
         let first = self.first;
         if first == NOT_YET {
@@ -159,7 +162,7 @@ impl Level {
         if self.second_proposal != NOT_YET {
             return self.idle();
         }
-        let w = level_counts_second::proposal(&self.sets, c.degree, c.t);
+        let w = level_counts_second::proposal(sets, c.degree, c.t);
         if w == NOT_YET {
             return self.idle();
         }
@@ -173,9 +176,9 @@ impl Level {
     }
 
     // The result.
-    pub fn rule8(self, c: Context) -> Applied
-        requires { ⌜ InLimits c (asLevel self) ⌝ }
-        ensures { λ r. ⌜ asApplied r ≡ Rules.rule8 c (asLevel self) ⌝ }
+    pub fn rule8(self, sets: &[senders::Mask], c: Context) -> Applied
+        requires { ⌜ InLimits c (asLevel (now sets) self) × (slotCount ≤ length (now sets)) ⌝ }
+        ensures { λ r. ⌜ asApplied (now (sets .entry)) r ≡ Rules.rule8 c (asLevel (now (sets .entry)) self) ⌝ }
     {
         if self.first == NOT_YET {
             return self.idle();
@@ -183,7 +186,7 @@ impl Level {
         if self.result != NOT_YET {
             return self.idle();
         }
-        let g = level_counts_second::result(&self.sets, c.degree, c.n, c.t);
+        let g = level_counts_second::result(sets, c.degree, c.n, c.t);
         if g.value == NOT_YET {
             return self.idle();
         }
@@ -198,7 +201,7 @@ impl Level {
 
     // The output x, if there is none yet.
     fn answer(self, x: base::Position) -> Applied
-        ensures { λ r. ⌜ asApplied r ≡ Rules.when (Rules.unanswered (asLevel self)) (asLevel self) (Rules.does (withOutput (asLevel self) x) Quiet) ⌝ }
+        ensures { λ r. ⌜ ((s : List ℕ) → asApplied s r ≡ Rules.when (Rules.unanswered (asLevel s self)) (asLevel s self) (Rules.does (withOutput (asLevel s self) x) Quiet)) ⌝ }
     {
         if self.output != NO_OUTPUT {
             return self.idle();
@@ -213,7 +216,7 @@ impl Level {
 
     // The centre as output, after result 0.
     pub fn rule9(self, c: Context) -> Applied
-        ensures { λ r. ⌜ asApplied r ≡ Rules.rule9 c (asLevel self) ⌝ }
+        ensures { λ r. ⌜ ((s : List ℕ) → asApplied s r ≡ Rules.rule9 c (asLevel s self)) ⌝ }
     {
         if self.result != 0 {
             return self.idle();
@@ -223,7 +226,7 @@ impl Level {
 
     // The next level entered, after a result of 1 or more.
     pub fn rule10(self, c: Context) -> Applied
-        ensures { λ r. ⌜ asApplied r ≡ Rules.rule10 c (asLevel self) ⌝ }
+        ensures { λ r. ⌜ ((s : List ℕ) → asApplied s r ≡ Rules.rule10 c (asLevel s self)) ⌝ }
     {
         let k = self.result;
         if k < 1 {
@@ -252,7 +255,7 @@ impl Level {
 
     // The centre as output and told, after result none.
     pub fn rule11(self, c: Context) -> Applied
-        ensures { λ r. ⌜ asApplied r ≡ Rules.rule11 c (asLevel self) ⌝ }
+        ensures { λ r. ⌜ ((s : List ℕ) → asApplied s r ≡ Rules.rule11 c (asLevel s self)) ⌝ }
     {
         if self.result != NONE {
             return self.idle();
@@ -273,9 +276,9 @@ impl Level {
     }
 
     // The next level entered, by t+1 side messages.
-    pub fn rule12(self, c: Context) -> Applied
-        requires { ⌜ InLimits c (asLevel self) ⌝ }
-        ensures { λ r. ⌜ asApplied r ≡ Rules.rule12 c (asLevel self) ⌝ }
+    pub fn rule12(self, sets: &[senders::Mask], c: Context) -> Applied
+        requires { ⌜ InLimits c (asLevel (now sets) self) × (slotCount ≤ length (now sets)) ⌝ }
+        ensures { λ r. ⌜ asApplied (now (sets .entry)) r ≡ Rules.rule12 c (asLevel (now (sets .entry)) self) ⌝ }
     {
         if self.result != NONE {
             return self.idle();
@@ -283,7 +286,7 @@ impl Level {
         if c.next_entered {
             return self.idle();
         }
-        let k = level_counts_second::side(&self.sets, c.degree, c.t);
+        let k = level_counts_second::side(sets, c.degree, c.t);
         if k == NOT_YET {
             return self.idle();
         }
@@ -297,11 +300,11 @@ impl Level {
     }
 
     // The centre as output, by t+1 centre messages.
-    pub fn rule13(self, c: Context) -> Applied
-        requires { ⌜ InLimits c (asLevel self) ⌝ }
-        ensures { λ r. ⌜ asApplied r ≡ Rules.rule13 c (asLevel self) ⌝ }
+    pub fn rule13(self, sets: &[senders::Mask], c: Context) -> Applied
+        requires { ⌜ InLimits c (asLevel (now sets) self) × (slotCount ≤ length (now sets)) ⌝ }
+        ensures { λ r. ⌜ asApplied (now (sets .entry)) r ≡ Rules.rule13 c (asLevel (now (sets .entry)) self) ⌝ }
     {
-        if !level_counts_second::centre_due(&self.sets, c.t) {
+        if !level_counts_second::centre_due(sets, c.t) {
             return self.idle();
         }
         self.answer(c.centre)
@@ -309,7 +312,7 @@ impl Level {
 
     // The next level's output.
     pub fn rule14(self, c: Context) -> Applied
-        ensures { λ r. ⌜ asApplied r ≡ Rules.rule14 c (asLevel self) ⌝ }
+        ensures { λ r. ⌜ ((s : List ℕ) → asApplied s r ≡ Rules.rule14 c (asLevel s self)) ⌝ }
     {
         let value = self.result;
         if value < 1 {

@@ -2,7 +2,7 @@
 ghost use mathlib.Core.Path.{_≡_};
 ghost use Prim.Native.Nat.{_+_, _-_, _≤_, _<_};
 ghost use lib.Dec.{leb};
-ghost use lib.ListN.{getD};
+ghost use lib.ListN.{length, getD};
 ghost use Rattle.base.specs.Pick.{pick, smallest};
 ghost use Rattle.base.specs.Sets.{count};
 ghost use Rattle.message.specs.Message.{noneValue};
@@ -33,9 +33,6 @@ pub const SIDES: usize = SECOND_PROPOSALS + NONE_PLACE;
 pub const CENTRES: usize = SIDES + NONE_PLACE;
 // How many messages differ at a level: one set of senders for each.
 pub const SLOTS: usize = CENTRES + 1;
-
-// The sets of senders of a level.
-pub type Sets = [senders::Mask; SLOTS];
 
 // These constants.
 pub struct Places {
@@ -99,8 +96,8 @@ pub fn candidate(degree: usize, i: usize) -> usize
 }
 
 // The first of the `number` sets from `from` on that has k senders, counted from 0; `number` if none has.
-pub fn first_reaching(sets: &Sets, from: usize, number: usize, k: u32) -> usize
-    requires { ⌜ from + number ≤ slotCount ⌝ }
+pub fn first_reaching(sets: &[senders::Mask], from: usize, number: usize, k: u32) -> usize
+    requires { ⌜ (from + number ≤ slotCount) × (slotCount ≤ length (now sets)) ⌝ }
     ensures { λ r. ⌜ r ≡ smallest number (λ i. atLeast k (getD (now (sets .entry)) (from + i) 0)) ⌝ }
 {
     let mut i = 0;
@@ -114,8 +111,8 @@ pub fn first_reaching(sets: &Sets, from: usize, number: usize, k: u32) -> usize
 }
 
 // How many of the `number` sets from `from` on have k senders.
-pub fn count_reaching(sets: &Sets, from: usize, number: usize, k: u32) -> usize
-    requires { ⌜ from + number ≤ slotCount ⌝ }
+pub fn count_reaching(sets: &[senders::Mask], from: usize, number: usize, k: u32) -> usize
+    requires { ⌜ (from + number ≤ slotCount) × (slotCount ≤ length (now sets)) ⌝ }
     ensures { λ r. ⌜ r ≡ count number (λ i. atLeast k (getD (now (sets .entry)) (from + i) 0)) ⌝ }
 {
     let mut i = 0;

@@ -3,11 +3,11 @@ ghost use mathlib.Core.Path.{_≡_};
 ghost use mathlib.Core.Bool.{not, _&&_};
 ghost use Prim.Native.Nat.{_+_, _*_, _≤_, _<_};
 ghost use lib.Dec.{eqb};
-ghost use lib.ListN.{getD};
+ghost use lib.ListN.{length, getD};
 ghost use Rattle.base.specs.Limits.{maxDegree, maxBoards};
 ghost use Rattle.base.specs.Pick.{pick, smallest};
 ghost use Rattle.senders.specs.Senders.{union, unionOver, atLeast};
-ghost use Rattle.level_counts.specs.Places.{bitPlaces};
+ghost use Rattle.level_counts.specs.Places.{bitPlaces, slotCount};
 ghost use Rattle.level_counts_first.specs.Inner.{noneDue, proposable, proposalOf, withDigit, splitAtPlace, splits, resultOf};
 
 // The union of a and b where the test holds, else a.
@@ -18,8 +18,8 @@ fn either_if(test: bool, a: senders::Mask, b: senders::Mask) -> senders::Mask
 }
 
 // Rule 2: the senders that first-echoed a value other than the port.
-fn other_echoes(sets: &level_counts::Sets, degree: usize, port: usize) -> senders::Mask
-    requires { ⌜ degree ≤ maxDegree ⌝ }
+fn other_echoes(sets: &[senders::Mask], degree: usize, port: usize) -> senders::Mask
+    requires { ⌜ (degree ≤ maxDegree) × (slotCount ≤ length (now sets)) ⌝ }
     ensures { λ r. ⌜ r ≡ unionOver (λ v. not (eqb v port)) (λ v. getD (now (sets .entry)) v 0) (degree + 1) ⌝ }
 {
     let mut m = 0;
@@ -32,8 +32,8 @@ fn other_echoes(sets: &level_counts::Sets, degree: usize, port: usize) -> sender
 }
 
 // Rule 2: did t+1 senders first-echo a value other than the port?
-pub fn none_due(sets: &level_counts::Sets, degree: u32, port: u8, t: u32) -> bool
-    requires { ⌜ (degree ≤ maxDegree) × (t < maxBoards) ⌝ }
+pub fn none_due(sets: &[senders::Mask], degree: u32, port: u8, t: u32) -> bool
+    requires { ⌜ (degree ≤ maxDegree) × (t < maxBoards) × (slotCount ≤ length (now sets)) ⌝ }
     ensures { λ r. ⌜ r ≡ noneDue (now (sets .entry)) degree port t ⌝ }
 {
     let others = other_echoes(sets, degree as usize, port as usize);
@@ -52,8 +52,8 @@ fn may_propose(mine: senders::Mask, none: senders::Mask, t: u32) -> bool
 }
 
 // Rule 3: the smallest value that may be proposed; degree + 1 if none may.
-fn first_proposable(sets: &level_counts::Sets, degree: usize, t: u32) -> usize
-    requires { ⌜ (degree ≤ maxDegree) × (t < maxBoards) ⌝ }
+fn first_proposable(sets: &[senders::Mask], degree: usize, t: u32) -> usize
+    requires { ⌜ (degree ≤ maxDegree) × (t < maxBoards) × (slotCount ≤ length (now sets)) ⌝ }
     ensures { λ r. ⌜ r ≡ smallest (degree + 1) (proposable (now (sets .entry)) t) ⌝ }
 {
     let none = sets[level_counts::NONE_PLACE];
@@ -68,8 +68,8 @@ fn first_proposable(sets: &level_counts::Sets, degree: usize, t: u32) -> usize
 }
 
 // Rule 3: the value to propose, or level_counts::NOT_YET.
-pub fn proposal(sets: &level_counts::Sets, degree: u32, t: u32) -> u8
-    requires { ⌜ (degree ≤ maxDegree) × (t < maxBoards) ⌝ }
+pub fn proposal(sets: &[senders::Mask], degree: u32, t: u32) -> u8
+    requires { ⌜ (degree ≤ maxDegree) × (t < maxBoards) × (slotCount ≤ length (now sets)) ⌝ }
     ensures { λ r. ⌜ r ≡ proposalOf (now (sets .entry)) degree t ⌝ }
 {
     let d = degree as usize;
@@ -81,8 +81,8 @@ pub fn proposal(sets: &level_counts::Sets, degree: u32, t: u32) -> u8
 }
 
 // Rule 4: the senders that first-echoed none or a value with this digit at this place.
-fn digit_echoes(sets: &level_counts::Sets, degree: usize, place: u32, digit: usize) -> senders::Mask
-    requires { ⌜ (degree ≤ maxDegree) × (place < bitPlaces) ⌝ }
+fn digit_echoes(sets: &[senders::Mask], degree: usize, place: u32, digit: usize) -> senders::Mask
+    requires { ⌜ (degree ≤ maxDegree) × (place < bitPlaces) × (slotCount ≤ length (now sets)) ⌝ }
     ensures { λ r. ⌜ r ≡ withDigit (now (sets .entry)) degree place digit ⌝ }
 {
     let mut m = 0;
@@ -95,8 +95,8 @@ fn digit_echoes(sets: &level_counts::Sets, degree: usize, place: u32, digit: usi
 }
 
 // Rule 4: at this place both digits have t+1 senders.
-fn split_at(sets: &level_counts::Sets, degree: usize, t: u32, place: u32) -> bool
-    requires { ⌜ (degree ≤ maxDegree) × (t < maxBoards) × (place < bitPlaces) ⌝ }
+fn split_at(sets: &[senders::Mask], degree: usize, t: u32, place: u32) -> bool
+    requires { ⌜ (degree ≤ maxDegree) × (t < maxBoards) × (place < bitPlaces) × (slotCount ≤ length (now sets)) ⌝ }
     ensures { λ r. ⌜ r ≡ splitAtPlace (now (sets .entry)) degree t place ⌝ }
 {
     if senders::reaches(digit_echoes(sets, degree, place, 0), t + 1) {
@@ -106,8 +106,8 @@ fn split_at(sets: &level_counts::Sets, degree: usize, t: u32, place: u32) -> boo
 }
 
 // Rule 4: at some place both digits have t+1 senders.
-fn split(sets: &level_counts::Sets, degree: usize, t: u32) -> bool
-    requires { ⌜ (degree ≤ maxDegree) × (t < maxBoards) ⌝ }
+fn split(sets: &[senders::Mask], degree: usize, t: u32) -> bool
+    requires { ⌜ (degree ≤ maxDegree) × (t < maxBoards) × (slotCount ≤ length (now sets)) ⌝ }
     ensures { λ r. ⌜ r ≡ splits (now (sets .entry)) degree t ⌝ }
 {
     let mut place: u32 = 0;
@@ -121,8 +121,8 @@ fn split(sets: &level_counts::Sets, degree: usize, t: u32) -> bool
 }
 
 // Rule 4: the first result, none, or level_counts::NOT_YET.
-pub fn result(sets: &level_counts::Sets, degree: u32, n: u32, t: u32) -> u8
-    requires { ⌜ (degree ≤ maxDegree) × (t < n) × (n ≤ maxBoards) ⌝ }
+pub fn result(sets: &[senders::Mask], degree: u32, n: u32, t: u32) -> u8
+    requires { ⌜ (degree ≤ maxDegree) × (t < n) × (n ≤ maxBoards) × (slotCount ≤ length (now sets)) ⌝ }
     ensures { λ r. ⌜ r ≡ resultOf (now (sets .entry)) degree n t ⌝ }
 {
     let d = degree as usize;

@@ -4,12 +4,12 @@ ghost use mathlib.Core.Path.{_≡_};
 ghost use mathlib.Core.Bool.{not, _&&_};
 ghost use Prim.Native.Nat.{_+_, _≤_, _<_};
 ghost use lib.Dec.{leb};
-ghost use lib.ListN.{getD};
+ghost use lib.ListN.{length, getD};
 ghost use Rattle.base.specs.Limits.{maxDegree, maxBoards};
 ghost use Rattle.base.specs.Pick.{pick, smallest};
 ghost use Rattle.message.specs.Message.{noneValue};
 ghost use Rattle.senders.specs.Senders.{atLeast};
-ghost use Rattle.level_counts.specs.Places.{notYet, secondProposals, centres};
+ghost use Rattle.level_counts.specs.Places.{notYet, secondProposals, centres, slotCount};
 ghost use Rattle.level_counts_second.specs.Inner.{unechoed, echoOf, proposalOf, unsureOf, resultOf, sideOf};
 
 // The sets of none among the second echoes, and of side 1.
@@ -35,13 +35,13 @@ fn due(m: senders::Mask, k: u32, done: bool) -> bool
 
 // Rule 6: the first candidate with k senders that was not echoed yet, its sets being those from `from` on; degree + 2 if there is none.
 fn first_unechoed(
-    sets: &level_counts::Sets,
+    sets: &[senders::Mask],
     echoed: &[bool; level_counts::VALUES],
     from: usize,
     degree: usize,
     k: u32,
 ) -> usize
-    requires { ⌜ (degree ≤ maxDegree) × (from ≤ secondProposals) ⌝ }
+    requires { ⌜ (degree ≤ maxDegree) × (from ≤ secondProposals) × (slotCount ≤ length (now sets)) ⌝ }
     ensures { λ r. ⌜ r ≡ smallest (degree + 2) (λ i. unechoed (now (sets .entry)) (now (echoed .entry)) from k (pick (leb i degree) i noneValue)) ⌝ }
 {
     let mut i = 0;
@@ -56,8 +56,8 @@ fn first_unechoed(
 }
 
 // The first candidate with k senders, its sets being those from `from` on; degree + 2 if there is none.
-fn first_candidate(sets: &level_counts::Sets, from: usize, degree: usize, k: u32) -> usize
-    requires { ⌜ (degree ≤ maxDegree) × (from ≤ secondProposals) ⌝ }
+fn first_candidate(sets: &[senders::Mask], from: usize, degree: usize, k: u32) -> usize
+    requires { ⌜ (degree ≤ maxDegree) × (from ≤ secondProposals) × (slotCount ≤ length (now sets)) ⌝ }
     ensures { λ r. ⌜ r ≡ smallest (degree + 2) (λ i. atLeast k (getD (now (sets .entry)) (from + pick (leb i degree) i noneValue) 0)) ⌝ }
 {
     let i = level_counts::first_reaching(sets, from, degree + 1, k);
@@ -72,12 +72,12 @@ fn first_candidate(sets: &level_counts::Sets, from: usize, degree: usize, k: u32
 
 // Rule 6: the value or none to echo, or level_counts::NOT_YET.
 pub fn echo(
-    sets: &level_counts::Sets,
+    sets: &[senders::Mask],
     echoed: &[bool; level_counts::VALUES],
     degree: u32,
     t: u32,
 ) -> u8
-    requires { ⌜ (degree ≤ maxDegree) × (t < maxBoards) ⌝ }
+    requires { ⌜ (degree ≤ maxDegree) × (t < maxBoards) × (slotCount ≤ length (now sets)) ⌝ }
     ensures { λ r. ⌜ (r ≡ echoOf (now (sets .entry)) (now (echoed .entry)) degree t) × (r ≤ notYet) ⌝ }
 {
     let d = degree as usize;
@@ -89,8 +89,8 @@ pub fn echo(
 }
 
 // Rule 7: the value or none to propose, or level_counts::NOT_YET.
-pub fn proposal(sets: &level_counts::Sets, degree: u32, t: u32) -> u8
-    requires { ⌜ (degree ≤ maxDegree) × (t < maxBoards) ⌝ }
+pub fn proposal(sets: &[senders::Mask], degree: u32, t: u32) -> u8
+    requires { ⌜ (degree ≤ maxDegree) × (t < maxBoards) × (slotCount ≤ length (now sets)) ⌝ }
     ensures { λ r. ⌜ r ≡ proposalOf (now (sets .entry)) degree t ⌝ }
 {
     let d = degree as usize;
@@ -102,8 +102,8 @@ pub fn proposal(sets: &level_counts::Sets, degree: u32, t: u32) -> u8
 }
 
 // Rule 8, grade 1: the value with t+1 second echoes, where none has as many and no other value has; or level_counts::NOT_YET.
-fn unsure(sets: &level_counts::Sets, d: usize, t: u32) -> u8
-    requires { ⌜ (d ≤ maxDegree) × (t < maxBoards) ⌝ }
+fn unsure(sets: &[senders::Mask], d: usize, t: u32) -> u8
+    requires { ⌜ (d ≤ maxDegree) × (t < maxBoards) × (slotCount ≤ length (now sets)) ⌝ }
     ensures { λ r. ⌜ r ≡ unsureOf (now (sets .entry)) d t ⌝ }
 {
     if !senders::reaches(sets[NONE_ECHO], t + 1) {
@@ -116,8 +116,8 @@ fn unsure(sets: &level_counts::Sets, d: usize, t: u32) -> u8
 }
 
 // Rule 8: the result, by n-t second proposals, else by second echoes.
-pub fn result(sets: &level_counts::Sets, degree: u32, n: u32, t: u32) -> Graded
-    requires { ⌜ (degree ≤ maxDegree) × (t < n) × (n ≤ maxBoards) ⌝ }
+pub fn result(sets: &[senders::Mask], degree: u32, n: u32, t: u32) -> Graded
+    requires { ⌜ (degree ≤ maxDegree) × (t < n) × (n ≤ maxBoards) × (slotCount ≤ length (now sets)) ⌝ }
     ensures { λ r. ⌜ r ≡ resultOf (now (sets .entry)) degree n t ⌝ }
 {
     let d = degree as usize;
@@ -138,8 +138,8 @@ pub fn result(sets: &level_counts::Sets, degree: u32, n: u32, t: u32) -> Graded
 }
 
 // Rule 12: the smallest side with t+1 senders, or level_counts::NOT_YET.
-pub fn side(sets: &level_counts::Sets, degree: u32, t: u32) -> u8
-    requires { ⌜ (degree ≤ maxDegree) × (t < maxBoards) ⌝ }
+pub fn side(sets: &[senders::Mask], degree: u32, t: u32) -> u8
+    requires { ⌜ (degree ≤ maxDegree) × (t < maxBoards) × (slotCount ≤ length (now sets)) ⌝ }
     ensures { λ r. ⌜ r ≡ sideOf (now (sets .entry)) degree t ⌝ }
 {
     let d = degree as usize;
@@ -151,8 +151,8 @@ pub fn side(sets: &level_counts::Sets, degree: u32, t: u32) -> u8
 }
 
 // Rule 13: are there t+1 senders of the centre?
-pub fn centre_due(sets: &level_counts::Sets, t: u32) -> bool
-    requires { ⌜ t < maxBoards ⌝ }
+pub fn centre_due(sets: &[senders::Mask], t: u32) -> bool
+    requires { ⌜ (t < maxBoards) × (slotCount ≤ length (now sets)) ⌝ }
     ensures { λ r. ⌜ r ≡ atLeast (t + 1) (getD (now (sets .entry)) centres 0) ⌝ }
 {
     senders::reaches(sets[level_counts::CENTRES], t + 1)

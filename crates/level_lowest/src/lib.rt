@@ -1,48 +1,81 @@
 // Which rule of a level is applied: the lowest of the fourteen that applies.
 ghost use mathlib.Core.Path.{_≡_};
+ghost use Prim.Native.Nat.{_≤_};
+ghost use lib.ListN.{length};
+ghost use Rattle.level.specs.Level.{slotCount};
 ghost use Rattle.level.specs.Inner.{InLimits};
 ghost use Rattle.level.specs.Rules.{lowestRule};
-ghost use Rattle.level_lowest.specs.Inner.{ruleOf};
 ghost use Rattle.level.specs.Tie.{asLevel, asApplied};
 
-const RULES: u32 = 14;
-
-// Rule i of 1 to RULES.
-fn rule(l: level::Level, c: level::Context, i: u32) -> level::Applied
-    requires { ⌜ InLimits c (asLevel l) ⌝ }
-    ensures { λ r. ⌜ asApplied r ≡ ruleOf c (asLevel l) i ⌝ }
+// The lowest rule that applies. Said rule by rule and not as a loop over their numbers, so that a rule that does not apply moves nothing.
+pub fn lowest_rule(l: level::Level, sets: &[senders::Mask], c: level::Context) -> level::Applied
+    requires { ⌜ InLimits c (asLevel (now sets) l) × (slotCount ≤ length (now sets)) ⌝ }
+    ensures { λ r. ⌜ asApplied (now (sets .entry)) r ≡ lowestRule c (asLevel (now (sets .entry)) l) ⌝ }
 {
-    match i {
-        1 => l.rule1(c),
-        2 => l.rule2(c),
-        3 => l.rule3(c),
-        4 => l.rule4(c),
-        5 => l.rule5(c),
-        6 => l.rule6(c),
-        7 => l.rule7(c),
-        8 => l.rule8(c),
-        9 => l.rule9(c),
-        10 => l.rule10(c),
-        11 => l.rule11(c),
-        12 => l.rule12(c),
-        13 => l.rule13(c),
-        _ => l.rule14(c),
+    let a = l.rule1(c);
+    let e = a.effect;
+    if level::applies(e) {
+        return a;
     }
-}
-
-// The lowest rule that applies.
-pub fn lowest_rule(l: level::Level, c: level::Context) -> level::Applied
-    requires { ⌜ InLimits c (asLevel l) ⌝ }
-    ensures { λ r. ⌜ asApplied r ≡ lowestRule c (asLevel l) ⌝ }
-{
-    let mut i: u32 = 1;
-    while i < RULES {
-        let a = rule(l, c, i);
-        let e = a.effect;
-        if level::applies(e) {
-            return a;
-        }
-        i += 1;
+    let a = l.rule2(sets, c);
+    let e = a.effect;
+    if level::applies(e) {
+        return a;
     }
-    rule(l, c, i)
+    let a = l.rule3(sets, c);
+    let e = a.effect;
+    if level::applies(e) {
+        return a;
+    }
+    let a = l.rule4(sets, c);
+    let e = a.effect;
+    if level::applies(e) {
+        return a;
+    }
+    let a = l.rule5(c);
+    let e = a.effect;
+    if level::applies(e) {
+        return a;
+    }
+    let a = l.rule6(sets, c);
+    let e = a.effect;
+    if level::applies(e) {
+        return a;
+    }
+    let a = l.rule7(sets, c);
+    let e = a.effect;
+    if level::applies(e) {
+        return a;
+    }
+    let a = l.rule8(sets, c);
+    let e = a.effect;
+    if level::applies(e) {
+        return a;
+    }
+    let a = l.rule9(c);
+    let e = a.effect;
+    if level::applies(e) {
+        return a;
+    }
+    let a = l.rule10(c);
+    let e = a.effect;
+    if level::applies(e) {
+        return a;
+    }
+    let a = l.rule11(c);
+    let e = a.effect;
+    if level::applies(e) {
+        return a;
+    }
+    let a = l.rule12(sets, c);
+    let e = a.effect;
+    if level::applies(e) {
+        return a;
+    }
+    let a = l.rule13(sets, c);
+    let e = a.effect;
+    if level::applies(e) {
+        return a;
+    }
+    l.rule14(c)
 }

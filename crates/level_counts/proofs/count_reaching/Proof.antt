@@ -32,7 +32,7 @@ abbrev μ-loop : tie.MeasureT-loop
 μ-loop sets from number k i₀ sum₀ i sum = number - i
 
 loop-holds : tie.Need-loop-holds Inv-loop μ-loop
-loop-holds c = (omega arith, sym (count-start (has (c .args .sets .now) (c .args .from) (c .args .k))))
+loop-holds c = (omega arith, sym (count-start (has (c .before .args .sets .now) (c .before .args .from) (c .before .args .k))))
 
 add-reaches : tie.Need-add-reaches Inv-loop μ-loop
 add-reaches c = omega arith
@@ -40,8 +40,8 @@ add-reaches c = omega arith
 mul-reaches : tie.Need-mul-reaches Inv-loop μ-loop
 mul-reaches c = omega arith
 
-element-copy-out-reaches : tie.Need-element-copy-out-reaches Inv-loop μ-loop
-element-copy-out-reaches c = omega arith
+shared-slice-read-reaches : tie.Need-shared-slice-read-reaches Inv-loop μ-loop
+shared-slice-read-reaches c = omega arith
 
 reaches-requires : tie.Need-reaches-requires Inv-loop μ-loop
 reaches-requires c κs = search needs
@@ -51,7 +51,7 @@ cast-sum c = omega arith
 
 add-sum : tie.Need-add-sum Inv-loop μ-loop
 add-sum c =
-    let a = c .before .before .before .before .args in
+    let a = c .before .before .before .before .before .args in
     let i = c .before .before .before .loop in
     omega (arith, count-le (i .i) (has (a .sets .now) (a .from) (a .k)), byte-le (c .reaches .result))
 
@@ -63,13 +63,13 @@ loop-less c = omega arith
 
 loop-again : tie.Need-loop-again Inv-loop μ-loop
 loop-again c =
-    let a = c .before .before .before .before .args in
+    let a = c .before .before .before .before .before .args in
     let i = c .before .before .before .loop in
     (omega arith, ap₂ _+_ (i .inv .1) (byte-bit (c .reaches .result) ∙ ap bit (c .reaches .ensures)) ∙ sym (count-next (has (a .sets .now) (a .from) (a .k)) (i .i)))
 
 returns : tie.Need-returns Inv-loop μ-loop
 returns c =
-    let a = c .before .before .args in
+    let a = c .before .before .before .args in
     let i = c .before .loop in
     let e : i .i ≡ a .number = omega arith in
     i .inv .1 ∙ ap (λ (n : ℕ). count n (has (a .sets .now) (a .from) (a .k))) e
@@ -83,7 +83,7 @@ count-reaching-spec =
     loop-holds
     add-reaches
     mul-reaches
-    element-copy-out-reaches
+    shared-slice-read-reaches
     reaches-requires
     cast-sum
     add-sum

@@ -22,7 +22,7 @@ abbrev μ-loop : tie.MeasureT-loop
 μ-loop sets from number k i₀ i = number - i
 
 loop-holds : tie.Need-loop-holds Inv-loop μ-loop
-loop-holds c = (omega arith, search-start (has (c .args .sets .now) (c .args .from) (c .args .k)))
+loop-holds c = (omega arith, search-start (has (c .before .args .sets .now) (c .before .args .from) (c .before .args .k)))
 
 add-reaches : tie.Need-add-reaches Inv-loop μ-loop
 add-reaches c = omega arith
@@ -30,15 +30,15 @@ add-reaches c = omega arith
 mul-reaches : tie.Need-mul-reaches Inv-loop μ-loop
 mul-reaches c = omega arith
 
-element-copy-out-reaches : tie.Need-element-copy-out-reaches Inv-loop μ-loop
-element-copy-out-reaches c = omega arith
+shared-slice-read-reaches : tie.Need-shared-slice-read-reaches Inv-loop μ-loop
+shared-slice-read-reaches c = omega arith
 
 reaches-requires : tie.Need-reaches-requires Inv-loop μ-loop
 reaches-requires c κs = search needs
 
 returns : tie.Need-returns Inv-loop μ-loop
 returns c =
-    let a = c .before .before .before .before .before .args in
+    let a = c .before .before .before .before .before .before .args in
     let i = c .before .before .before .before .loop in
     search-hit (has (a .sets .now) (a .from) (a .k)) (a .number) (i .i) (i .inv .1) (omega arith) (sym (c .before .reaches .ensures) ∙ c .if1 .taken)
 
@@ -50,13 +50,13 @@ loop-less c = omega arith
 
 loop-again : tie.Need-loop-again Inv-loop μ-loop
 loop-again c =
-    let a = c .before .before .before .before .before .args in
+    let a = c .before .before .before .before .before .before .args in
     let i = c .before .before .before .before .loop in
     (omega arith, search-next (has (a .sets .now) (a .from) (a .k)) (i .i) (i .inv .1) (sym (c .before .reaches .ensures) ∙ c .if1 .left))
 
 returns-2 : tie.Need-returns-2 Inv-loop μ-loop
 returns-2 c =
-    let a = c .before .before .args in
+    let a = c .before .before .before .args in
     let i = c .before .loop in
     let e : i .i ≡ a .number = omega arith in
     sym (ap (λ (n : ℕ). smallest n (has (a .sets .now) (a .from) (a .k))) (sym e) ∙ i .inv .1)
@@ -70,7 +70,7 @@ first-reaching-spec =
     loop-holds
     add-reaches
     mul-reaches
-    element-copy-out-reaches
+    shared-slice-read-reaches
     reaches-requires
     returns
     add-i

@@ -27,7 +27,7 @@ abbrev μ-loop : tie.MeasureT-loop
 μ-loop sets d place digit m₀ v₀ m v = d + 1 - v
 
 loop-holds : tie.Need-loop-holds Inv-loop μ-loop
-loop-holds c = (omega arith, sym (over-none (has (c .args .place) (c .args .digit)) (echo (c .args .sets .now))))
+loop-holds c = (omega arith, sym (over-none (has (c .before .args .place) (c .before .args .digit)) (echo (c .before .args .sets .now))))
 
 shr-either-if : tie.Need-shr-either-if Inv-loop μ-loop
 shr-either-if c = omega arith
@@ -35,8 +35,8 @@ shr-either-if c = omega arith
 mul-either-if : tie.Need-mul-either-if Inv-loop μ-loop
 mul-either-if c = omega arith
 
-element-copy-out-either-if : tie.Need-element-copy-out-either-if Inv-loop μ-loop
-element-copy-out-either-if c = omega arith
+shared-slice-read-either-if : tie.Need-shared-slice-read-either-if Inv-loop μ-loop
+shared-slice-read-either-if c = omega arith
 
 either-if-requires : tie.Need-either-if-requires Inv-loop μ-loop
 either-if-requires c κs = search needs
@@ -49,22 +49,22 @@ loop-less c = omega arith
 
 loop-again : tie.Need-loop-again Inv-loop μ-loop
 loop-again c =
-    let a = c .before .before .before .before .args in
+    let a = c .before .before .before .before .before .args in
     let i = c .before .before .before .loop in (
       omega arith,
       c .either-if .ensures ∙ ap (λ (m : ℕ). pick (has (a .place) (a .digit) (i .v)) (union m (echo (a .sets .now) (i .v))) m) (i .inv .1)
           ∙ sym (over-next (has (a .place) (a .digit)) (echo (a .sets .now)) (i .v)),
     )
 
-element-copy-out-either : tie.Need-element-copy-out-either Inv-loop μ-loop
-element-copy-out-either c = omega arith
+shared-slice-read-either : tie.Need-shared-slice-read-either Inv-loop μ-loop
+shared-slice-read-either c = omega arith
 
 either-requires : tie.Need-either-requires Inv-loop μ-loop
 either-requires c κs = search needs
 
 returns : tie.Need-returns Inv-loop μ-loop
 returns c =
-    let a = c .before .before .before .before .args in
+    let a = c .before .before .before .before .before .args in
     let i = c .before .before .before .loop in
     let e : i .v ≡ a .degree + 1 = omega arith in
     c .either .ensures ∙ ap (λ (m : ℕ). union m (echo (a .sets .now) noneValue)) (i .inv .1 ∙ ap (unionOver (has (a .place) (a .digit)) (echo (a .sets .now))) e)
@@ -78,11 +78,11 @@ digit-echoes-spec =
     loop-holds
     shr-either-if
     mul-either-if
-    element-copy-out-either-if
+    shared-slice-read-either-if
     either-if-requires
     add-v
     loop-less
     loop-again
-    element-copy-out-either
+    shared-slice-read-either
     either-requires
     returns)

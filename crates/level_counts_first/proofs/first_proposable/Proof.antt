@@ -15,24 +15,24 @@ Inv-loop sets d t none v₀ v = (v ≤ d + 1) × (smallest v (proposable sets t)
 abbrev μ-loop : tie.MeasureT-loop
 μ-loop sets d t none v₀ v = d + 1 - v
 
-element-copy-out-none : tie.Need-element-copy-out-none Inv-loop μ-loop
-element-copy-out-none c = omega arith
+shared-slice-read-none : tie.Need-shared-slice-read-none Inv-loop μ-loop
+shared-slice-read-none c = omega arith
 
 loop-holds : tie.Need-loop-holds Inv-loop μ-loop
-loop-holds c = (omega arith, search-start (proposable (c .before .args .sets .now) (c .before .args .t)))
+loop-holds c = (omega arith, search-start (proposable (c .before .before .args .sets .now) (c .before .before .args .t)))
 
 mul-may-propose : tie.Need-mul-may-propose Inv-loop μ-loop
 mul-may-propose c = omega arith
 
-element-copy-out-may-propose : tie.Need-element-copy-out-may-propose Inv-loop μ-loop
-element-copy-out-may-propose c = omega arith
+shared-slice-read-may-propose : tie.Need-shared-slice-read-may-propose Inv-loop μ-loop
+shared-slice-read-may-propose c = omega arith
 
 may-propose-requires : tie.Need-may-propose-requires Inv-loop μ-loop
 may-propose-requires c κs = search needs
 
 returns : tie.Need-returns Inv-loop μ-loop
 returns c =
-    let a = c .before .before .before .before .before .before .args in
+    let a = c .before .before .before .before .before .before .before .args in
     let i = c .before .before .before .before .loop in
     search-hit (proposable (a .sets .now) (a .t)) (a .degree + 1) (i .v) (i .inv .1) (omega arith) (sym (c .before .may-propose .ensures) ∙ c .if1 .taken)
 
@@ -44,13 +44,13 @@ loop-less c = omega arith
 
 loop-again : tie.Need-loop-again Inv-loop μ-loop
 loop-again c =
-    let a = c .before .before .before .before .before .before .args in
+    let a = c .before .before .before .before .before .before .before .args in
     let i = c .before .before .before .before .loop in
     (omega arith, search-next (proposable (a .sets .now) (a .t)) (i .v) (i .inv .1) (sym (c .before .may-propose .ensures) ∙ c .if1 .left))
 
 returns-2 : tie.Need-returns-2 Inv-loop μ-loop
 returns-2 c =
-    let a = c .before .before .before .args in
+    let a = c .before .before .before .before .args in
     let i = c .before .loop in
     let e : i .v ≡ a .degree + 1 = omega arith in
     sym (ap (λ (n : ℕ). smallest n (proposable (a .sets .now) (a .t))) (sym e) ∙ i .inv .1)
@@ -61,10 +61,10 @@ first-proposable-spec =
     (tie.spec
     Inv-loop
     μ-loop
-    element-copy-out-none
+    shared-slice-read-none
     loop-holds
     mul-may-propose
-    element-copy-out-may-propose
+    shared-slice-read-may-propose
     may-propose-requires
     returns
     add-v

@@ -17,7 +17,7 @@ reaches-requires c κs = search needs
 
 returns : tie.Need-returns
 returns c =
-    let a = c .before .before .args in
+    let a = c .before .before .before .args in
     c .reaches .ensures ∙ ap (atLeast (a .t + 1)) (c .before .other-echoes .ensures)
 
 pub none-due-spec : {M : Type 1} → statement M

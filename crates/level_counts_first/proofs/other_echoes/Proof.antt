@@ -26,13 +26,13 @@ abbrev μ-loop : tie.MeasureT-loop
 μ-loop sets d port m₀ v₀ m v = d + 1 - v
 
 loop-holds : tie.Need-loop-holds Inv-loop μ-loop
-loop-holds c = (omega arith, sym (over-none (other (c .args .port)) (echo (c .args .sets .now))))
+loop-holds c = (omega arith, sym (over-none (other (c .before .args .port)) (echo (c .before .args .sets .now))))
 
 mul-either-if : tie.Need-mul-either-if Inv-loop μ-loop
 mul-either-if c = omega arith
 
-element-copy-out-either-if : tie.Need-element-copy-out-either-if Inv-loop μ-loop
-element-copy-out-either-if c = omega arith
+shared-slice-read-either-if : tie.Need-shared-slice-read-either-if Inv-loop μ-loop
+shared-slice-read-either-if c = omega arith
 
 either-if-requires : tie.Need-either-if-requires Inv-loop μ-loop
 either-if-requires c κs = search needs
@@ -45,7 +45,7 @@ loop-less c = omega arith
 
 loop-again : tie.Need-loop-again Inv-loop μ-loop
 loop-again c =
-    let a = c .before .before .before .before .args in
+    let a = c .before .before .before .before .before .args in
     let i = c .before .before .before .loop in (
       omega arith,
       c .either-if .ensures ∙ ap (λ (m : ℕ). pick (other (a .port) (i .v)) (union m (echo (a .sets .now) (i .v))) m) (i .inv .1)
@@ -54,7 +54,7 @@ loop-again c =
 
 returns : tie.Need-returns Inv-loop μ-loop
 returns c =
-    let a = c .before .before .args in
+    let a = c .before .before .before .args in
     let i = c .before .loop in
     let e : i .v ≡ a .degree + 1 = omega arith in
     i .inv .1 ∙ ap (unionOver (other (a .port)) (echo (a .sets .now))) e
@@ -67,7 +67,7 @@ other-echoes-spec =
     μ-loop
     loop-holds
     mul-either-if
-    element-copy-out-either-if
+    shared-slice-read-either-if
     either-if-requires
     add-v
     loop-less

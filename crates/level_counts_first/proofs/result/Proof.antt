@@ -30,7 +30,7 @@ cast-result c = search needs
 
 returns : tie.Need-returns
 returns c =
-    let a = c .before .before .before .args in
+    let a = c .before .before .before .before .args in
     rw (← by-quorum (a .sets .now) (a .degree) (a .n) (a .t) _ _ (c .before .first-reaching .ensures) (c .before .before .quorum .ensures), le-leb _ _ (c .if1 .taken))
 
 split-requires : tie.Need-split-requires
@@ -38,12 +38,12 @@ split-requires c κs = search needs
 
 returns-2 : tie.Need-returns-2
 returns-2 c =
-    let a = c .before .before .before .before .before .args in
+    let a = c .before .before .before .before .before .before .args in
     rw (← by-quorum (a .sets .now) (a .degree) (a .n) (a .t) _ _ (c .before .before .before .first-reaching .ensures) (c .before .before .before .before .quorum .ensures), lt-leb _ _ (c .before .before .if1 .left), sym (c .before .split .ensures) ∙ c .if2 .taken)
 
 returns-3 : tie.Need-returns-3
 returns-3 c =
-    let a = c .before .before .before .before .before .args in
+    let a = c .before .before .before .before .before .before .args in
     rw (← by-quorum (a .sets .now) (a .degree) (a .n) (a .t) _ _ (c .before .before .before .first-reaching .ensures) (c .before .before .before .before .quorum .ensures), lt-leb _ _ (c .before .before .if1 .left), sym (c .before .split .ensures) ∙ c .if2 .left)
 
 pub result-spec : {M : Type 1} → statement M

@@ -18,14 +18,14 @@ abbrev μ-loop : tie.MeasureT-loop
 μ-loop sets degree t place₀ place = bitPlaces - place
 
 loop-holds : tie.Need-loop-holds Inv-loop μ-loop
-loop-holds c = (omega arith, search-start (splitAtPlace (c .args .sets .now) (c .args .degree) (c .args .t)))
+loop-holds c = (omega arith, search-start (splitAtPlace (c .before .args .sets .now) (c .before .args .degree) (c .before .args .t)))
 
 split-at-requires : tie.Need-split-at-requires Inv-loop μ-loop
 split-at-requires c κs = search needs
 
 returns : tie.Need-returns Inv-loop μ-loop
 returns c =
-    let a = c .before .before .before .before .args in
+    let a = c .before .before .before .before .before .args in
     let i = c .before .before .before .loop in
     let e : i .place ≡ smallest bitPlaces (splitAtPlace (a .sets .now) (a .degree) (a .t)) = search-hit (splitAtPlace (a .sets .now) (a .degree) (a .t)) bitPlaces (i .place) (i .inv .1) (omega arith) (sym (c .before .split-at .ensures) ∙ c .if1 .taken) in
     sym (lt-ltb (smallest bitPlaces (splitAtPlace (a .sets .now) (a .degree) (a .t))) bitPlaces (omega arith))
@@ -38,13 +38,13 @@ loop-less c = omega arith
 
 loop-again : tie.Need-loop-again Inv-loop μ-loop
 loop-again c =
-    let a = c .before .before .before .before .args in
+    let a = c .before .before .before .before .before .args in
     let i = c .before .before .before .loop in
     (omega arith, search-next (splitAtPlace (a .sets .now) (a .degree) (a .t)) (i .place) (i .inv .1) (sym (c .before .split-at .ensures) ∙ c .if1 .left))
 
 returns-2 : tie.Need-returns-2 Inv-loop μ-loop
 returns-2 c =
-    let a = c .before .before .args in
+    let a = c .before .before .before .args in
     let i = c .before .loop in
     let e : i .place ≡ bitPlaces = omega arith in
     let z : smallest bitPlaces (splitAtPlace (a .sets .now) (a .degree) (a .t)) ≡ bitPlaces = ap (λ (n : ℕ). smallest n (splitAtPlace (a .sets .now) (a .degree) (a .t))) (sym e) ∙ i .inv .1 ∙ e in

@@ -26,13 +26,13 @@ reaches-requires-2 c κs = search needs
 
 returns : tie.Need-returns
 returns c =
-    let a = c .before .before .before .before .before .args in
+    let a = c .before .before .before .before .before .before .args in
     rw (sym (c .before .before .before .reaches .ensures ∙ ap (atLeast (a .t + 1)) (c .before .before .before .before .digit-echoes .ensures)) ∙ c .before .before .if1 .taken)
     (c .reaches2 .ensures ∙ ap (atLeast (a .t + 1)) (c .before .digit-echoes2 .ensures))
 
 returns-2 : tie.Need-returns-2
 returns-2 c =
-    let a = c .before .before .before .args in
+    let a = c .before .before .before .before .args in
     rw (sym (c .before .reaches .ensures ∙ ap (atLeast (a .t + 1)) (c .before .before .digit-echoes .ensures)) ∙ c .if1 .left)
 
 pub split-at-spec : {M : Type 1} → statement M

@@ -23,12 +23,12 @@ candidate-requires c κs = search needs
 
 cast-result : tie.Need-cast-result
 cast-result c =
-    let a = c .before .before .before .args in
+    let a = c .before .before .before .before .args in
     omega (arith, candidate-le (a .degree) (c .before .before .first-unechoed .result) (omega arith), c .candidate .ensures)
 
 returns-2 : tie.Need-returns-2
 returns-2 c =
-    let a = c .before .before .before .args in (
+    let a = c .before .before .before .before .args in (
       rw (← c .before .before .first-unechoed .ensures, lt-ltb _ _ (c .before .if1 .left), c .candidate .ensures),
       omega (arith, candidate-le (a .degree) (c .before .before .first-unechoed .result) (omega arith), c .candidate .ensures),
     )

@@ -21,7 +21,7 @@ first-reaching-requires c κs = search needs
 
 returns : tie.Need-returns
 returns c =
-    let a = c .before .before .args in
+    let a = c .before .before .before .args in
     candidate-value (has (a .sets .now) (a .from) (a .k)) (a .degree) (c .before .first-reaching .result) (c .before .first-reaching .ensures) (c .if1 .taken)
 
 add-reaches : tie.Need-add-reaches
@@ -30,8 +30,8 @@ add-reaches c = search needs
 mul-reaches : tie.Need-mul-reaches
 mul-reaches c = search needs
 
-element-copy-out-reaches : tie.Need-element-copy-out-reaches
-element-copy-out-reaches c = search needs
+shared-slice-read-reaches : tie.Need-shared-slice-read-reaches
+shared-slice-read-reaches c = search needs
 
 reaches-requires : tie.Need-reaches-requires
 reaches-requires c κs = search needs
@@ -41,7 +41,7 @@ add-result c = search needs
 
 returns-2 : tie.Need-returns-2
 returns-2 c =
-    let a = c .before .before .before .before .before .args in
+    let a = c .before .before .before .before .before .before .args in
     let f = c .before .before .before .before .first-reaching in
     candidate-none (has (a .sets .now) (a .from) (a .k)) (a .degree) (f .result) (f .ensures) (c .before .before .before .if1 .left) (sym (c .before .reaches .ensures) ∙ c .if2 .taken)
 
@@ -50,7 +50,7 @@ add-result-2 c = search needs
 
 returns-3 : tie.Need-returns-3
 returns-3 c =
-    let a = c .before .before .before .before .before .args in
+    let a = c .before .before .before .before .before .before .args in
     let f = c .before .before .before .before .first-reaching in
     candidate-missing (has (a .sets .now) (a .from) (a .k)) (a .degree) (f .result) (f .ensures) (c .before .before .before .if1 .left) (sym (c .before .reaches .ensures) ∙ c .if2 .left)
 
@@ -63,7 +63,7 @@ first-candidate-spec =
     returns
     add-reaches
     mul-reaches
-    element-copy-out-reaches
+    shared-slice-read-reaches
     reaches-requires
     add-result
     returns-2

@@ -24,7 +24,7 @@ abbrev μ-loop : tie.MeasureT-loop
 μ-loop sets echoed from d k i₀ i = d + 2 - i
 
 loop-holds : tie.Need-loop-holds Inv-loop μ-loop
-loop-holds c = (omega arith, search-start (due (c .args .sets .now) (c .args .echoed .now) (c .args .from) (c .args .degree) (c .args .k)))
+loop-holds c = (omega arith, search-start (due (c .before .args .sets .now) (c .before .args .echoed .now) (c .before .args .from) (c .before .args .degree) (c .before .args .k)))
 
 add-loop : tie.Need-add-loop Inv-loop μ-loop
 add-loop c = omega arith
@@ -34,22 +34,22 @@ candidate-requires c κs = search needs
 
 add-due : tie.Need-add-due Inv-loop μ-loop
 add-due c =
-    let a = c .before .before .before .args in
+    let a = c .before .before .before .before .args in
     omega (arith, candidate-le (a .degree) (c .before .before .loop .i) (omega arith), c .candidate .ensures)
 
 mul-due : tie.Need-mul-due Inv-loop μ-loop
 mul-due c =
-    let a = c .before .before .before .args in
+    let a = c .before .before .before .before .args in
     omega (arith, candidate-le (a .degree) (c .before .before .loop .i) (omega arith), c .candidate .ensures)
+
+shared-slice-read-due : tie.Need-shared-slice-read-due Inv-loop μ-loop
+shared-slice-read-due c =
+    let a = c .before .before .before .before .before .args in
+    omega (arith, candidate-le (a .degree) (c .before .before .before .loop .i) (omega arith), c .before .candidate .ensures)
 
 element-copy-out-due : tie.Need-element-copy-out-due Inv-loop μ-loop
 element-copy-out-due c =
-    let a = c .before .before .before .args in
-    omega (arith, candidate-le (a .degree) (c .before .before .loop .i) (omega arith), c .candidate .ensures)
-
-element-copy-out-due-2 : tie.Need-element-copy-out-due-2 Inv-loop μ-loop
-element-copy-out-due-2 c =
-    let a = c .before .before .before .before .args in
+    let a = c .before .before .before .before .before .args in
     omega (arith, candidate-le (a .degree) (c .before .before .before .loop .i) (omega arith), c .before .candidate .ensures)
 
 due-requires : tie.Need-due-requires Inv-loop μ-loop
@@ -57,7 +57,7 @@ due-requires c κs = search needs
 
 returns : tie.Need-returns Inv-loop μ-loop
 returns c =
-    let a = c .before .before .before .before .before .before .before .args in
+    let a = c .before .before .before .before .before .before .before .before .args in
     let i = c .before .before .before .before .before .before .loop in
     search-hit (due (a .sets .now) (a .echoed .now) (a .from) (a .degree) (a .k)) (a .degree + 2) (i .i) (i .inv .1) (omega arith)
     (sym (c .before .due .ensures ∙ ap (unechoed (a .sets .now) (a .echoed .now) (a .from) (a .k)) (c .before .before .before .before .candidate .ensures)) ∙ c .if1 .taken)
@@ -70,7 +70,7 @@ loop-less c = omega arith
 
 loop-again : tie.Need-loop-again Inv-loop μ-loop
 loop-again c =
-    let a = c .before .before .before .before .before .before .before .args in
+    let a = c .before .before .before .before .before .before .before .before .args in
     let i = c .before .before .before .before .before .before .loop in (
       omega arith,
       search-next (due (a .sets .now) (a .echoed .now) (a .from) (a .degree) (a .k)) (i .i) (i .inv .1)
@@ -79,7 +79,7 @@ loop-again c =
 
 returns-2 : tie.Need-returns-2 Inv-loop μ-loop
 returns-2 c =
-    let a = c .before .before .args in
+    let a = c .before .before .before .args in
     let i = c .before .loop in
     let e : i .i ≡ a .degree + 2 = omega arith in
     sym (ap (λ (n : ℕ). smallest n (due (a .sets .now) (a .echoed .now) (a .from) (a .degree) (a .k))) (sym e) ∙ i .inv .1)
@@ -95,8 +95,8 @@ first-unechoed-spec =
     candidate-requires
     add-due
     mul-due
+    shared-slice-read-due
     element-copy-out-due
-    element-copy-out-due-2
     due-requires
     returns
     add-i

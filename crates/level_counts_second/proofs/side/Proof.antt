@@ -28,7 +28,7 @@ first-reaching-requires c κs = search needs
 
 returns : tie.Need-returns
 returns c =
-    let a = c .before .before .args in
+    let a = c .before .before .before .args in
     rw (← c .before .first-reaching .ensures ∙ from-one (a .sets .now) (a .degree) (a .t + 1), le-ltb _ _ (c .if1 .taken))
 
 cast-result : tie.Need-cast-result
@@ -39,7 +39,7 @@ add-result c = search needs
 
 returns-2 : tie.Need-returns-2
 returns-2 c =
-    let a = c .before .before .args in
+    let a = c .before .before .before .args in
     rw (← c .before .first-reaching .ensures ∙ from-one (a .sets .now) (a .degree) (a .t + 1), lt-ltb _ _ (c .if1 .left))
 
 pub side-spec : {M : Type 1} → statement M

@@ -7,8 +7,8 @@ use Rattle.base.proofs.Loops.{search-le}
 use Rattle.level_counts_second.proofs.unsure.Statement.{statement}
 use Rattle.level_counts_second.proofs.unsure.Tie as tie
 
-element-copy-out-reaches : tie.Need-element-copy-out-reaches
-element-copy-out-reaches c = search needs
+shared-slice-read-reaches : tie.Need-shared-slice-read-reaches
+shared-slice-read-reaches c = search needs
 
 add-reaches : tie.Need-add-reaches
 add-reaches c = search needs
@@ -50,7 +50,7 @@ pub unsure-spec : {M : Type 1} → statement M
 unsure-spec =
     tie.close
     (tie.spec
-    element-copy-out-reaches
+    shared-slice-read-reaches
     add-reaches
     reaches-requires
     returns

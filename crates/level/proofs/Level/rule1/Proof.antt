@@ -10,11 +10,11 @@ idle-requires c κs = search needs
 
 returns : tie.Need-returns
 unfolding rule1
-returns c = c .idle .ensures ∙ rw (c .before .if1 .taken)
+returns c s = c .idle .ensures s ∙ rw (c .before .if1 .taken)
 
 returns-2 : tie.Need-returns-2
 unfolding rule1
-returns-2 c = rw (c .if1 .left)
+returns-2 c s = rw (c .if1 .left)
 
 pub rule1-spec : {M : Type 1} → statement M
 rule1-spec = tie.close (tie.spec idle-requires returns returns-2)

@@ -11,29 +11,29 @@ idle-requires c κs = search needs
 
 returns : tie.Need-returns
 unfolding rule10
-returns c = c .idle .ensures ∙ rw (lt-leb _ _ (c .before .if1 .taken))
+returns c s = c .idle .ensures s ∙ rw (lt-leb _ _ (c .before .if1 .taken))
 
 idle-requires-2 : tie.Need-idle-requires-2
 idle-requires-2 c κs = search needs
 
 returns-2 : tie.Need-returns-2
 unfolding rule10
-returns-2 c = c .idle2 .ensures ∙ rw (le-leb _ _ (c .before .before .if1 .left), le-ltb _ _ (c .before .if2 .taken))
+returns-2 c s = c .idle2 .ensures s ∙ rw (le-leb _ _ (c .before .before .if1 .left), le-ltb _ _ (c .before .if2 .taken))
 
 idle-requires-3 : tie.Need-idle-requires-3
 idle-requires-3 c κs = search needs
 
 returns-3 : tie.Need-returns-3
 unfolding rule10
-returns-3 c = c .idle3 .ensures ∙ rw (le-leb _ _ (c .before .before .before .if1 .left), lt-ltb _ _ (c .before .before .if2 .left), c .before .if3 .taken)
+returns-3 c s = c .idle3 .ensures s ∙ rw (le-leb _ _ (c .before .before .before .if1 .left), lt-ltb _ _ (c .before .before .if2 .left), c .before .if3 .taken)
 
 returns-4 : tie.Need-returns-4
 unfolding rule10
-returns-4 c = rw (le-leb _ _ (c .before .before .before .before .if1 .left), lt-ltb _ _ (c .before .before .before .if2 .left), c .before .before .if3 .left, c .before .if4 .taken)
+returns-4 c s = rw (le-leb _ _ (c .before .before .before .before .if1 .left), lt-ltb _ _ (c .before .before .before .if2 .left), c .before .before .if3 .left, c .before .if4 .taken)
 
 returns-5 : tie.Need-returns-5
 unfolding rule10
-returns-5 c = rw (le-leb _ _ (c .before .before .before .if1 .left), lt-ltb _ _ (c .before .before .if2 .left), c .before .if3 .left, c .if4 .left)
+returns-5 c s = rw (le-leb _ _ (c .before .before .before .if1 .left), lt-ltb _ _ (c .before .before .if2 .left), c .before .if3 .left, c .if4 .left)
 
 pub rule10-spec : {M : Type 1} → statement M
 rule10-spec =

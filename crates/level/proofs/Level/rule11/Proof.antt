@@ -11,22 +11,22 @@ idle-requires c κs = search needs
 
 returns : tie.Need-returns
 unfolding rule11
-returns c = c .idle .ensures ∙ rw (ne-eqb _ _ (c .before .if1 .taken))
+returns c s = c .idle .ensures s ∙ rw (ne-eqb _ _ (c .before .if1 .taken))
 
 idle-requires-2 : tie.Need-idle-requires-2
 idle-requires-2 c κs = search needs
 
 returns-2 : tie.Need-returns-2
 unfolding rule11
-returns-2 c = c .idle2 .ensures ∙ rw (eq-eqb _ _ (c .before .before .if1 .left), c .before .if2 .taken)
+returns-2 c s = c .idle2 .ensures s ∙ rw (eq-eqb _ _ (c .before .before .if1 .left), c .before .if2 .taken)
 
 returns-3 : tie.Need-returns-3
 unfolding rule11
-returns-3 c = rw (eq-eqb _ _ (c .before .before .before .if1 .left), c .before .before .if2 .left, eq-eqb _ _ (c .if3 .taken))
+returns-3 c s = rw (eq-eqb _ _ (c .before .before .before .if1 .left), c .before .before .if2 .left, eq-eqb _ _ (c .if3 .taken))
 
 returns-4 : tie.Need-returns-4
 unfolding rule11
-returns-4 c = rw (eq-eqb _ _ (c .before .before .before .if1 .left), c .before .before .if2 .left, ne-eqb _ _ (c .if3 .left))
+returns-4 c s = rw (eq-eqb _ _ (c .before .before .before .if1 .left), c .before .before .if2 .left, ne-eqb _ _ (c .if3 .left))
 
 pub rule11-spec : {M : Type 1} → statement M
 rule11-spec =

@@ -15,14 +15,14 @@ idle-requires c κs = search needs
 
 returns : tie.Need-returns
 unfolding rule13 senders slot
-returns c = c .idle .ensures ∙ rw (sym (c .before .before .centre-due .ensures) ∙ not-true _ (c .before .if1 .taken))
+returns c = c .idle .ensures _ ∙ rw (sym (c .before .before .centre-due .ensures) ∙ not-true _ (c .before .if1 .taken))
 
 answer-requires : tie.Need-answer-requires
 answer-requires c κs = search needs
 
 returns-2 : tie.Need-returns-2
 unfolding rule13 senders slot
-returns-2 c = rw (sym (c .before .before .centre-due .ensures) ∙ not-false _ (c .before .if1 .left)) (c .answer .ensures)
+returns-2 c = rw (sym (c .before .before .centre-due .ensures) ∙ not-false _ (c .before .if1 .left)) (c .answer .ensures _)
 
 pub rule13-spec : {M : Type 1} → statement M
 rule13-spec = tie.close (tie.spec centre-due-requires idle-requires returns answer-requires returns-2)

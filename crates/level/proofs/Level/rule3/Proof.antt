@@ -18,7 +18,7 @@ idle-requires c κs = search needs
 
 returns : tie.Need-returns
 unfolding rule3
-returns c = c .idle .ensures ∙ rw (ne-eqb _ _ (c .before .if1 .taken))
+returns c = c .idle .ensures _ ∙ rw (ne-eqb _ _ (c .before .if1 .taken))
 
 proposal-requires : tie.Need-proposal-requires
 proposal-requires c κs = search needs
@@ -30,16 +30,16 @@ returns-2 : tie.Need-returns-2
 unfolding rule3 mayPropose senders slot
 returns-2 c =
     let a = c .before .before .before .before .before .before .args in
-    c .idle2 .ensures
-    ∙ rw (eq-eqb _ _ (c .before .before .before .before .before .if1 .left))
-    (no-value (a .c .degree) (smallestValue (a .c) (mayPropose (a .c) (asLevel (a .t1)))) _ (omega arith) (c .before .before .proposal .ensures) (c .before .if2 .taken) _ _)
+    c .idle2 .ensures _
+    ∙ rw (eq-eqb _ _ (c .before .before .before .if1 .left))
+    (no-value (a .c .degree) (smallestValue (a .c) (mayPropose (a .c) (asLevel (a .sets .now) (a .self)))) _ (omega arith) (c .before .before .proposal .ensures) (c .before .if2 .taken) _ _)
 
 returns-3 : tie.Need-returns-3
 unfolding rule3 mayPropose senders slot
 returns-3 c =
     let a = c .before .before .before .before .before .args in
-    rw (eq-eqb _ _ (c .before .before .before .before .if1 .left))
-    (chosen (isValue (a .c) (smallestValue (a .c) (mayPropose (a .c) (asLevel (a .t1))))) (smallestValue (a .c) (mayPropose (a .c) (asLevel (a .t1)))) _ (c .before .proposal .ensures) (c .if2 .left) (λ v. does (withProposal (asLevel (a .t1)) v) (Send (FirstProposal v))) _)
+    rw (eq-eqb _ _ (c .before .before .if1 .left))
+    (chosen (isValue (a .c) (smallestValue (a .c) (mayPropose (a .c) (asLevel (a .sets .now) (a .self))))) (smallestValue (a .c) (mayPropose (a .c) (asLevel (a .sets .now) (a .self)))) _ (c .before .proposal .ensures) (c .if2 .left) (λ v. does (withProposal (asLevel (a .sets .now) (a .self)) v) (Send (FirstProposal v))) _)
 
 pub rule3-spec : {M : Type 1} → statement M
 rule3-spec = tie.close (tie.spec idle-requires returns proposal-requires idle-requires-2 returns-2 returns-3)

@@ -17,7 +17,7 @@ idle-requires c κs = search needs
 
 returns : tie.Need-returns
 unfolding rule4
-returns c = c .idle .ensures ∙ rw (ne-eqb _ _ (c .before .if1 .taken))
+returns c = c .idle .ensures _ ∙ rw (ne-eqb _ _ (c .before .if1 .taken))
 
 result-requires : tie.Need-result-requires
 result-requires c κs = search needs
@@ -29,16 +29,16 @@ returns-2 : tie.Need-returns-2
 unfolding rule4 proposed split splitAt digitEchoes senders slot
 returns-2 c =
     let a = c .before .before .before .before .before .before .args in
-    c .idle2 .ensures
-    ∙ rw (eq-eqb _ _ (c .before .before .before .before .before .if1 .left))
-    (no-value-or (a .c .degree) (smallestValue (a .c) (proposed (a .c) (asLevel (a .t1)))) _ (split (a .c) (asLevel (a .t1))) (omega arith) (c .before .before .result .ensures) (c .before .if2 .taken) _ _ _)
+    c .idle2 .ensures _
+    ∙ rw (eq-eqb _ _ (c .before .before .before .if1 .left))
+    (no-value-or (a .c .degree) (smallestValue (a .c) (proposed (a .c) (asLevel (a .sets .now) (a .self)))) _ (split (a .c) (asLevel (a .sets .now) (a .self))) (omega arith) (c .before .before .result .ensures) (c .before .if2 .taken) _ _ _)
 
 returns-3 : tie.Need-returns-3
 unfolding rule4 proposed split splitAt digitEchoes senders slot
 returns-3 c =
     let a = c .before .before .before .before .before .args in
-    rw (eq-eqb _ _ (c .before .before .before .before .if1 .left))
-    (chosen-or (isValue (a .c) (smallestValue (a .c) (proposed (a .c) (asLevel (a .t1))))) (split (a .c) (asLevel (a .t1))) (smallestValue (a .c) (proposed (a .c) (asLevel (a .t1)))) _ (c .before .result .ensures) (c .if2 .left) (λ v. does (withFirst (asLevel (a .t1)) v) Quiet) _)
+    rw (eq-eqb _ _ (c .before .before .if1 .left))
+    (chosen-or (isValue (a .c) (smallestValue (a .c) (proposed (a .c) (asLevel (a .sets .now) (a .self))))) (split (a .c) (asLevel (a .sets .now) (a .self))) (smallestValue (a .c) (proposed (a .c) (asLevel (a .sets .now) (a .self)))) _ (c .before .result .ensures) (c .if2 .left) (λ v. does (withFirst (asLevel (a .sets .now) (a .self)) v) Quiet) _)
 
 pub rule4-spec : {M : Type 1} → statement M
 rule4-spec = tie.close (tie.spec idle-requires returns result-requires idle-requires-2 returns-2 returns-3)

@@ -11,7 +11,7 @@ idle-requires c κs = search needs
 
 returns : tie.Need-returns
 unfolding rule5
-returns c = c .idle .ensures ∙ rw (eq-eqb _ _ (c .before .if1 .taken))
+returns c s = c .idle .ensures s ∙ rw (eq-eqb _ _ (c .before .if1 .taken))
 
 cast-i : tie.Need-cast-i
 cast-i c = search needs
@@ -24,14 +24,14 @@ idle-requires-2 c κs = search needs
 
 returns-2 : tie.Need-returns-2
 unfolding rule5
-returns-2 c = c .idle2 .ensures ∙ rw (ne-eqb _ _ (c .before .before .before .if1 .left), c .before .if2 .taken)
+returns-2 c s = c .idle2 .ensures s ∙ rw (ne-eqb _ _ (c .before .before .before .if1 .left), c .before .if2 .taken)
 
 element-write-l : tie.Need-element-write-l
 element-write-l c = search needs
 
 returns-3 : tie.Need-returns-3
 unfolding rule5
-returns-3 c = rw (ne-eqb _ _ (c .before .before .if1 .left), c .if2 .left)
+returns-3 c s = rw (ne-eqb _ _ (c .before .before .if1 .left), c .if2 .left)
 
 pub rule5-spec : {M : Type 1} → statement M
 rule5-spec =

@@ -20,7 +20,7 @@ idle-requires c κs = search needs
 
 returns : tie.Need-returns
 unfolding rule6
-returns c = c .idle .ensures ∙ rw (eq-eqb _ _ (c .before .if1 .taken))
+returns c = c .idle .ensures _ ∙ rw (eq-eqb _ _ (c .before .if1 .taken))
 
 echo-requires : tie.Need-echo-requires
 echo-requires c κs = search needs
@@ -32,9 +32,9 @@ returns-2 : tie.Need-returns-2
 unfolding rule6 echoedBy senders slot
 returns-2 c =
     let a = c .before .before .before .before .before .before .before .before .args in
-    c .idle2 .ensures
-    ∙ rw (ne-eqb _ _ (c .before .before .before .before .before .before .before .if1 .left))
-    (no-candidate (a .c .degree) (firstCandidate (a .c) (λ w. echoedBy (weak (a .c)) (asLevel (a .t1)) w && not (getD (a .t1 .echoed) w false))) _ (omega arith) (c .before .before .echo .ensures .0) (c .before .if2 .taken) _ _)
+    c .idle2 .ensures _
+    ∙ rw (ne-eqb _ _ (c .before .before .before .before .before .if1 .left))
+    (no-candidate (a .c .degree) (firstCandidate (a .c) (λ w. echoedBy (weak (a .c)) (asLevel (a .sets .now) (a .self)) w && not (getD (a .self .echoed) w false))) _ (omega arith) (c .before .before .echo .ensures .0) (c .before .if2 .taken) _ _)
 
 cast-i : tie.Need-cast-i
 cast-i c = search needs
@@ -46,9 +46,9 @@ returns-3 : tie.Need-returns-3
 unfolding rule6 echoedBy senders slot
 returns-3 c =
     let a = c .before .before .before .before .before .before .before .args in
-    let i = firstCandidate (a .c) (λ w. echoedBy (weak (a .c)) (asLevel (a .t1)) w && not (getD (a .t1 .echoed) w false)) in
-    rw (ne-eqb _ _ (c .before .before .before .before .before .before .if1 .left))
-    (chosen (isCandidate (a .c) i) (candidate (a .c) i) _ (c .before .echo .ensures .0) (c .if2 .left) (λ w. does (withSecondEcho (asLevel (a .t1)) w) (Send (SecondEcho w))) _)
+    let i = firstCandidate (a .c) (λ w. echoedBy (weak (a .c)) (asLevel (a .sets .now) (a .self)) w && not (getD (a .self .echoed) w false)) in
+    rw (ne-eqb _ _ (c .before .before .before .before .if1 .left))
+    (chosen (isCandidate (a .c) i) (candidate (a .c) i) _ (c .before .echo .ensures .0) (c .if2 .left) (λ w. does (withSecondEcho (asLevel (a .sets .now) (a .self)) w) (Send (SecondEcho w))) _)
 
 pub rule6-spec : {M : Type 1} → statement M
 rule6-spec =

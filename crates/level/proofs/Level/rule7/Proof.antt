@@ -18,14 +18,14 @@ idle-requires c κs = search needs
 
 returns : tie.Need-returns
 unfolding rule7
-returns c = c .idle .ensures ∙ rw (eq-eqb _ _ (c .before .if1 .taken))
+returns c = c .idle .ensures _ ∙ rw (eq-eqb _ _ (c .before .if1 .taken))
 
 idle-requires-2 : tie.Need-idle-requires-2
 idle-requires-2 c κs = search needs
 
 returns-2 : tie.Need-returns-2
 unfolding rule7
-returns-2 c = c .idle2 .ensures ∙ rw (ne-eqb _ _ (c .before .before .if1 .left), ne-eqb _ _ (c .before .if2 .taken))
+returns-2 c = c .idle2 .ensures _ ∙ rw (ne-eqb _ _ (c .before .before .before .if1 .left), ne-eqb _ _ (c .before .if2 .taken))
 
 proposal-requires : tie.Need-proposal-requires
 proposal-requires c κs = search needs
@@ -37,17 +37,17 @@ returns-3 : tie.Need-returns-3
 unfolding rule7 echoedBy senders slot
 returns-3 c =
     let a = c .before .before .before .before .before .before .before .args in
-    c .idle3 .ensures
-    ∙ rw (ne-eqb _ _ (c .before .before .before .before .before .before .if1 .left), eq-eqb _ _ (c .before .before .before .before .before .if2 .left))
-    (no-candidate (a .c .degree) (firstCandidate (a .c) (echoedBy (strong (a .c)) (asLevel (a .t1)))) _ (omega arith) (c .before .before .proposal .ensures) (c .before .if3 .taken) _ _)
+    c .idle3 .ensures _
+    ∙ rw (ne-eqb _ _ (c .before .before .before .before .before .if1 .left), eq-eqb _ _ (c .before .before .before .if2 .left))
+    (no-candidate (a .c .degree) (firstCandidate (a .c) (echoedBy (strong (a .c)) (asLevel (a .sets .now) (a .self)))) _ (omega arith) (c .before .before .proposal .ensures) (c .before .if3 .taken) _ _)
 
 returns-4 : tie.Need-returns-4
 unfolding rule7 echoedBy senders slot
 returns-4 c =
     let a = c .before .before .before .before .before .before .args in
-    let i = firstCandidate (a .c) (echoedBy (strong (a .c)) (asLevel (a .t1))) in
-    rw (ne-eqb _ _ (c .before .before .before .before .before .if1 .left), eq-eqb _ _ (c .before .before .before .before .if2 .left))
-    (chosen (isCandidate (a .c) i) (candidate (a .c) i) _ (c .before .proposal .ensures) (c .if3 .left) (λ w. does (withSecondProposal (asLevel (a .t1)) w) (Send (SecondProposal w))) _)
+    let i = firstCandidate (a .c) (echoedBy (strong (a .c)) (asLevel (a .sets .now) (a .self))) in
+    rw (ne-eqb _ _ (c .before .before .before .before .if1 .left), eq-eqb _ _ (c .before .before .if2 .left))
+    (chosen (isCandidate (a .c) i) (candidate (a .c) i) _ (c .before .proposal .ensures) (c .if3 .left) (λ w. does (withSecondProposal (asLevel (a .sets .now) (a .self)) w) (Send (SecondProposal w))) _)
 
 pub rule7-spec : {M : Type 1} → statement M
 rule7-spec =

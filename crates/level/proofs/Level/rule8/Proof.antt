@@ -22,14 +22,14 @@ idle-requires c κs = search needs
 
 returns : tie.Need-returns
 unfolding rule8
-returns c = c .idle .ensures ∙ rw (eq-eqb _ _ (c .before .if1 .taken))
+returns c = c .idle .ensures _ ∙ rw (eq-eqb _ _ (c .before .if1 .taken))
 
 idle-requires-2 : tie.Need-idle-requires-2
 idle-requires-2 c κs = search needs
 
 returns-2 : tie.Need-returns-2
 unfolding rule8
-returns-2 c = c .idle2 .ensures ∙ rw (ne-eqb _ _ (c .before .before .if1 .left), ne-eqb _ _ (c .before .if2 .taken))
+returns-2 c = c .idle2 .ensures _ ∙ rw (ne-eqb _ _ (c .before .before .before .if1 .left), ne-eqb _ _ (c .before .if2 .taken))
 
 result-requires : tie.Need-result-requires
 result-requires c κs = search needs
@@ -40,18 +40,18 @@ idle-requires-3 c κs = search needs
 returns-3 : tie.Need-returns-3
 unfolding rule8 secondProposed echoedBy echoedValues senders slot
 returns-3 c =
-    let a = c .before .before .before .before .before .before .before .before .args in
-    c .idle3 .ensures
-    ∙ rw (ne-eqb _ _ (c .before .before .before .before .before .before .before .if1 .left), eq-eqb _ _ (c .before .before .before .before .before .before .if2 .left))
-    (unrated (a .c .degree) (firstCandidate (a .c) (secondProposed (a .c) (asLevel (a .t1)))) (echoedBy (weak (a .c)) (asLevel (a .t1)) noneValue && eqb (echoedValues (a .c) (asLevel (a .t1))) 1) (echoedBy (weak (a .c)) (asLevel (a .t1))) _ (omega arith) (c .before .before .before .result .ensures) (c .before .if3 .taken) _ _ _)
+    let a = c .before .before .before .before .before .before .before .before .before .args in
+    c .idle3 .ensures _
+    ∙ rw (ne-eqb _ _ (c .before .before .before .before .before .before .if1 .left), eq-eqb _ _ (c .before .before .before .before .if2 .left))
+    (unrated (a .c .degree) (firstCandidate (a .c) (secondProposed (a .c) (asLevel (a .sets .now) (a .self)))) (echoedBy (weak (a .c)) (asLevel (a .sets .now) (a .self)) noneValue && eqb (echoedValues (a .c) (asLevel (a .sets .now) (a .self))) 1) (echoedBy (weak (a .c)) (asLevel (a .sets .now) (a .self))) _ (omega arith) (c .before .before .before .result .ensures) (c .before .if3 .taken) _ _ _)
 
 returns-4 : tie.Need-returns-4
 unfolding rule8 secondProposed echoedBy echoedValues senders slot
 returns-4 c =
-    let a = c .before .before .before .before .before .before .before .args in
-    let i = firstCandidate (a .c) (secondProposed (a .c) (asLevel (a .t1))) in
-    rw (ne-eqb _ _ (c .before .before .before .before .before .before .if1 .left), eq-eqb _ _ (c .before .before .before .before .before .if2 .left))
-    (rated (isCandidate (a .c) i) (echoedBy (weak (a .c)) (asLevel (a .t1)) noneValue && eqb (echoedValues (a .c) (asLevel (a .t1))) 1) (graded (candidate (a .c) i) (isValue (a .c) i)) (smallestValue (a .c) (echoedBy (weak (a .c)) (asLevel (a .t1)))) _ (c .before .before .result .ensures) (c .if3 .left) (λ (g : Graded). does (withResult (asLevel (a .t1)) (g .value) (g .sure)) Quiet) _)
+    let a = c .before .before .before .before .before .before .before .before .args in
+    let i = firstCandidate (a .c) (secondProposed (a .c) (asLevel (a .sets .now) (a .self))) in
+    rw (ne-eqb _ _ (c .before .before .before .before .before .if1 .left), eq-eqb _ _ (c .before .before .before .if2 .left))
+    (rated (isCandidate (a .c) i) (echoedBy (weak (a .c)) (asLevel (a .sets .now) (a .self)) noneValue && eqb (echoedValues (a .c) (asLevel (a .sets .now) (a .self))) 1) (graded (candidate (a .c) i) (isValue (a .c) i)) (smallestValue (a .c) (echoedBy (weak (a .c)) (asLevel (a .sets .now) (a .self)))) _ (c .before .before .result .ensures) (c .if3 .left) (λ (g : Graded). does (withResult (asLevel (a .sets .now) (a .self)) (g .value) (g .sure)) Quiet) _)
 
 pub rule8-spec : {M : Type 1} → statement M
 rule8-spec =

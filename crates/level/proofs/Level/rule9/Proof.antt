@@ -11,14 +11,14 @@ idle-requires c κs = search needs
 
 returns : tie.Need-returns
 unfolding rule9
-returns c = c .idle .ensures ∙ rw (ne-eqb _ _ (c .before .if1 .taken))
+returns c s = c .idle .ensures s ∙ rw (ne-eqb _ _ (c .before .if1 .taken))
 
 answer-requires : tie.Need-answer-requires
 answer-requires c κs = search needs
 
 returns-2 : tie.Need-returns-2
 unfolding rule9
-returns-2 c = rw (eq-eqb _ _ (c .before .if1 .left)) (c .answer .ensures)
+returns-2 c s = rw (eq-eqb _ _ (c .before .if1 .left)) (c .answer .ensures s)
 
 pub rule9-spec : {M : Type 1} → statement M
 rule9-spec = tie.close (tie.spec idle-requires returns answer-requires returns-2)
