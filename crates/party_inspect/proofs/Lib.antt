@@ -2,3 +2,4 @@ pub mod Sets
 pub mod Entries
 pub mod Places
 pub mod Charted
+pub mod Steps

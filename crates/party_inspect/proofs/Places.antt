@@ -1,156 +1,112 @@
--- The place and the results of a level, and the chart with it.
+-- The position and the results of an entered level, and the last level that sends with it.
 use mathlib.Core.Path.{_≡_, refl, sym, ap, _∙_, subst}
-use mathlib.Core.Bool.{Bool, true, false, not, _&&_, _||_}
-use Prim.Native.Nat.{ℕ, suc, _≤_, _<_}
-use lib.Dec.{T, leb}
-use lib.ListN.{set}
+use mathlib.Core.Bool.{Bool, true, false}
+use mathlib.Core.List.{List}
+use Prim.Native.Nat.{ℕ, _+_, _≤_, _<_}
+use native.Mathlib.Numerals.{add-one}
+use native.Mathlib.Omega.{arith}
+use lib.Dec.{T}
 use borrow.Author.Tests.{le-leb, lt-leb}
 use Rattle.base.specs.Sets.{Set}
-use Rattle.base.specs.Limits.{levelCount}
-use Rattle.base.proofs.Bools.{true→T}
 use Rattle.plan.specs.Plan.{Plan}
-use Rattle.component.specs.declared.Component.{Component}
-use Rattle.component.specs.declared.Survey.{Survey}
-use Rattle.component.specs.Component.{sizeOf, degreeOf}
-use Rattle.component.specs.Inner.{members, OfPlan, surveyOf}
-use Rattle.level.specs.Level.{Level}
-use Rattle.party.specs.declared.Chart.{Chart}
-use Rattle.party.specs.Valid.{setsPass, valuePasses}
-use Rattle.party_inspect.specs.declared.Entry.{Entry}
-use Rattle.party_inspect.specs.declared.Inspected.{Inspected}
-use Rattle.party_inspect.specs.Inner.{outputFits, isUnresolved, entryFits, partOf, resultsFit, placeFits, levelFits, Ready, Adds, Enters, Settles, Answers}
-use Rattle.party_inspect.proofs.Entries.{entry-plan}
+use Rattle.component.specs.declared.Centre.{Centre}
+use Rattle.component.specs.declared.Span.{Span}
+use Rattle.component.specs.Component.{sizeOf, degreeOf, portOf}
+use Rattle.component.specs.Inner.{members, OfPlan, Surveyed, Finds, Holds, surveyOf}
+use Rattle.level.specs.declared.Level as Code
+use Rattle.party.specs.Valid.{valuePasses}
+use Rattle.party_inspect.specs.declared.Last.{Last}
+use Rattle.party_inspect.specs.declared.Entered.{Entered}
+use Rattle.party_inspect.specs.Inner.{isUnresolved, valuesFit, resultsFit, partFits, entryFits, partOf, enteredFits, Over, Sends, Settles}
 
--- ---- the results
+-- ---- a level that sends
 
--- a level that does not send adds nothing
-pub adds-none : (p : Plan) (S : Set) (x i : ℕ) (c : Chart) → Adds p false S x i c c
-adds-none p S x i c = record { sending = refl; surveys = refl; deepest = refl }
+module _ (p : Plan) (s : Span) (ports after : List ℕ) (r : Centre) where
+  abbrev S : Set
+  S = members p s ports
 
--- a level of one or two positions
-pub settles-small : (p : Plan) (S : Set) (l : Level) (c : Chart) (i : ℕ) (u : Bool) → sizeOf p S < 3 → u ≡ isUnresolved l
-    → Settles p S l c i (record { ok = u; chart = c })
-unfolding resultsFit
-settles-small p S l c i u h e =
-    let b = lt-leb 3 (sizeOf p S) h in
-    record {
-      passes = e ∙ sym (ap (λ (s : Bool). resultsFit p s S l) b);
-      chart = subst (λ (s : Bool). Adds p s S (l .position) i c c) (sym b) (adds-none p S (l .position) i c);
+  module _ (f : Finds p s S after r) (x : ℕ) where
+    -- what its port asks for
+    pub port-asks : (i : ℕ) → Over p s ports i × (3 ≤ sizeOf p S) × T (S x) → Surveyed p s after × T (members p s after x)
+    port-asks i h = (
+      record { of = subst (OfPlan p) (sym (f .same)) (h .0 .component); three = subst (λ (M : Set). 3 ≤ sizeOf p M) (sym (f .same)) (h .1); numbers = f .numbers },
+      subst (λ (M : Set). T (M x)) (sym (f .same)) (h .2),
+    )
+
+    pub sends-passes : (l : Code.Level) (b : Bool) → b ≡ valuesFit (r .degree) l → b ≡ valuesFit (degreeOf p S) l
+    sends-passes l b h = h ∙ ap (λ (d : ℕ). valuesFit d l) (f .degree)
+
+    pub sends-part : (i port : ℕ) → port ≡ portOf p (members p s after) x
+        → Sends p S x i (record { sending = i + 1; survey = record { centre = r .centre; degree = r .degree; port = port }; span = s }) after
+    unfolding surveyOf
+    sends-part i port e = record {
+      sending = add-one i;
+      survey = rw (f .centre, f .degree, e, f .same);
+      deepest = f .same;
+      numbers = f .numbers;
     }
-
--- the degree that the survey tells
-pub survey-degree : (p : Plan) (S : Set) (x : ℕ) (s : Survey) → s ≡ surveyOf p S x → s .degree ≡ degreeOf p S
-unfolding surveyOf
-survey-degree p S x s e = ap (λ (s : Survey). s .degree) e
 
 -- the two results
-pub first-fails : (d e v w : ℕ) (a : Bool) → d ≡ e → a ≡ valuePasses d v → a ≡ false → false ≡ valuePasses e v && valuePasses e w
-first-fails d e v w a q h f = rw (← q, ← h, f)
+pub first-fails : (d : ℕ) (l : Code.Level) (a : Bool) → a ≡ valuePasses d (l .first) → a ≡ false → false ≡ valuesFit d l
+first-fails d l a h f = rw (← h, f)
 
-pub first-passes : (d e v w : ℕ) (a b : Bool) → d ≡ e → a ≡ valuePasses d v → a ≡ true → b ≡ valuePasses d w → b ≡ valuePasses e v && valuePasses e w
-first-passes d e v w a b q h f g = rw (← q, ← h, f, g)
+pub first-passes : (d : ℕ) (l : Code.Level) (a b : Bool) → a ≡ valuePasses d (l .first) → a ≡ true → b ≡ valuePasses d (l .result) → b ≡ valuesFit d l
+first-passes d l a b h f g = rw (← h, f) g
 
--- a level of three or more
-pub settles-large : (p : Plan) (part : Component) (l : Level) (c : Chart) (i : ℕ) (r : Inspected) (s : Survey)
-    → 3 ≤ sizeOf p (members p part)
-    → s ≡ surveyOf p (members p part) (l .position)
-    → (r .chart .sending ≡ suc i) × (r .chart .surveys ≡ set (c .surveys) i s) × (r .chart .deepest ≡ part)
-    → r .ok ≡ valuePasses (degreeOf p (members p part)) (l .first) && valuePasses (degreeOf p (members p part)) (l .result)
-    → Settles p (members p part) l c i r
-unfolding resultsFit
-settles-large p part l c i r s h e d o =
-    let S : Set = members p part in
-    let b = le-leb 3 (sizeOf p S) h in
-    let a : Adds p true S (l .position) i c (r .chart) = record {
-      sending = d .0;
-      surveys = d .1 ∙ ap (set (c .surveys) i) e;
-      deepest = ap (members p) (d .2);
-    } in
-    record {
-      passes = o ∙ sym (ap (λ (t : Bool). resultsFit p t S l) b);
-      chart = subst (λ (t : Bool). Adds p t S (l .position) i c (r .chart)) (sym b) a;
-    }
+-- ---- the position and the results
 
--- ---- the place
-
--- the test of a level's place and results by its parts
-whole : Bool → Bool → Bool → Bool → (Bool → Bool) → Bool
-whole entered entry inside three results = (not entered || (entry && inside)) && results (entered && three)
-
-module _ (p : Plan) (l : Level) (c : Chart) (i : ℕ) where
-  abbrev S : Set
-  S = partOf p c i (l .side)
-
-  abbrev three : Bool
-  three = leb 3 (sizeOf p S)
-
-  parts : placeFits p l c i ≡ whole (l .entered) (entryFits c i (l .side)) (S (l .position)) three (λ s. resultsFit p s S l)
-  unfolding placeFits whole
-  parts = refl
-
-  -- a level that is not entered
-  pub answers-out : (u : Bool) → l .entered ≡ false → u ≡ isUnresolved l → Answers p (placeFits p l c i) l c i (record { ok = u; chart = c })
-  unfolding resultsFit whole
-  answers-out u e h = record {
-    passes = h ∙ sym (parts ∙ ap (λ (b : Bool). whole b (entryFits c i (l .side)) (S (l .position)) three (λ s. resultsFit p s S l)) e);
-    chart = λ _. subst (λ (b : Bool). Adds p (b && three) S (l .position) i c c) (sym e) (adds-none p S (l .position) i c);
+module _ (p : Plan) (S : Set) (l : Code.Level) (i : ℕ) (a : Last) (ports : List ℕ) where
+  -- the position lies elsewhere
+  pub part-elsewhere : (b : Bool) → b ≡ S (l .position) → b ≡ false → Settles p (partFits p S l) S (l .position) i a (record { ok = false; last = a }) ports
+  unfolding partFits
+  part-elsewhere b h f = record {
+    passes = rw (← h, f);
+    small = λ t. absurd t;
+    large = λ t. absurd t;
   }
 
-  -- a refusal
-  refused : (test : Bool) → test ≡ false → (d : Chart) → Answers p test l c i (record { ok = false; chart = d })
-  refused test e d = record { passes = sym e; chart = λ t. absurd t }
+  module _ (b : Bool) (h : b ≡ S (l .position)) (f : b ≡ true) where
+    in-part : partFits p S l ≡ resultsFit p S l
+    unfolding partFits
+    in-part = rw (← h, f)
 
-  -- the entry does not pass
-  pub answers-no-entry : (r : Entry) → l .entered ≡ true → Enters p c i (l .side) r → r .ok ≡ false
-      → Answers p (placeFits p l c i) l c i (record { ok = false; chart = c })
-  unfolding whole
-  answers-no-entry r e g f = refused (placeFits p l c i) (rw (parts, e, ← g .passes, f)) c
+    -- a level of one or two positions
+    pub part-small : (u : Bool) → sizeOf p S < 3 → u ≡ isUnresolved l → Settles p (partFits p S l) S (l .position) i a (record { ok = u; last = a }) ports
+    unfolding resultsFit
+    part-small u k e = record {
+      passes = e ∙ sym (in-part ∙ rw (lt-leb 3 (sizeOf p S) k));
+      small = λ t q. refl;
+      large = λ t q. absurd (omega arith);
+    }
 
-  -- the position lies elsewhere
-  pub answers-no-place : (r : Entry) (b : Bool) → l .entered ≡ true → Enters p c i (l .side) r → r .ok ≡ true
-      → b ≡ members p (r .component) (l .position) → b ≡ false → Answers p (placeFits p l c i) l c i (record { ok = false; chart = c })
-  unfolding whole
-  answers-no-place r b e g f h k =
-      let m : S (l .position) ≡ false = sym (ap (λ (M : Set). M (l .position)) (g .part (true→T f))) ∙ sym h ∙ k in
-      refused (placeFits p l c i) (rw (parts, e, ← g .passes, f, m)) c
+    -- a level of three or more
+    pub part-large : (r : Entered) → 3 ≤ sizeOf p S → r .ok ≡ valuesFit (degreeOf p S) l → Sends p S (l .position) i (r .last) ports
+        → Settles p (partFits p S l) S (l .position) i a r ports
+    unfolding resultsFit
+    part-large r k e s = record {
+      passes = e ∙ sym (in-part ∙ rw (le-leb 3 (sizeOf p S) k));
+      small = λ t q. absurd (omega arith);
+      large = λ t q. s;
+    }
 
-  -- what the results ask for
-  pub place-asks : (r : Entry) (b : Bool) → Ready p c i → Enters p c i (l .side) r → r .ok ≡ true
-      → b ≡ members p (r .component) (l .position) → b ≡ true
-      → OfPlan p (members p (r .component)) × T (members p (r .component) (l .position)) × (i < levelCount)
-  place-asks r b y g f h k = (
-    subst (OfPlan p) (sym (g .part (true→T f))) (entry-plan p c i (l .side) y (true→T (sym (g .passes) ∙ f))),
-    true→T (sym h ∙ k),
-    y .exists,
-  )
+-- ---- the entry, and the rest
 
-  -- the results tell the rest
-  pub answers-place : (r : Entry) (b : Bool) (o : Inspected) → l .entered ≡ true → Enters p c i (l .side) r → r .ok ≡ true
-      → b ≡ members p (r .component) (l .position) → b ≡ true → Settles p (members p (r .component)) l c i o
-      → Answers p (placeFits p l c i) l c i o
-  unfolding whole
-  answers-place r b o e g f h k s =
-      let q = g .part (true→T f) in
-      let m : S (l .position) ≡ true = sym (ap (λ (M : Set). M (l .position)) q) ∙ sym h ∙ k in
-      let z : Settles p S l c i o = subst (λ (M : Set). Settles p M l c i o) q s in
-      let w : placeFits p l c i ≡ resultsFit p three S l = rw (parts, e, ← g .passes, f, m) in
-      record {
-        passes = z .passes ∙ sym w;
-        chart = λ _. subst (λ (x : Bool). Adds p (x && three) S (l .position) i c (o .chart)) (sym e) (z .chart);
-      }
+module _ (p : Plan) (a : Last) (ports : List ℕ) (i : ℕ) (l : Code.Level) (b : Bool) (h : b ≡ entryFits (a .sending) (a .survey .degree) i (l .side)) where
+  abbrev part : Set
+  part = partOf p (a .span) ports i (l .side)
 
-  -- ---- the level
+  pub entered-not : (after : List ℕ) → b ≡ false → Settles p (enteredFits p a ports i l) part (l .position) i a (record { ok = false; last = a }) after
+  unfolding enteredFits
+  entered-not after f = record {
+    passes = rw (← h, f);
+    small = λ t. absurd t;
+    large = λ t. absurd t;
+  }
 
-  module _ (n : ℕ) (a : Bool) (sets : a ≡ setsPass n (l .sets)) where
-    pub answers-sets : a ≡ false → Answers p (levelFits p n l c i) l c i (record { ok = false; chart = c })
-    unfolding levelFits
-    answers-sets f = refused (levelFits p n l c i) (rw (← sets, f)) c
-
-    module _ (b : Bool) (output : b ≡ outputFits (p .count) (l .output)) where
-      pub answers-output : a ≡ true → b ≡ false → Answers p (levelFits p n l c i) l c i (record { ok = false; chart = c })
-      unfolding levelFits
-      answers-output f g = refused (levelFits p n l c i) (rw (← sets, f, ← output, g)) c
-
-      pub answers-level : (o : Inspected) → a ≡ true → b ≡ true → Answers p (placeFits p l c i) l c i o → Answers p (levelFits p n l c i) l c i o
-      unfolding levelFits
-      answers-level o f g z = let w : levelFits p n l c i ≡ placeFits p l c i = rw (← sets, f, ← output, g) in record { passes = z .passes ∙ sym w; chart = z .chart }
+  pub entered-part : (s : Span) (held after : List ℕ) (r : Entered) → b ≡ true → Holds p s held part
+      → Settles p (partFits p (members p s held) l) (members p s held) (l .position) i a r after
+      → Settles p (enteredFits p a ports i l) part (l .position) i a r after
+  unfolding enteredFits
+  entered-part s held after r f o z =
+      let y : Settles p (partFits p part l) part (l .position) i a r after = subst (λ (M : Set). Settles p (partFits p M l) M (l .position) i a r after) (o .is) z in
+      record { passes = y .passes ∙ rw (← h, f); small = y .small; large = y .large }

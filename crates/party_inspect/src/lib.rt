@@ -1,48 +1,47 @@
-// Question 19: is a record one of a party? One pass over the plan part, and a few over each entered level's component.
+// Question 19: is a record one of a party? One pass over the plan part, one over the sets of senders, and a few over each entered level's component.
 ghost use mathlib.Core.Path.{_≡_};
-ghost use Prim.Native.Nat.{suc, _≤_, _<_};
+ghost use Prim.Native.Nat.{_≤_};
 ghost use lib.Dec.{T};
+ghost use lib.ListN.{length};
+ghost use Rattle.base.specs.Limits.{levelCount};
+ghost use Rattle.plan.specs.Tie.{shaped};
+ghost use Rattle.component.specs.Component.{sizeOf, degreeOf};
+ghost use Rattle.component.specs.Inner.{members, Holds};
 ghost use Rattle.level.specs.Level.{valueCount};
-ghost use lib.ListN.{length, set};
-ghost use Rattle.base.specs.Limits.{maxBoards, levelCount};
-ghost use Rattle.component.specs.Inner.{OfPlan, members};
-ghost use Rattle.party.specs.Valid.{settingsPass, setsPass, valuePasses, partyValid};
+ghost use Rattle.party.specs.Valid.{valuePasses, partyValid};
+ghost use Rattle.party.specs.Tie.{partyIn};
 ghost use Rattle.party.specs.Inner.{Charts};
-ghost use Rattle.party_inspect.specs.Inner.{outputFits, isUnresolved, placeFits, levelFits, Ready, Enters, Settles, Answers, Filled};
-ghost use Rattle.plan.specs.Tie.{asPlan};
-ghost use Rattle.level.specs.Tie.{asLevel};
-ghost use Rattle.party.specs.Tie.{asParty};
+ghost use Rattle.party_inspect.specs.Inner.{Unites, outputFits, isUnresolved, valuesFit, partFits, entryFits, partOf, enteredFits, Over, Ready, Sends, Settles, Filled};
 
 pub struct Inspected {
     pub ok: bool,
     pub chart: party::Chart,
 }
 
-// The component of a level, if its entry passes.
-struct Entry {
+// The last level that sends: how many do, its survey, and where its component lies.
+struct Last {
+    sending: usize,
+    survey: component::Survey,
+    span: component::Span,
+}
+
+// Whether an entered level passes, and which level is then the last that sends.
+struct Entered {
     ok: bool,
-    component: component::Component,
+    last: Last,
 }
 
-// Do all sets name only boards below n?
-fn sets_pass(sets: &[senders::Mask], n: u32) -> bool
-    requires { ⌜ n ≤ maxBoards ⌝ }
-    ensures { λ r. ⌜ r ≡ setsPass n (now (sets .entry)) ⌝ }
+// The senders that some set names.
+fn union_of(sets: &[senders::Mask]) -> senders::Mask
+    ensures { λ r. ⌜ Unites (now (sets .entry)) r ⌝ }
 {
-    let mut i: usize = 0;
-    while i < sets.len() {
-        if !senders::only_below(sets[i], n) {
-            return false;
-        }
-        i += 1;
+    let mut all: senders::Mask = 0;
+    let mut at: usize = 0;
+    while at < sets.len() {
+        all = senders::either(all, sets[at]);
+        at += 1;
     }
-    true
-}
-
-fn settings_pass(p: party::Party) -> bool
-    ensures { λ r. ⌜ r ≡ settingsPass (asParty p) ⌝ }
-{
-    settings::fault(p.n, p.t, p.own) == 0
+    all
 }
 
 // Is a result a value of at most d, none, or not there yet?
@@ -71,7 +70,8 @@ fn output_passes(count: u32, output: base::Position) -> bool
 
 // A level without a degree has no result.
 fn unresolved(l: level::Level) -> bool
-    ensures { λ r. ⌜ r ≡ isUnresolved (asLevel l) ⌝ }
+    ensures answers { λ r. ⌜ r ≡ isUnresolved l ⌝ }
+    ensures sized { λ r. ⌜ length (l .echoed) ≡ valueCount ⌝ }
 {
     if l.first != level::NOT_YET {
         return false;
@@ -79,204 +79,238 @@ fn unresolved(l: level::Level) -> bool
     l.result == level::NOT_YET
 }
 
-// The chart of no level.
-fn empty_chart() -> party::Chart
-    ensures { λ r. ⌜ (r .sending ≡ 0) × (length (r .surveys) ≡ levelCount) ⌝ }
+// Do the results of a level of degree d pass?
+fn values_pass(d: u32, l: level::Level) -> bool
+    ensures { λ r. ⌜ r ≡ valuesFit d l ⌝ }
+{
+    if !value_passes(d, l.first) {
+        return false;
+    }
+    value_passes(d, l.result)
+}
+
+// No level sends.
+fn no_level() -> Last
+    ensures { λ r. ⌜ r .sending ≡ 0 ⌝ }
 {
     let s = component::Survey {
         centre: 0,
         degree: 0,
         port: 0,
     };
-    let surveys = [s; base::LEVELS];
-    let deepest = component::Component {
-        low: 0,
-        high: 0,
-        inside: [0u8; base::MAX_VERTICES],
-    };
-    party::Chart {
+    let span = component::Span { low: 0, high: 0 };
+    Last {
         sending: 0,
-        surveys: surveys,
+        survey: s,
+        span: span,
+    }
+}
+
+// The chart of no level.
+fn empty_chart() -> party::Chart
+    ensures { λ r. ⌜ length (r .surveys) ≡ levelCount ⌝ }
+{
+    let none = no_level();
+    let s = none.survey;
+    let deepest = none.span;
+    party::Chart {
+        sending: none.sending,
+        surveys: [s; base::LEVELS],
         deepest: deepest,
     }
 }
 
-// The component of level i, where its entry by side k passes: the whole plan, or a side of the level before, which sends.
-fn enter(plan: plan::Plan, k: u8, chart: party::Chart, i: usize) -> Entry
-    requires { ⌜ Ready (asPlan plan) chart i ⌝ }
-    ensures { λ r. ⌜ Enters (asPlan plan) chart i k r ⌝ }
-{
-    let deepest = chart.deepest;
-    if i == 0 {
-        let all = component::whole(plan);
-        return Entry {
-            ok: k == 0,
-            component: all,
-        };
-    }
-    if chart.sending != i {
-        return Entry {
-            ok: false,
-            component: deepest,
-        };
-    }
-    let s = chart.surveys[i - 1];
-    if k < 1 {
-        return Entry {
-            ok: false,
-            component: deepest,
-        };
-    }
-    if s.degree < k as u32 {
-        return Entry {
-            ok: false,
-            component: deepest,
-        };
-    }
-    let part = component::side(plan, deepest, s.centre, k as u32);
-    Entry {
-        ok: true,
-        component: part,
-    }
-}
-
-// The chart with level i, of three or more positions, added.
-fn extended(
-    chart: party::Chart,
+// Do the results of level i pass, over a component of three or more positions that holds its position? It sends.
+fn inspect_sending(
+    shape: plan::Shape,
+    ps: &[u16],
+    cs: &[u16],
+    l: level::Level,
     i: usize,
-    s: component::Survey,
-    part: component::Component,
-) -> party::Chart
-    requires { ⌜ i < levelCount ⌝ }
-    ensures { λ r. ⌜ (r .sending ≡ suc i) × (r .surveys ≡ set (chart .surveys) i s) × (r .deepest ≡ part) ⌝ }
+    span: component::Span,
+    ports: &mut [u8; base::MAX_VERTICES],
+) -> Entered
+    requires { ⌜ Over (shaped shape (now ps) (now cs)) span (now ports) i × (3 ≤ sizeOf (shaped shape (now ps) (now cs)) (members (shaped shape (now ps) (now cs)) span (now ports))) × T (members (shaped shape (now ps) (now cs)) span (now ports) (l .position)) ⌝ }
+    ensures passes { λ r. ⌜ r .ok ≡ valuesFit (degreeOf (shaped shape (now (ps .entry)) (now (cs .entry))) (members (shaped shape (now (ps .entry)) (now (cs .entry))) span (now (ports .entry)))) l ⌝ }
+    ensures last { λ r. ⌜ Sends (shaped shape (now (ps .entry)) (now (cs .entry))) (members (shaped shape (now (ps .entry)) (now (cs .entry))) span (now (ports .entry))) (l .position) i (r .last) (now (ports .exit)) ⌝ }
 {
-    let mut next = chart;
-    next.sending = i + 1;
-    next.surveys[i] = s;
-    next.deepest = part;
-    next
+    let c = component::survey_ports(shape, ps, cs, span, ports);
+    let port = component::port(shape, ps, cs, span, ports, l.position);
+    let s = component::Survey {
+        centre: c.centre,
+        degree: c.degree,
+        port: port,
+    };
+    let last = Last {
+        sending: i + 1,
+        survey: s,
+        span: span,
+    };
+    Entered {
+        ok: values_pass(c.degree, l),
+        last: last,
+    }
 }
 
-// The results of level i, entered over a component that holds its position, pass; with the chart of the levels up to it.
+// Do the position and the results of level i pass over its component?
 fn inspect_part(
-    plan: plan::Plan,
+    shape: plan::Shape,
+    ps: &[u16],
+    cs: &[u16],
     l: level::Level,
-    chart: party::Chart,
     i: usize,
-    part: component::Component,
-) -> Inspected
-    requires { ⌜ OfPlan (asPlan plan) (members (asPlan plan) part) × T (members (asPlan plan) part (l .position)) × (i < levelCount) ⌝ }
-    ensures { λ r. ⌜ Settles (asPlan plan) (members (asPlan plan) part) (asLevel l) chart i r ⌝ }
+    span: component::Span,
+    last: Last,
+    ports: &mut [u8; base::MAX_VERTICES],
+) -> Entered
+    requires { ⌜ Over (shaped shape (now ps) (now cs)) span (now ports) i ⌝ }
+    ensures { λ r. ⌜ Settles (shaped shape (now (ps .entry)) (now (cs .entry))) (partFits (shaped shape (now (ps .entry)) (now (cs .entry))) (members (shaped shape (now (ps .entry)) (now (cs .entry))) span (now (ports .entry))) l) (members (shaped shape (now (ps .entry)) (now (cs .entry))) span (now (ports .entry))) (l .position) i last r (now (ports .exit)) ⌝ }
 {
-    if component::size(plan, part) < 3 {
-        return Inspected {
-            ok: unresolved(l),
-            chart: chart,
-        };
-    }
-    let s = component::survey_at(plan, part, l.position);
-    let next = extended(chart, i, s, part);
-    if !value_passes(s.degree, l.first) {
-        return Inspected {
+    if !component::contains(shape, ps, cs, span, ports, l.position) {
+        return Entered {
             ok: false,
-            chart: next,
+            last: last,
         };
     }
-    Inspected {
-        ok: value_passes(s.degree, l.result),
-        chart: next,
+    if component::size(shape, ps, cs, span, ports) < 3 {
+        return Entered {
+            ok: unresolved(l),
+            last: last,
+        };
     }
+    inspect_sending(shape, ps, cs, l, i, span, ports)
 }
 
-// The place and the results of level i pass, with the chart of the levels up to it.
-fn inspect_place(plan: plan::Plan, l: level::Level, chart: party::Chart, i: usize) -> Inspected
-    requires { ⌜ Ready (asPlan plan) chart i ⌝ }
-    ensures { λ r. ⌜ Answers (asPlan plan) (placeFits (asPlan plan) (asLevel l) chart i) (asLevel l) chart i r ⌝ }
+// May level i be entered by side k? Level 0 by no side, each next by a side of the level before, which sends.
+fn entry_passes(sending: usize, degree: u32, i: usize, k: u8) -> bool
+    ensures { λ r. ⌜ r ≡ entryFits sending degree i k ⌝ }
 {
-    if !l.entered {
-        return Inspected {
-            ok: unresolved(l),
-            chart: chart,
-        };
+    if i == 0 {
+        return k == 0;
     }
-    let e = enter(plan, l.side, chart, i);
-    let part = e.component;
-    if !e.ok {
-        return Inspected {
-            ok: false,
-            chart: chart,
-        };
+    if sending != i {
+        return false;
     }
-    if !component::contains(plan, part, l.position) {
-        return Inspected {
-            ok: false,
-            chart: chart,
-        };
+    if k < 1 {
+        return false;
     }
-    inspect_part(plan, l, chart, i, part)
+    k as u32 <= degree
 }
 
-// Level i passes, with the chart of the levels up to it.
-fn inspect_level(
-    plan: plan::Plan,
-    n: u32,
-    l: level::Level,
-    chart: party::Chart,
+// The component that is entered so: the whole plan, or side k of the level before, in whose place it is put.
+fn enter(
+    shape: plan::Shape,
+    ps: &[u16],
+    cs: &[u16],
     i: usize,
-) -> Inspected
-    requires { ⌜ Ready (asPlan plan) chart i × (n ≤ maxBoards) ⌝ }
-    ensures answers { λ r. ⌜ Answers (asPlan plan) (levelFits (asPlan plan) n (asLevel l) chart i) (asLevel l) chart i r ⌝ }
+    k: u8,
+    last: Last,
+    ports: &mut [u8; base::MAX_VERTICES],
+) -> component::Span
+    requires { ⌜ Ready (shaped shape (now ps) (now cs)) last (now ports) i × T (entryFits (last .sending) (last .survey .degree) i k) ⌝ }
+    ensures { λ r. ⌜ Holds (shaped shape (now (ps .entry)) (now (cs .entry))) r (now (ports .exit)) (partOf (shaped shape (now (ps .entry)) (now (cs .entry))) (last .span) (now (ports .entry)) i k) ⌝ }
+{
+    if i == 0 {
+        return component::whole(shape, ps, cs, ports);
+    }
+    let s = last.survey;
+    let span = last.span;
+    component::side(shape, ps, cs, span, ports, s.centre, k as u32)
+}
+
+// Does level i pass, which is entered?
+fn inspect_entered(
+    shape: plan::Shape,
+    ps: &[u16],
+    cs: &[u16],
+    l: level::Level,
+    i: usize,
+    last: Last,
+    ports: &mut [u8; base::MAX_VERTICES],
+) -> Entered
+    requires { ⌜ Ready (shaped shape (now ps) (now cs)) last (now ports) i ⌝ }
+    ensures settles { λ r. ⌜ Settles (shaped shape (now (ps .entry)) (now (cs .entry))) (enteredFits (shaped shape (now (ps .entry)) (now (cs .entry))) last (now (ports .entry)) i l) (partOf (shaped shape (now (ps .entry)) (now (cs .entry))) (last .span) (now (ports .entry)) i (l .side)) (l .position) i last r (now (ports .exit)) ⌝ }
     ensures sized { λ r. ⌜ length (l .echoed) ≡ valueCount ⌝ }
 {
-    let sets = l.sets;
-    if !sets_pass(&sets, n) {
-        return Inspected {
+    let s = last.survey;
+    if !entry_passes(last.sending, s.degree, i, l.side) {
+        return Entered {
             ok: false,
-            chart: chart,
+            last: last,
         };
     }
-    if !output_passes(plan.count, l.output) {
-        return Inspected {
-            ok: false,
-            chart: chart,
-        };
-    }
-    inspect_place(plan, l, chart, i)
+    let span = enter(shape, ps, cs, i, l.side, last, ports);
+    inspect_part(shape, ps, cs, l, i, span, last, ports)
 }
 
 // Does the record pass question 19? If so, with its chart.
-pub fn inspect(p: party::Party) -> Inspected
-    ensures passes { λ r. ⌜ r .ok ≡ partyValid (asParty p) ⌝ }
-    ensures charted { λ r. ⌜ (T (r .ok) → Charts (asParty p) (r .chart)) ⌝ }
-    ensures sized { λ r. ⌜ (T (r .ok) → Filled (asParty p)) ⌝ }
+pub fn inspect(
+    v: party::Vote,
+    shape: plan::Shape,
+    ps: &[u16; base::MAX_ROWS],
+    cs: &[u16; base::MAX_ROWS],
+    levels: party::Levels,
+    sets: &party::Sets,
+    ports: &mut [u8; base::MAX_VERTICES],
+) -> Inspected
+    ensures passes { λ r. ⌜ r .ok ≡ partyValid (partyIn v (shaped shape (now (ps .entry)) (now (cs .entry))) levels (now (sets .entry))) ⌝ }
+    ensures charted { λ r. ⌜ (T (r .ok) → Charts (partyIn v (shaped shape (now (ps .entry)) (now (cs .entry))) levels (now (sets .entry))) (r .chart) (now (ports .exit))) ⌝ }
+    ensures sized { λ r. ⌜ (T (r .ok) → Filled (partyIn v (shaped shape (now (ps .entry)) (now (cs .entry))) levels (now (sets .entry)))) ⌝ }
 {
     let mut chart = empty_chart();
-    if !settings_pass(p) {
+    if settings::fault(v.n, v.t, v.own) != 0 {
         return Inspected {
             ok: false,
             chart: chart,
         };
     }
-    let plan = p.plan;
-    if !plan_test::valid(plan) {
+    if !plan_test::valid(shape, ps, cs) {
         return Inspected {
             ok: false,
             chart: chart,
         };
     }
+    if !senders::only_below(union_of(sets), v.n) {
+        return Inspected {
+            ok: false,
+            chart: chart,
+        };
+    }
+    let mut last = no_level();
     let mut i: usize = 0;
     while i < base::LEVELS {
-        let l = p.levels[i];
-        let r = inspect_level(plan, p.n, l, chart, i);
-        chart = r.chart;
-        if !r.ok {
+        let l = levels[i];
+        if !output_passes(shape.count, l.output) {
             return Inspected {
                 ok: false,
                 chart: chart,
             };
         }
+        if !l.entered {
+            if !unresolved(l) {
+                return Inspected {
+                    ok: false,
+                    chart: chart,
+                };
+            }
+            i += 1;
+            continue;
+        }
+        let e = inspect_entered(shape, ps, cs, l, i, last, ports);
+        if !e.ok {
+            return Inspected {
+                ok: false,
+                chart: chart,
+            };
+        }
+        last = e.last;
+        let s = last.survey;
+        chart.surveys[i] = s;
         i += 1;
     }
+    let deepest = last.span;
+    chart.sending = last.sending;
+    chart.deepest = deepest;
     Inspected {
         ok: true,
         chart: chart,

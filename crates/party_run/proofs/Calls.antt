@@ -1,31 +1,42 @@
--- A start, and a message taken: the party to which rules are then applied.
+-- A start, and a message taken: the party to which rules are then applied, as the code stores its parts.
 use mathlib.Core.Path.{_≡_, sym, ap, _∙_, subst}
 use mathlib.Core.Bool.{Bool, true, false}
 use mathlib.Core.List.{List}
-use Prim.Native.Nat.{ℕ, _<_}
+use Prim.Native.Nat.{ℕ, _+_, _*_, _≤_, _<_}
 use native.Mathlib.Omega.{arith}
 use lib.Dec.{T}
+use lib.ListN.{length, getD, set}
 use Rattle.base.specs.Pick.{pick}
-use Rattle.base.specs.Limits.{maxBoards, levelCount}
+use Rattle.base.specs.Limits.{maxBoards, levelCount, outgoingSize}
 use Rattle.base.proofs.Bools.{true→T, false→not-T}
-use Rattle.component.specs.declared.Component.{Component}
+use Rattle.plan.specs.Plan.{Plan}
+use Rattle.plan.specs.Valid.{planValid}
+use Rattle.component.specs.declared.Span.{Span}
 use Rattle.component.specs.Component.{wholeOf}
-use Rattle.component.specs.Inner.{members}
+use Rattle.component.specs.Inner.{Lent, Holds}
+use Rattle.component_laws.proofs.Laws.{whole-plan, whole-in}
 use Rattle.message.specs.declared.Message.{Message}
 use Rattle.message.specs.Message.{inTable}
 use Rattle.message.proofs.RoundTrip.{table-parts}
-use Rattle.plan.specs.Valid.{planValid}
-use Rattle.level.specs.Level.{Level, withHeard}
+use Rattle.senders.specs.Senders.{isIn, withSender}
+use Rattle.level_counts.proofs.Slots.{slot-lt}
+use Rattle.level.specs.declared.Level as CodeLevel
+use Rattle.level.specs.Level.{slotCount, slot}
+use Rattle.level.specs.Inner.{noCodeLevel}
 use Rattle.party.specs.declared.Chart.{Chart}
-use Rattle.party.specs.Party.{Party, levelAt, withLevel, entering, entered, started, heldBy, hearing}
-use Rattle.party.specs.Run.{Ran, resting, run, starting, taking}
+use Rattle.party.specs.declared.Vote.{Vote}
+use Rattle.party.specs.Party.{Party, entered, started, heldBy, hearing}
+use Rattle.party.specs.Run.{resting, run, starting, taking}
 use Rattle.party.specs.Valid.{partyValid}
-use Rattle.party.specs.Inner.{Charts}
-use Rattle.party_laws.proofs.Laws.{Formed, valid→, formed-entered, formed-hearing}
-use Rattle.party_run.specs.Inner.{Outcome, Gives}
-use Rattle.party_step.specs.Inner.{Leads}
-use Rattle.party_step.proofs.Charts.{charts-hearing}
-use Rattle.party_step.proofs.Entries.{start-entered}
+use Rattle.party.specs.Inner.{Charts, setCount}
+use Rattle.party.specs.Tie.{partyIn, setsAt}
+use Rattle.party.proofs.Ties.{length-tied, level-in, put-in, held-in, hearing-in}
+use Rattle.party_laws.proofs.Laws.{Formed, valid→, entry-whole, formed-entered, formed-hearing}
+use Rattle.party_step.specs.declared.Entered.{Entered}
+use Rattle.party_step.specs.Inner.{Enterable, Enters, chartWith}
+use Rattle.party_step.proofs.Entries.{holds-enterable}
+use Rattle.party_step.proofs.Charts.{charts-hearing, new-charted, entered-charts, entered-party}
+use Rattle.party_run.specs.Inner.{Ready, Outcome, Gives}
 
 -- a valid party's plan, and how many boards there are
 pub valid-plan : (p : Party) → T (partyValid p) → T (planValid (p .plan))
@@ -34,41 +45,81 @@ valid-plan p v = valid→ p v .plan
 pub valid-sender : (p : Party) → T (partyValid p) → (s : ℕ) → s < p .n → s < maxBoards
 valid-sender p v s h = omega (arith, valid→ p v .settings .most)
 
--- a message of the table is for a level
-pub table-level : (m : Message) → inTable m ≡ true → m .level < levelCount
-table-level m t = omega (arith, table-parts m t .0)
+-- the whole plan as it is lent
+pub whole-enterable : (plan : Plan) → T (planValid plan) → Lent plan → (span : Span) (ports : List ℕ) → Holds plan span ports (wholeOf plan) → (x : ℕ) → x < plan .count
+    → Enterable plan span ports x
+whole-enterable plan v r span ports h x l = holds-enterable plan span ports (wholeOf plan) h x (whole-plan plan v) (whole-in plan x l) r
 
--- ---- a start
+module _ (v : Vote) (plan : Plan) (ls : List CodeLevel.Level) (s : List ℕ) (c : Chart) (ports : List ℕ) (w : Formed (partyIn v plan ls s))
+    (h : Charts (partyIn v plan ls s) c ports) where
+  abbrev p : Party
+  p = partyIn v plan ls s
 
-module _ (p : Party) (part : Component) (x : ℕ) (whole : members (p .plan) part ≡ wholeOf (p .plan)) (r : Party) (d : Chart)
-    (h : Leads (entering p 0 (members (p .plan) part) 0 x) r d) where
-  start-party : r ≡ entered p x
-  start-party = h .party ∙ start-entered p part x whole
+  full : length ls ≡ levelCount
+  full = sym (length-tied slotCount ls s) ∙ w .full
 
-  pub start-valid : Formed p → started p ≡ false → x < p .plan .count → T (partyValid r)
-  start-valid w new l = subst (λ (q : Party). T (partyValid q)) (sym start-party) (formed-entered p w x (false→not-T new) l .valid)
+  -- ---- a start
 
-  pub start-gives : (loud : Bool) (before : List ℕ) (s : Outcome) (after : List ℕ) → Gives (run r) loud before s after
-      → Gives (starting p x) loud before s after
-  unfolding starting
-  start-gives loud before s after g = subst (λ (q : Party). Gives (run q) loud before s after) start-party g
+  module _ (x : ℕ) (new : started (partyIn v plan ls s) ≡ false) (l : x < plan .count) (e : Entered) (after : List ℕ)
+      (g : Enters plan (wholeOf plan) (getD ls 0 noCodeLevel) 0 x e after) where
+    start-party : partyIn v plan (set ls 0 (e .level)) s ≡ entered (partyIn v plan ls s) x
+    unfolding entered
+    start-party =
+        put-in v plan ls s 0 (e .level)
+        ∙ entered-party p 0 (wholeOf plan) 0 x (setsAt s 0) (getD ls 0 noCodeLevel) (level-in v plan ls s 0 (omega (arith, full))) e after g
 
--- ---- a message taken
+    formed : Formed (entered (partyIn v plan ls s) x)
+    formed = formed-entered p w x (false→not-T new) l
 
-module _ (p : Party) (s : ℕ) (m : Message) (l : Level) (h : l ≡ withHeard (levelAt p (m .level)) (m .body) s) where
-  take-party : withLevel p (m .level) l ≡ hearing p s m
-  unfolding hearing
-  take-party = ap (withLevel p (m .level)) h
+    charts : length (c .surveys) ≡ levelCount → Charts (entered (partyIn v plan ls s) x) (chartWith c 0 e) after
+    unfolding entered
+    charts f =
+        let at : c .sending ≡ 0 = omega (arith, new-charted p c ports h 0 (omega arith) new) in
+        entered-charts p c ports 0 (wholeOf plan) 0 x w h at new (entry-whole p 0 (wholeOf plan) 0 x) (getD ls 0 noCodeLevel) e after g formed f
 
-  pub take-valid : Formed p → s < p .n → inTable m ≡ true → T (partyValid (withLevel p (m .level) l))
-  take-valid w b t = subst (λ (q : Party). T (partyValid q)) (sym take-party) (formed-hearing p w s m b (true→T t) .valid)
+    pub start-ready : length (c .surveys) ≡ levelCount → (d : Chart) → d ≡ chartWith c 0 e → Lent plan → (out : ℕ) → outgoingSize ≤ out
+        → Ready (partyIn v plan (set ls 0 (e .level)) s) d after out
+    start-ready f d q r out room = record {
+      valid = subst (λ (y : Party). T (partyValid y)) (sym start-party) (formed .valid);
+      rows = r;
+      charts = subst (λ (y : Party). Charts y d after) (sym start-party) (subst (λ (y : Chart). Charts (entered p x) y after) (sym q) (charts f));
+      room = room;
+    }
 
-  pub take-charts : (c : Chart) → Charts p c → Charts (withLevel p (m .level) l) c
-  take-charts c k = subst (λ (q : Party). Charts q c) (sym take-party) (charts-hearing p c s m k)
+    pub start-gives : (loud : Bool) (before : List ℕ) (r : Outcome) (out : List ℕ) → Gives (run (partyIn v plan (set ls 0 (e .level)) s)) loud before r out
+        → Gives (starting (partyIn v plan ls s) x) loud before r out
+    unfolding starting
+    start-gives loud before r out k = subst (λ (q : Party). Gives (run q) loud before r out) start-party k
 
-  pub take-gives : heldBy p s m ≡ false → (loud : Bool) (before : List ℕ) (r : Outcome) (after : List ℕ)
-      → Gives (run (withLevel p (m .level) l)) loud before r after → Gives (taking p s m) loud before r after
-  unfolding taking
-  take-gives f loud before r after g =
-      subst (λ (b : Bool). Gives (pick b (resting p) (run (hearing p s m))) loud before r after) (sym f)
-      (subst (λ (q : Party). Gives (run q) loud before r after) take-party g)
+  -- ---- a message taken, whose set of senders lies at k
+
+  module _ (sender : ℕ) (m : Message) (below : sender < v .n) (t : inTable m ≡ true) (k : ℕ) (at : k ≡ slotCount * m .level + slot (m .body)) where
+    level : m .level < length ls
+    level = omega (arith, table-parts m t .0, full)
+
+    pub taken-place : k < setCount
+    taken-place = omega (arith, table-parts m t .0, slot-lt (m .body) (table-parts m t .1))
+
+    pub taken-held : (b : Bool) → b ≡ isIn (getD s k 0) sender → heldBy (partyIn v plan ls s) sender m ≡ b
+    taken-held b e = held-in v plan ls s m t level sender ∙ ap (λ (j : ℕ). isIn (getD s j 0) sender) (sym at) ∙ sym e
+
+    module _ (n : ℕ) (e : n ≡ withSender (getD s k 0) sender) where
+      taken-party : partyIn v plan ls (set s k n) ≡ hearing (partyIn v plan ls s) sender m
+      taken-party =
+          ap (λ (j : ℕ). partyIn v plan ls (set s k j)) e ∙ ap (λ (j : ℕ). partyIn v plan ls (set s j (withSender (getD s j 0) sender))) at
+          ∙ hearing-in v plan ls s m t level sender
+
+      pub taken-ready : Lent plan → (out : ℕ) → outgoingSize ≤ out → Ready (partyIn v plan ls (set s k n)) c ports out
+      taken-ready r out room = record {
+        valid = subst (λ (y : Party). T (partyValid y)) (sym taken-party) (formed-hearing p w sender m below (true→T t) .valid);
+        rows = r;
+        charts = subst (λ (y : Party). Charts y c ports) (sym taken-party) (charts-hearing p c ports sender m h);
+        room = room;
+      }
+
+      pub taken-gives : heldBy (partyIn v plan ls s) sender m ≡ false → (loud : Bool) (before : List ℕ) (r : Outcome) (out : List ℕ)
+          → Gives (run (partyIn v plan ls (set s k n))) loud before r out → Gives (taking (partyIn v plan ls s) sender m) loud before r out
+      unfolding taking
+      taken-gives f loud before r out g =
+          subst (λ (b : Bool). Gives (pick b (resting p) (run (hearing p sender m))) loud before r out) (sym f)
+          (subst (λ (q : Party). Gives (run q) loud before r out) taken-party g)

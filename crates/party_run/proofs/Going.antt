@@ -19,8 +19,8 @@ use Rattle.party.specs.Party.{Party}
 use Rattle.party.specs.declared.Chart.{Chart}
 use Rattle.party.specs.Run.{Ran, openAt, openLevel, ruleAt, madeBy, stepAt, resting, oneMore, runUpTo, run, bytesOf}
 use Rattle.party.specs.Inner.{Charts}
-use Rattle.party_laws.proofs.Laws.{open-level}
-use Rattle.party_bounds.proofs.Laws.{Sized, sized-step, messagesLeft, open-last, step-bytes, outgoing-enough}
+use Rattle.party_bounds.proofs.Laws.{Sized, sized-step, rulesLeft, rules-most, step-rules, messagesLeft, open-last, step-bytes, outgoing-enough}
+use Rattle.party_step.proofs.Openings.{Closed, closed-open}
 use Rattle.party_run.specs.Inner.{voiced, Gives}
 
 -- ---- bytes
@@ -54,10 +54,6 @@ abbrev pub after : ℕ → List Message → Ran → Ran
 after k ms r = record { party = r .party; rules = k + r .rules; made = ms ++ r .made }
 
 -- no rule is left
-pub run-end : (f : ℕ) (q : Party) → f ≡ 0 → runUpTo f q ≡ resting q
-unfolding runUpTo
-run-end f q e = ap (λ (x : ℕ). runUpTo x q) e
-
 pub run-stop : (f : ℕ) (q : Party) → openLevel q ≡ levelCount → runUpTo f q ≡ resting q
 unfolding runUpTo
 run-stop zero q e = refl
@@ -65,20 +61,19 @@ run-stop (suc f) q e =
     ap (λ (x : ℕ). pick (ltb x levelCount) (oneMore (madeBy (q .agreement) (openLevel q) (ruleAt q (openLevel q) .effect)) (runUpTo f (stepAt q (openLevel q)))) (resting q)) e
 
 -- one rule more
-run-on : (f : ℕ) (q : Party) → openLevel q < levelCount
-    → runUpTo (suc f) q ≡ oneMore (madeBy (q .agreement) (openLevel q) (ruleAt q (openLevel q) .effect)) (runUpTo f (stepAt q (openLevel q)))
+run-on : (f : ℕ) (q : Party) (i : ℕ) → openLevel q ≡ i → i < levelCount → runUpTo (suc f) q ≡ oneMore (madeBy (q .agreement) i (ruleAt q i .effect)) (runUpTo f (stepAt q i))
 unfolding runUpTo
-run-on f q l =
-    ap (λ (b : Bool). pick b (oneMore (madeBy (q .agreement) (openLevel q) (ruleAt q (openLevel q) .effect)) (runUpTo f (stepAt q (openLevel q)))) (resting q))
-    (T→true (ltb (openLevel q) levelCount) (lt→ltb (openLevel q) levelCount l))
+run-on f q i e l =
+    ap (λ (j : ℕ). pick (ltb j levelCount) (oneMore (madeBy (q .agreement) j (ruleAt q j .effect)) (runUpTo f (stepAt q j))) (resting q)) e
+    ∙ ap (λ (b : Bool). pick b (oneMore (madeBy (q .agreement) i (ruleAt q i .effect)) (runUpTo f (stepAt q i))) (resting q)) (T→true (ltb i levelCount) (lt→ltb i levelCount l))
 
 -- ---- between two rules
 
 -- so many rules led from p to q with its chart; their messages are written, and there is room for those to come
-pub record Going (p : Party) (loud : Bool) (before : List ℕ) (q : Party) (d : Chart) (out : List ℕ) (sent rules : ℕ) : Type 0 where
+pub record Going (p : Party) (loud : Bool) (before : List ℕ) (q : Party) (d : Chart) (ports out : List ℕ) (sent rules : ℕ) : Type 0 where
   pub sized : Sized q
-  pub charts : Charts q d
-  pub steps : rules ≤ maxRules
+  pub charts : Charts q d ports
+  pub left : rules + rulesLeft (lastLevel + 1) q ≤ maxRules
   pub made : List Message
   pub state : run p ≡ after rules made (runUpTo (maxRules - rules) q)
   pub long : length out ≡ length before
@@ -87,12 +82,12 @@ pub record Going (p : Party) (loud : Bool) (before : List ℕ) (q : Party) (d : 
   pub room : sent + 8 * messagesLeft (lastLevel + 1) q ≤ outgoingSize
 
 -- before the first rule
-pub going-start : (p : Party) (loud : Bool) (before : List ℕ) (c : Chart) → Sized p → Charts p c → Going p loud before p c before 0 0
+pub going-start : (p : Party) (loud : Bool) (before : List ℕ) (c : Chart) (ports : List ℕ) → Sized p → Charts p c ports → Going p loud before p c ports before 0 0
 unfolding run
-going-start p loud before c z h = record {
+going-start p loud before c ports z h = record {
   sized = z;
   charts = h;
-  steps = omega arith;
+  left = omega (arith, rules-most (lastLevel + 1) p);
   made = [];
   state = λ k. record { party = runUpTo maxRules p .party; rules = sym (zero-add (runUpTo maxRules p .rules)) k; made = runUpTo maxRules p .made };
   long = refl;
@@ -101,11 +96,11 @@ going-start p loud before c z h = record {
   room = omega (arith, outgoing-enough p);
 }
 
-module _ (p : Party) (loud : Bool) (before : List ℕ) (q : Party) (d : Chart) (out : List ℕ) (sent rules : ℕ) (g : Going p loud before q d out sent rules) where
-  -- no rule is left
-  pub going-end : runUpTo (maxRules - rules) q ≡ resting q → Gives (run p) loud before (record { party = q; chart = d; rules = rules; sent = sent }) out
-  going-end e =
-      let s : run p ≡ after rules (g .made) (resting q) = g .state ∙ ap (after rules (g .made)) e in
+module _ (p : Party) (loud : Bool) (before : List ℕ) (q : Party) (d : Chart) (ports out : List ℕ) (sent rules : ℕ) (g : Going p loud before q d ports out sent rules) where
+  -- no rule applies any more
+  pub going-end : openLevel q ≡ levelCount → Gives (run p) loud before (record { party = q; chart = d; ports = ports; rules = rules; sent = sent }) out
+  going-end o =
+      let s : run p ≡ after rules (g .made) (resting q) = g .state ∙ ap (after rules (g .made)) (run-stop (maxRules - rules) q o) in
       let m : run p .made ≡ g .made = ap (λ (r : Ran). r .made) s ∙ append-nil (g .made) in
       record {
         party = sym (ap (λ (r : Ran). r .party) s);
@@ -115,51 +110,55 @@ module _ (p : Party) (loud : Bool) (before : List ℕ) (q : Party) (d : Chart) (
         outgoing = g .written ∙ ap (λ (ms : List Message). putAt before 0 (voiced loud ms)) (sym m);
       }
 
-  -- a rule at the level that is chosen
-  module _ (l : openLevel q < levelCount) where
-    abbrev i : ℕ
-    i = openLevel q
-
+  -- a rule at level i, the lowest at which one applies
+  module _ (i : ℕ) (closed : Closed q i) (on : T (openAt q i)) where
     abbrev ms : List Message
     ms = madeBy (q .agreement) i (ruleAt q i .effect)
 
-    going-open : T (openAt q (openLevel q))
-    going-open = open-level q l
+    pub going-last : i ≤ lastLevel
+    going-last = open-last q (g .sized) i on
+
+    chosen : openLevel q ≡ i
+    chosen = closed-open q i (omega (arith, going-last)) closed on
+
+    -- it is one of those that are left
+    pub going-more : rules < maxRules
+    going-more = omega (arith, g .left, step-rules q (g .sized) i on (lastLevel + 1) (omega (arith, going-last)))
 
     step-room : length (bytesOf ms) + 8 * messagesLeft (lastLevel + 1) (stepAt q i) ≤ 8 * messagesLeft (lastLevel + 1) q
-    step-room = step-bytes 8 short (lastLevel + 1) q (g .sized) i going-open (omega (arith, open-last q (g .sized) i going-open))
+    step-room = step-bytes 8 short (lastLevel + 1) q (g .sized) i on (omega (arith, going-last))
 
     -- its message fits
-    pub going-fits : outgoingSize ≤ length before → sent + length (bytesOf (madeBy (q .agreement) (openLevel q) (ruleAt q (openLevel q) .effect))) ≤ length out
+    pub going-fits : outgoingSize ≤ length before → sent + length (bytesOf (madeBy (q .agreement) i (ruleAt q i .effect))) ≤ length out
     going-fits h = omega (arith, step-room, g .room, g .long)
 
-    run-next : rules < maxRules → runUpTo (maxRules - rules) q ≡ oneMore ms (runUpTo (maxRules - (rules + 1)) (stepAt q i))
-    run-next h =
-        let f : maxRules - rules ≡ suc (maxRules - (rules + 1)) = omega arith in
-        ap (λ (n : ℕ). runUpTo n q) f ∙ run-on (maxRules - (rules + 1)) q l
+    run-next : runUpTo (maxRules - rules) q ≡ oneMore ms (runUpTo (maxRules - (rules + 1)) (stepAt q i))
+    run-next =
+        let f : maxRules - rules ≡ suc (maxRules - (rules + 1)) = omega (arith, going-more) in
+        ap (λ (n : ℕ). runUpTo n q) f ∙ run-on (maxRules - (rules + 1)) q i chosen (omega (arith, going-last))
 
     regroup : (r : Ran) → after rules (g .made) (oneMore ms r) ≡ after (rules + 1) (g .made ++ ms) r
     regroup r =
         let a : rules + suc (r .rules) ≡ rules + 1 + r .rules = omega arith in
         λ k. record { party = r .party; rules = a k; made = sym (append-assoc (g .made) ms (r .made)) k }
 
-    pub going-on : outgoingSize ≤ length before → rules < maxRules → (q′ : Party) (d′ : Chart) (out′ : List ℕ) (sent′ : ℕ)
-        → q′ ≡ stepAt q (openLevel q) → Charts q′ d′
-        → (ns : List Message) → ns ≡ madeBy (q .agreement) (openLevel q) (ruleAt q (openLevel q) .effect)
+    pub going-on : outgoingSize ≤ length before → (q′ : Party) (d′ : Chart) (ports′ out′ : List ℕ) (sent′ : ℕ) → q′ ≡ stepAt q i → Charts q′ d′ ports′
+        → (ns : List Message) → ns ≡ madeBy (q .agreement) i (ruleAt q i .effect)
         → sent′ ≡ sent + length (voiced loud ns) → out′ ≡ putAt out sent (voiced loud ns)
-        → Going p loud before q′ d′ out′ sent′ (rules + 1)
-    going-on h k q′ d′ out′ sent′ eq ch ns en es₁ eo₁ =
+        → Going p loud before q′ d′ ports′ out′ sent′ (rules + 1)
+    going-on h q′ d′ ports′ out′ sent′ eq ch ns en es₁ eo₁ =
         let es : sent′ ≡ sent + length (voiced loud ms) = es₁ ∙ ap (λ (x : List Message). sent + length (voiced loud x)) en in
         let eo : out′ ≡ putAt out sent (voiced loud ms) = eo₁ ∙ ap (λ (x : List Message). putAt out sent (voiced loud x)) en in
         let v : voiced loud (g .made ++ ms) ≡ voiced loud (g .made) ++ voiced loud ms = voiced-append loud (g .made) ms in
         let fits : sent + length (voiced loud ms) ≤ length out = omega (arith, going-fits h, voiced-most loud ms) in
         let lq : messagesLeft (lastLevel + 1) q′ ≡ messagesLeft (lastLevel + 1) (stepAt q i) = ap (messagesLeft (lastLevel + 1)) eq in
+        let lr : rulesLeft (lastLevel + 1) q′ ≡ rulesLeft (lastLevel + 1) (stepAt q i) = ap (rulesLeft (lastLevel + 1)) eq in
         record {
-          sized = subst Sized (sym eq) (sized-step q (g .sized) i going-open);
+          sized = subst Sized (sym eq) (sized-step q (g .sized) i on);
           charts = ch;
-          steps = omega arith;
+          left = omega (arith, g .left, step-rules q (g .sized) i on (lastLevel + 1) (omega (arith, going-last)));
           made = g .made ++ ms;
-          state = g .state ∙ ap (after rules (g .made)) (run-next k) ∙ regroup (runUpTo (maxRules - (rules + 1)) (stepAt q i))
+          state = g .state ∙ ap (after rules (g .made)) run-next ∙ regroup (runUpTo (maxRules - (rules + 1)) (stepAt q i))
               ∙ ap (λ (x : Party). after (rules + 1) (g .made ++ ms) (runUpTo (maxRules - (rules + 1)) x)) (sym eq);
           long = ap length eo ∙ length-put out sent (voiced loud ms) fits ∙ g .long;
           written =

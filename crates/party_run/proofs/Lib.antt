@@ -1,4 +1,6 @@
-pub mod Calls
-pub mod Emitted
 pub mod Going
+pub mod Emitted
+pub mod Parts
+pub mod Turns
+pub mod Calls
 pub mod Redone

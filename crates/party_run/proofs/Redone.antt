@@ -26,17 +26,19 @@ module _ (p : Party) (x : Record) where
   unfolding replayed
   replayed-taken e = ap (replayed p) e
 
-  pub replayed-held : {s : ℕ} {m : Message} → x ≡ Taken s m → heldBy p s m ≡ true → replayed p x ≡ resting p
-  unfolding taking
-  replayed-held e h = replayed-taken e ∙ rw h
+-- a message that is held
+pub taking-held : (p : Party) (s : ℕ) (m : Message) → heldBy p s m ≡ true → taking p s m ≡ resting p
+unfolding taking
+taking-held p s m h = rw h
 
 module _ {loud : Bool} {out outThen : List ℕ} {g : Outcome} where
   pub gives-same : {x y : Ran} → x ≡ y → Gives y loud out g outThen → Gives x loud out g outThen
   gives-same e h = subst (λ (z : Ran). Gives z loud out g outThen) (sym e) h
 
 -- nothing is done
-pub gives-rest : (p : Party) (c : Chart) (loud : Bool) (out : List ℕ) → Charts p c → Gives (resting p) loud out (record { party = p; chart = c; rules = 0; sent = 0 }) out
-gives-rest p c loud out h = record {
+pub gives-rest : (p : Party) (c : Chart) (ports : List ℕ) (loud : Bool) (out : List ℕ) → Charts p c ports
+    → Gives (resting p) loud out (record { party = p; chart = c; ports = ports; rules = 0; sent = 0 }) out
+gives-rest p c ports loud out h = record {
   party = refl;
   chart = h;
   rules = refl;

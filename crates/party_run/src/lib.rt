@@ -1,20 +1,25 @@
 // Rules applied until none does, with the messages that they make.
 ghost use mathlib.Core.Path.{_≡_};
-ghost use Prim.Native.Nat.{_+_, _≤_, _<_};
 ghost use mathlib.Core.Bool.{true, false};
+ghost use Prim.Native.Nat.{_+_, _-_, _≤_, _<_};
 ghost use lib.ListN.{length};
 ghost use Rattle.base.specs.Put.{putAt};
-ghost use Rattle.base.specs.Limits.{maxBoards};
-ghost use Rattle.party.specs.Run as Rules;
-ghost use Rattle.party.specs.Party.{started, heldBy};
+ghost use Rattle.base.specs.Limits.{levelCount};
+ghost use Rattle.plan.specs.Tie.{shaped};
 ghost use Rattle.message.specs.Message.{inTable};
+ghost use Rattle.level.specs.Inner.{InLimits};
+ghost use Rattle.level.specs.Rules.{lowestRule};
+ghost use Rattle.level.specs.Tie.{asLevel, asApplied};
+ghost use Rattle.party.specs.Party.{started};
+ghost use Rattle.party.specs.Run as Rules;
+ghost use Rattle.party.specs.Tie.{partyIn, setsAt};
+ghost use Rattle.party.specs.Inner.{setCount};
 ghost use Rattle.party_life.specs.Life.{replayed, Fits};
 ghost use Rattle.party_run.specs.Inner.{voiced, asOutcome, Gives, Ready};
-ghost use Rattle.party.specs.Tie.{asParty};
 
-// What applying rules gave: the party with its chart, how many rules, and how many outgoing bytes.
+// What applying rules gave: the levels with their chart, how many rules, and how many outgoing bytes.
 pub struct Ran {
-    pub party: party::Party,
+    pub levels: party::Levels,
     pub chart: party::Chart,
     pub rules: u32,
     pub sent: usize,
@@ -52,115 +57,169 @@ fn emit(out: &mut [u8], at: usize, number: u32, i: usize, e: level::Effect, loud
     }
 }
 
-// Rules until none applies. The messages are written from the buffer's first byte on where `loud`, else nowhere.
-fn run(p: party::Party, c: party::Chart, out: &mut [u8], loud: bool) -> Ran
-    requires { ⌜ Ready (asParty p) c (length (now out)) ⌝ }
-    ensures { λ r. ⌜ Gives (Rules.run (asParty p)) loud (now (out .entry)) (asOutcome r) (now (out .exit)) ⌝ }
+// The lowest rule that applies at level i.
+fn rule_at(sets: &[senders::Mask], i: usize, l: level::Level, c: level::Context) -> level::Applied
+    requires { ⌜ (i < levelCount) × (setCount ≤ length (now sets)) × InLimits c (asLevel (setsAt (now sets) i) l) ⌝ }
+    ensures { λ r. ⌜ asApplied (setsAt (now (sets .entry)) i) r ≡ lowestRule c (asLevel (setsAt (now (sets .entry)) i) l) ⌝ }
 {
-    let mut q = p;
-    let mut d = c;
+    let from = level_counts::SLOTS * i;
+    let end = from + level_counts::SLOTS;
+    level_lowest::lowest_rule(l, &sets[from..end], c)
+}
+
+// The level before i, or the first.
+fn back(i: usize) -> usize
+    ensures { λ r. ⌜ r ≡ i - 1 ⌝ }
+{
+    if i == 0 {
+        return 0;
+    }
+    i - 1
+}
+
+// Rules until none applies. The messages are written from the buffer's first byte on where `loud`, else nowhere.
+// No rule applies below level i; a rule at level i opens none but at i - 1, i and i + 1. At most base::MAX_RULES rules apply.
+fn run(
+    v: party::Vote,
+    shape: plan::Shape,
+    ps: &[u16],
+    cs: &[u16],
+    sets: &party::Sets,
+    levels: party::Levels,
+    chart: party::Chart,
+    ports: &mut [u8; base::MAX_VERTICES],
+    out: &mut [u8],
+    loud: bool,
+) -> Ran
+    requires { ⌜ Ready (partyIn v (shaped shape (now ps) (now cs)) levels (now sets)) chart (now ports) (length (now out)) ⌝ }
+    ensures { λ g. ⌜ Gives (Rules.run (partyIn v (shaped shape (now (ps .entry)) (now (cs .entry))) levels (now (sets .entry)))) loud (now (out .entry)) (asOutcome v (shaped shape (now (ps .entry)) (now (cs .entry))) (now (sets .entry)) (now (ports .exit)) g) (now (out .exit)) ⌝ }
+{
+    let mut ls = levels;
+    let mut d = chart;
     let mut sent: usize = 0;
     let mut rules: u32 = 0;
-    while rules < base::MAX_RULES {
-        let o = party_step::lowest_open(q, d);
-        let at = o.at;
-        if at == base::LEVELS {
-            return Ran {
-                party: q,
-                chart: d,
-                rules: rules,
-                sent: sent,
-            };
-        }
-        let a = o.applied;
+    let mut i: usize = 0;
+    while i < d.sending {
+        let s = d.surveys[i];
+        let l = ls[i];
+        let next = ls[i + 1];
+        let a = rule_at(sets, i, l, party_step::context(v.n, v.t, s, next));
         let e = a.effect;
-        sent = emit(out, sent, q.agreement, at, e, loud);
-        let next = party_step::step(q, d, at, a);
-        q = next.party;
-        d = next.chart;
-        rules += 1;
+        if level::applies(e) {
+            sent = emit(out, sent, v.agreement, i, e, loud);
+            let m = party_step::step(shape, ps, cs, ls, d, ports, i, a);
+            ls = m.levels;
+            d = m.chart;
+            rules += 1;
+            i = back(i);
+        } else {
+            i += 1;
+        }
     }
     Ran {
-        party: q,
+        levels: ls,
         chart: d,
         rules: rules,
         sent: sent,
     }
 }
 
-// Was the message taken from s already?
-pub fn held(p: party::Party, s: u8, m: message::Message) -> bool
-    requires { ⌜ (s < maxBoards) × (inTable m ≡ true) ⌝ }
-    ensures { λ r. ⌜ r ≡ heldBy (asParty p) s m ⌝ }
-{
-    let i = m.level as usize;
-    let l = p.levels[i];
-    let b = m.body;
-    l.holds(b, s)
-}
-
 // Level 0 is entered at x, and rules are applied.
-fn start(p: party::Party, c: party::Chart, x: base::Position, out: &mut [u8], loud: bool) -> Ran
-    requires { ⌜ Ready (asParty p) c (length (now out)) × (started (asParty p) ≡ false) × (x < p .plan .count) ⌝ }
-    ensures { λ r. ⌜ Gives (Rules.starting (asParty p) x) loud (now (out .entry)) (asOutcome r) (now (out .exit)) ⌝ }
+fn start(
+    v: party::Vote,
+    shape: plan::Shape,
+    ps: &[u16],
+    cs: &[u16],
+    sets: &party::Sets,
+    levels: party::Levels,
+    chart: party::Chart,
+    ports: &mut [u8; base::MAX_VERTICES],
+    x: base::Position,
+    out: &mut [u8],
+    loud: bool,
+) -> Ran
+    requires { ⌜ Ready (partyIn v (shaped shape (now ps) (now cs)) levels (now sets)) chart (now ports) (length (now out)) × (started (partyIn v (shaped shape (now ps) (now cs)) levels (now sets)) ≡ false) × (x < shape .count) ⌝ }
+    ensures { λ g. ⌜ Gives (Rules.starting (partyIn v (shaped shape (now (ps .entry)) (now (cs .entry))) levels (now (sets .entry))) x) loud (now (out .entry)) (asOutcome v (shaped shape (now (ps .entry)) (now (cs .entry))) (now (sets .entry)) (now (ports .exit)) g) (now (out .exit)) ⌝ }
 {
-    let plan = p.plan;
-    let w = component::whole(plan);
-    let next = party_step::enter(p, c, 0, w, 0, x);
-    let q = next.party;
-    let d = next.chart;
-    run(q, d, out, loud)
+    let span = component::whole(shape, ps, cs, ports);
+    let mut ls = levels;
+    let e = party_step::enter(shape, ps, cs, span, ports, ls[0], 0, x);
+    let l = e.level;
+    ls[0] = l;
+    let d = party_step::charted(chart, 0, e);
+    run(v, shape, ps, cs, sets, ls, d, ports, out, loud)
 }
 
-// A message that is not held is taken from s, and rules are applied.
+// A message is taken from s, and rules are applied; one that is held changes nothing.
 fn take(
-    p: party::Party,
-    c: party::Chart,
+    v: party::Vote,
+    shape: plan::Shape,
+    ps: &[u16],
+    cs: &[u16],
+    sets: &mut party::Sets,
+    levels: party::Levels,
+    chart: party::Chart,
+    ports: &mut [u8; base::MAX_VERTICES],
     s: u8,
     m: message::Message,
     out: &mut [u8],
     loud: bool,
 ) -> Ran
-    requires { ⌜ Ready (asParty p) c (length (now out)) × (s < p .n) × (inTable m ≡ true) × (heldBy (asParty p) s m ≡ false) ⌝ }
-    ensures { λ r. ⌜ Gives (Rules.taking (asParty p) s m) loud (now (out .entry)) (asOutcome r) (now (out .exit)) ⌝ }
+    requires { ⌜ Ready (partyIn v (shaped shape (now ps) (now cs)) levels (now sets)) chart (now ports) (length (now out)) × (s < v .n) × (inTable m ≡ true) ⌝ }
+    ensures { λ g. ⌜ Gives (Rules.taking (partyIn v (shaped shape (now (ps .entry)) (now (cs .entry))) levels (now (sets .entry))) s m) loud (now (out .entry)) (asOutcome v (shaped shape (now (ps .entry)) (now (cs .entry))) (now (sets .exit)) (now (ports .exit)) g) (now (out .exit)) ⌝ }
 {
-    let i = m.level as usize;
-    let l = p.levels[i];
-    let b = m.body;
-    let mut q = p;
-    q.levels[i] = l.hear(b, s);
-    run(q, c, out, loud)
+    let k = party::place(m);
+    let mask = sets[k];
+    if senders::contains(mask, s) {
+        return Ran {
+            levels: levels,
+            chart: chart,
+            rules: 0,
+            sent: 0,
+        };
+    }
+    sets[k] = senders::add(mask, s);
+    run(v, shape, ps, cs, sets, levels, chart, ports, out, loud)
 }
 
-// What a record's call does: a start, or a message taken, which does nothing where it is held.
+// What a record's call does: a start, or a message taken.
 pub fn replay(
-    p: party::Party,
-    c: party::Chart,
+    v: party::Vote,
+    shape: plan::Shape,
+    ps: &[u16],
+    cs: &[u16],
+    sets: &mut party::Sets,
+    levels: party::Levels,
+    chart: party::Chart,
+    ports: &mut [u8; base::MAX_VERTICES],
     r: journal::Record,
     out: &mut [u8],
     loud: bool,
 ) -> Ran
-    requires { ⌜ Ready (asParty p) c (length (now out)) × Fits (asParty p) r ⌝ }
-    ensures { λ g. ⌜ Gives (replayed (asParty p) r) loud (now (out .entry)) (asOutcome g) (now (out .exit)) ⌝ }
+    requires { ⌜ Ready (partyIn v (shaped shape (now ps) (now cs)) levels (now sets)) chart (now ports) (length (now out)) × Fits (partyIn v (shaped shape (now ps) (now cs)) levels (now sets)) r ⌝ }
+    ensures { λ g. ⌜ Gives (replayed (partyIn v (shaped shape (now (ps .entry)) (now (cs .entry))) levels (now (sets .entry))) r) loud (now (out .entry)) (asOutcome v (shaped shape (now (ps .entry)) (now (cs .entry))) (now (sets .exit)) (now (ports .exit)) g) (now (out .exit)) ⌝ }
 {
     match r {
         journal::Record::Start {
             agreement: _,
             position: x,
-        } => start(p, c, x, out, loud),
+        } => start(v, shape, ps, cs, sets, levels, chart, ports, x, out, loud),
         journal::Record::Taken {
             sender: s,
             message: m,
-        } => {
-            if held(p, s, m) {
-                return Ran {
-                    party: p,
-                    chart: c,
-                    rules: 0,
-                    sent: 0,
-                };
-            }
-            take(p, c, s, m, out, loud)
-        }
+        } => take(
+            v,
+            shape,
+            ps,
+            cs,
+            sets,
+            levels,
+            chart,
+            ports,
+            s,
+            m,
+            out,
+            loud,
+        ),
     }
 }

@@ -1,199 +1,115 @@
--- A level entered: level 0 at a start, and the next level by a side.
-use mathlib.Core.Path.{_≡_, refl, sym, ap, ap₂, _∙_, subst}
+-- A level entered over a component: what is found there, with three or more positions and with fewer.
+use mathlib.Core.Path.{_≡_, refl, sym, ap, _∙_, subst}
 use mathlib.Core.Bool.{Bool, true, false}
-use Prim.Native.Nat.{ℕ, suc, _+_, _≤_, _<_}
-use native.Mathlib.Numerals.{add-one}
-use native.Mathlib.Omega.{arith}
+use mathlib.Core.List.{List}
+use Prim.Native.Nat.{ℕ, _+_, _≤_, _<_}
 use lib.Dec.{T, leb}
 use lib.ListN.{length, getD, set}
 use borrow.Author.Tests.{le-leb, lt-leb}
 use Rattle.base.specs.Pick.{pick}
 use Rattle.base.specs.Sets.{Set}
 use Rattle.base.specs.Limits.{levelCount}
-use Rattle.component.specs.declared.Component.{Component}
+use Rattle.base.proofs.Bools.{true→T, false→not-T}
+use Rattle.plan.specs.Plan.{Plan}
+use Rattle.component.specs.declared.Span.{Span}
+use Rattle.component.specs.declared.Centre.{Centre}
 use Rattle.component.specs.declared.Survey.{Survey}
-use Rattle.component.specs.Component.{wholeOf, sizeOf, centreOf, degreeOf, neighbourOf, sideOf}
-use Rattle.component.specs.Inner.{members, OfPlan, surveyOf}
-use Rattle.level.specs.Level.{Level, withEntry}
+use Rattle.component.specs.Component.{sizeOf, portOf}
+use Rattle.component.specs.Inner.{members, Lent, OfPlan, Surveyed, Finds, Numbered, Holds, surveyOf}
+use Rattle.level.specs.Level.{withEntry}
+use Rattle.level.specs.declared.Level.{Level}
+use Rattle.level.specs.declared.Applied.{Applied}
+use Rattle.level.specs.Inner.{noCodeLevel}
+use Rattle.level.specs.Tie.{asLevel}
 use Rattle.party.specs.declared.Chart.{Chart}
-use Rattle.party.specs.Party.{Party, levelAt, withLevel, componentOf, sending, entering, entered, started}
-use Rattle.party.specs.Run.{gate}
-use Rattle.party.specs.Valid.{partyValid}
-use Rattle.party.specs.Inner.{Charts, noSurvey}
-use Rattle.party_laws.proofs.Laws.{Formed, Entry, entry-level, entry-above, entry-whole, board-entering, descend-component, sending-level, entered-level, SendingLevel, formed-entered}
-use Rattle.party_step.specs.Inner.{Enterable, Descends, descended, Leads}
-use Rattle.base.proofs.Bools.{false→not-T}
-use Rattle.party_step.proofs.Charts.{sends-charted, new-charted, small-charts, more-charts}
+use Rattle.party.specs.Inner.{noSurvey}
+use Rattle.party_step.specs.declared.Entered.{Entered}
+use Rattle.party_step.specs.declared.Way.{Way}
+use Rattle.party_step.specs.declared.Moved.{Moved}
+use Rattle.party_step.specs.Inner.{chartWith, Enterable, Enters, Descends, Steps, Below, Stepped}
 
--- what leads to a party leads to any that equals it
-pub leads-to : (q r s : Party) (d : Chart) → q ≡ r → Leads q s d → Leads r s d
-leads-to q r s d e h = record { party = h .party ∙ e; chart = h .chart }
+-- ---- what the survey finds
 
--- ---- a level entered over a component
+module _ (p : Plan) (s : Span) (S : Set) (l : List ℕ) (h : Centre) (f : Finds p s S l h) where
+  pub found-surveyed : OfPlan p S → 3 ≤ sizeOf p S → Surveyed p s l
+  found-surveyed o t = record {
+    of = subst (OfPlan p) (sym (f .same)) o;
+    three = subst (λ (y : Set). 3 ≤ sizeOf p y) (sym (f .same)) t;
+    numbers = f .numbers;
+  }
 
-module _ (p : Party) (c : Chart) (i : ℕ) (part : Component) (k x : ℕ) (w : Formed p) (e : Enterable p c i part k x) where
-  abbrev S : Set
-  S = members (p .plan) part
+  pub found-place : (x : ℕ) → T (S x) → T (members p s l x)
+  found-place x t = subst (λ (y : Set). T (y x)) (sym (f .same)) t
 
-  abbrev q : Party
-  q = entering p i S k x
-
-  below : i < length (p .levels)
-  below = omega (arith, e .charts .last, e .level, w .full)
-
-  enter-formed : Formed (entering p i (members (p .plan) part) k x)
-  enter-formed = record { valid = e .after; full = board-entering p i S k x .levels ∙ w .full }
-
-  level : levelAt q i .position ≡ x
-  level = ap (λ (m : Level). m .position) (entry-level p i S k x below)
-
-  is-entered : T (levelAt q i .entered)
-  is-entered = subst (λ (m : Level). T (m .entered)) (sym (entry-level p i S k x below)) tt
-
-  pub enter-plan : OfPlan (p .plan) (members (p .plan) part)
-  enter-plan =
-      subst (λ y. OfPlan y S) (board-entering p i S k x .plan)
-      (subst (OfPlan (q .plan)) (e .component) (entered-level q enter-formed i is-entered .plan))
-
-  pub enter-place : T (members (p .plan) part x)
-  enter-place =
-      subst (λ (y : ℕ). T (S y)) level
-      (subst (λ (y : Set). T (y (levelAt q i .position))) (e .component) (entered-level q enter-formed i is-entered .place))
-
-  -- the party and the chart as they are computed: over one or two positions
-  leads : (r : Party) (d : Chart) → r ≡ q → Charts q d → Leads q r d
-  leads r d f h = record { party = f; chart = subst (λ (y : Party). Charts y d) (sym f) h }
-
-  output-by : (b : Bool) → leb 3 (sizeOf (p .plan) S) ≡ b → withLevel p i (withEntry (levelAt p i) k x (pick b (levelAt p i .output) x)) ≡ q
-  unfolding entering
-  output-by b f = ap (λ (y : Bool). withLevel p i (withEntry (levelAt p i) k x (pick y (levelAt p i .output) x))) (sym f)
-
-  pub small-leads : sizeOf (p .plan) (members (p .plan) part) < 3
-      → Leads (entering p i (members (p .plan) part) k x) (withLevel p i (withEntry (levelAt p i) k x x)) c
-  small-leads l =
-      leads (withLevel p i (withEntry (levelAt p i) k x x)) c (output-by false (lt-leb 3 (sizeOf (p .plan) S) l))
-      (small-charts p c i S k x w (e .charts) (e .level) (e .new) (e .component) l)
-
-  -- and over three or more
-  pub large-leads : 3 ≤ sizeOf (p .plan) (members (p .plan) part) → length (c .surveys) ≡ levelCount → (v : Survey)
-      → v ≡ surveyOf (p .plan) (members (p .plan) part) x
-      → Leads (entering p i (members (p .plan) part) k x)
-      (withLevel p i (withEntry (levelAt p i) k x (levelAt p i .output))) (record { sending = i + 1; surveys = set (c .surveys) i v; deepest = part })
-  large-leads l full v f =
-      leads (withLevel p i (withEntry (levelAt p i) k x (levelAt p i .output))) (record { sending = i + 1; surveys = set (c .surveys) i v; deepest = part })
-      (output-by true (le-leb 3 (sizeOf (p .plan) S) l))
-      (more-charts p c i S k x w (e .charts) (e .level) (e .new) (e .component) enter-formed full l
-      (record { sending = i + 1; surveys = set (c .surveys) i v; deepest = part }) refl (ap (set (c .surveys) i) f) refl)
-
--- ---- a start
-
-pub start-enterable : (p : Party) (c : Chart) (part : Component) (x : ℕ) → Formed p → Charts p c → members (p .plan) part ≡ wholeOf (p .plan)
-    → started p ≡ false → x < p .plan .count → Enterable p c 0 part 0 x
-unfolding entered
-start-enterable p c part x w h e new l =
-    let level : c .sending ≡ 0 = omega (arith, new-charted p c h 0 (omega arith) new) in
-    record {
-      valid = w .valid;
-      charts = h;
-      level = level;
-      new = new;
-      component = entry-whole p 0 (members (p .plan) part) 0 x ∙ sym e;
-      after = subst (λ (S : Set). T (partyValid (entering p 0 S 0 x))) (sym e) (formed-entered p w x (false→not-T new) l .valid);
-    }
-
-pub start-entered : (p : Party) (part : Component) (x : ℕ) → members (p .plan) part ≡ wholeOf (p .plan)
-    → entering p 0 (members (p .plan) part) 0 x ≡ entered p x
-unfolding entered
-start-entered p part x e = ap (λ (S : Set). entering p 0 S 0 x) e
-
--- ---- a side of level i
-
-module _ (p : Party) (c : Chart) (i k : ℕ) (keep : Bool) (w : Formed p) (d : Descends p c i k keep) where
-  here : SendingLevel p i
-  here = sending-level p w i (d .sends)
-
-  pub descends-next : i + 1 < levelCount
-  descends-next = here .next
-
-  level-next : c .sending ≡ i + 1
-  level-next =
-      omega (arith, here .next, sends-charted p c (d .charts) i (omega (arith, here .next)) (d .sends), new-charted p c (d .charts) (i + 1) (here .next) (d .new))
-
-  deepest : members (p .plan) (c .deepest) ≡ componentOf p i
-  deepest = d .charts .deepest i (level-next ∙ add-one i)
-
-  survey : getD (c .surveys) i noSurvey ≡ surveyOf (p .plan) (componentOf p i) (levelAt p i .position)
-  survey = d .charts .surveys i (omega (arith, level-next))
-
-  centre : getD (c .surveys) i noSurvey .centre ≡ centreOf (p .plan) (members (p .plan) (c .deepest))
+  pub found-survey : (x port : ℕ) → port ≡ portOf p (members p s l) x
+      → _≡_ {A = Survey} (record { centre = h .centre; degree = h .degree; port = port }) (surveyOf p S x)
   unfolding surveyOf
-  centre = ap (λ (s : Survey). s .centre) survey ∙ ap (centreOf (p .plan)) (sym deepest)
+  found-survey x port e =
+      let q : port ≡ portOf p S x = e ∙ ap (λ (y : Set). portOf p y x) (f .same) in
+      λ z. record { centre = f .centre z; degree = f .degree z; port = q z }
 
-  plan : OfPlan (p .plan) (members (p .plan) (c .deepest))
-  plan = subst (OfPlan (p .plan)) (sym deepest) (here .level .plan)
+-- ---- a level entered
 
-  three : 3 ≤ sizeOf (p .plan) (members (p .plan) (c .deepest))
-  three = subst (λ (S : Set). 3 ≤ sizeOf (p .plan) S) (sym deepest) (here .three)
+module _ (p : Plan) (S : Set) (old : Level) (k x : ℕ) (e : Entered) (ports : List ℕ) where
+  by-size : (b : Bool) → leb 3 (sizeOf p S) ≡ b → ((sets : List ℕ) → asLevel sets (e .level) ≡ withEntry (asLevel sets old) k x (pick b (old .output) x))
+      → (sets : List ℕ) → asLevel sets (e .level) ≡ withEntry (asLevel sets old) k x (pick (leb 3 (sizeOf p S)) (old .output) x)
+  by-size b q h sets = h sets ∙ ap (λ (y : Bool). withEntry (asLevel sets old) k x (pick y (old .output) x)) (sym q)
 
-  -- the party that is made
-  abbrev x : ℕ
-  x = pick keep (levelAt p i .position) (gate p i k)
+  -- over one or two positions
+  pub small-enters : sizeOf p S < 3 → e .sends ≡ false → ((sets : List ℕ) → asLevel sets (e .level) ≡ withEntry (asLevel sets old) k x x)
+      → Enters p S old k x e ports
+  small-enters l f m =
+      let b : leb 3 (sizeOf p S) ≡ false = lt-leb 3 (sizeOf p S) l in
+      record {
+        level = by-size false b m;
+        sends = f ∙ sym b;
+        survey = λ t. absurd (false→not-T f (true→T t));
+        component = λ t. absurd (false→not-T f (true→T t));
+        numbers = λ t. absurd (false→not-T f (true→T t));
+      }
 
-  abbrev side : Set
-  side = sideOf (p .plan) (componentOf p i) k
+  -- over three or more
+  pub large-enters : 3 ≤ sizeOf p S → e .sends ≡ true → ((sets : List ℕ) → asLevel sets (e .level) ≡ withEntry (asLevel sets old) k x (old .output))
+      → e .survey ≡ surveyOf p S x → members p (e .span) ports ≡ S → Numbered p (e .span) ports → Enters p S old k x e ports
+  large-enters l f m s c n =
+      let b : leb 3 (sizeOf p S) ≡ true = le-leb 3 (sizeOf p S) l in
+      record { level = by-size true b m; sends = f ∙ sym b; survey = λ _. s; component = λ _. c; numbers = λ _. n }
 
-  abbrev target : Party
-  target = entering p (i + 1) side k x
+-- ---- a set as it is lent
 
-  formed : Formed target
-  formed = record { valid = d .after; full = board-entering p (i + 1) side k x .levels ∙ w .full }
+module _ (p : Plan) (s : Span) (ports : List ℕ) (S : Set) (h : Holds p s ports S) where
+  pub holds-enterable : (x : ℕ) → OfPlan p S → T (S x) → Lent p → Enterable p s ports x
+  holds-enterable x o t r = record {
+    rows = r;
+    of = subst (OfPlan p) (sym (h .is)) o;
+    flat = h .flat;
+    place = subst (λ (y : Set). T (y x)) (sym (h .is)) t;
+  }
 
-  made : levelAt target (i + 1) ≡ withEntry (levelAt p (i + 1)) k x (pick (leb 3 (sizeOf (p .plan) side)) (levelAt p (i + 1) .output) x)
-  made = entry-level p (i + 1) side k x (omega (arith, here .next, w .full))
+  -- what is entered over the array's component is entered over S
+  pub holds-enters : (old : Level) (k x : ℕ) (e : Entered) (after : List ℕ) → Enters p (members p s ports) old k x e after → Enters p S old k x e after
+  holds-enters old k x e after g = subst (λ (y : Set). Enters p y old k x e after) (h .is) g
 
-  entry : Entry target (suc i)
-  entry =
-      subst (Entry target) (add-one i)
-      (entered-level target formed (i + 1) (subst (λ (m : Level). T (m .entered)) (sym made) tt) .entry)
+-- ---- a rule's step
 
-  side-k : levelAt target (suc i) .side ≡ k
-  side-k = subst (λ (j : ℕ). levelAt target j .side ≡ k) (add-one i) (ap (λ (m : Level). m .side) made)
+module _ (p : Plan) (levels : List Level) (c : Chart) (before : List ℕ) (i : ℕ) (w v : Way) (same : v ≡ w) where
+  pub steps-descends : Steps p levels c before i w → v .enters ≡ true
+      → Descends p (c .deepest) before (getD (c .surveys) i noSurvey .centre) (getD levels i noCodeLevel .position) (v .side) (v .keep)
+  steps-descends s = subst (Steps p levels c before i) (sym same) s .enters
 
-  low : 1 ≤ k
-  low = subst (λ (n : ℕ). 1 ≤ n) side-k (entry .1)
+  module _ (a : Applied) (full : length (c .surveys) ≡ levelCount) where
+    to : (r : Moved) (after : List ℕ) → Stepped p levels c before i a v r after → Stepped p levels c before i a w r after
+    to r after h = subst (λ (y : Way). Stepped p levels c before i a y r after) same h
 
-  high : k ≤ degreeOf (p .plan) (members (p .plan) (c .deepest))
-  high =
-      let a : degreeOf (target .plan) (componentOf target i) ≡ degreeOf (p .plan) (componentOf p i) =
-      λ z. degreeOf (board-entering p (i + 1) side k x .plan z) (entry-above p (i + 1) side k x i (omega arith) z) in
-      let b : degreeOf (p .plan) (members (p .plan) (c .deepest)) ≡ degreeOf (p .plan) (componentOf p i) = ap (degreeOf (p .plan)) deepest in
-      omega (arith, entry .2, side-k, a, b)
+    -- no level is entered
+    pub stepped-stays : v .enters ≡ false → Stepped p levels c before i a w (record { levels = set levels i (a .level); chart = c }) before
+    stepped-stays f =
+        to (record { levels = set levels i (a .level); chart = c }) before
+        (record { surveys = full; stays = λ _. (refl, refl, refl); enters = λ t. absurd (false→not-T f (true→T t)) })
 
-  -- what a side and a neighbour ask of the chart's deepest component
-  pub descends-asks : OfPlan (p .plan) (members (p .plan) (c .deepest)) × (3 ≤ sizeOf (p .plan) (members (p .plan) (c .deepest)))
-      × (getD (c .surveys) i noSurvey .centre ≡ centreOf (p .plan) (members (p .plan) (c .deepest))) × (1 ≤ k)
-      × (k ≤ degreeOf (p .plan) (members (p .plan) (c .deepest)))
-  descends-asks = (plan, three, centre, low, high)
-
-  -- the part and the place as they are computed
-  module _ (part : Component) (y : ℕ) (is-part : members (p .plan) part ≡ sideOf (p .plan) (members (p .plan) (c .deepest)) k)
-      (is-place : y ≡ pick keep (levelAt p i .position) (neighbourOf (p .plan) (members (p .plan) (c .deepest)) k)) where
-    part-side : members (p .plan) part ≡ sideOf (p .plan) (componentOf p i) k
-    part-side = is-part ∙ ap (λ (S : Set). sideOf (p .plan) S k) deepest
-
-    place-gate : y ≡ pick keep (levelAt p i .position) (gate p i k)
-    place-gate = is-place ∙ ap (λ (S : Set). pick keep (levelAt p i .position) (neighbourOf (p .plan) S k)) deepest
-
-    pub descends-party : entering p (i + 1) (members (p .plan) part) k y ≡ descended p i k keep
-    descends-party = ap₂ (λ (S : Set) (z : ℕ). entering p (i + 1) S k z) part-side place-gate
-
-    pub descends-enterable : Enterable p c (i + 1) part k y
-    descends-enterable = record {
-      valid = w .valid;
-      charts = d .charts;
-      level = level-next;
-      new = d .new;
-      component =
-          ap (λ (r : Party). componentOf r (i + 1)) descends-party ∙ descend-component p i k x (omega (arith, here .next, w .full)) ∙ sym part-side;
-      after = subst (λ (r : Party). T (partyValid r)) (sym descends-party) (d .after);
-    }
+    -- the next one is
+    pub stepped-enters : v .enters ≡ true → (e : Entered) (after : List ℕ) → Below p levels c before i v e after → (d : Chart) → d ≡ chartWith c (i + 1) e
+        → Stepped p levels c before i a w (record { levels = set (set levels i (a .level)) (i + 1) (e .level); chart = d }) after
+    stepped-enters t e after b d f =
+        to (record { levels = set (set levels i (a .level)) (i + 1) (e .level); chart = d }) after
+        (record { surveys = full; stays = λ n. absurd (false→not-T n (true→T t)); enters = λ _. (e, b, refl, f) })

@@ -1,5 +1,5 @@
-pub mod Charts
+pub mod Typed
 pub mod Entries
+pub mod Charts
 pub mod Openings
 pub mod Steps
-pub mod Typed

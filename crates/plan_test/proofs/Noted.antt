@@ -6,13 +6,14 @@ use Prim.Native.Nat.{ℕ, zero, suc, _+_, _≤_, _<_}
 use native.Mathlib.Decide.{ℕ-discrete}
 use native.Mathlib.Omega.{arith}
 use native.Mathlib.Numerals.{add-one}
+use lib.Bits.{bitOr, or-add-and, and-le-l, and-le-r}
 use lib.Dec.{T, eqb, eqb→eq, eqb-refl}
 use lib.ListN.{length, getD, set, drop, length-set, drop-of-length-le}
 use lib.Seq.{getD-set-same, getD-set-other, drop-cons}
-use borrow.Author.Tests.{ne-eqb}
+use borrow.Author.Tests.{eq-eqb}
 use Rattle.base.specs.Limits.{maxDegree}
 use Rattle.base.specs.Sets.{bit}
-use Rattle.base.proofs.Bools.{T→true, not-T→false, true→T, false→not-T}
+use Rattle.base.proofs.Bools.{T-and, T-left, T-right, T-ext, T→true, not-T→false, true→T, false→not-T}
 use Rattle.tree.specs.Edges.{Edges, edgesAt}
 use Rattle.tree.specs.Growth.{reached}
 use Rattle.edges.specs.Rows.{rows}
@@ -119,17 +120,37 @@ end-fit v ps cs i m e h = sym h ∙ ap (rowsFit v ps cs) e
 
 -- ---- nothing but 0
 
-pub zero-on : (l : List ℕ) (i : ℕ) → i < length l → getD l i 0 ≡ 0 → allZero (drop i l) ≡ allZero (drop (i + 1) l)
-unfolding allZero
-zero-on l i h e = rw (add-one i, drop-cons l i 0 h, e)
+-- two numbers or-ed are 0 where both are
+or-zero : (a b : ℕ) → eqb (bitOr a b) 0 ≡ eqb a 0 && eqb b 0
+or-zero a b =
+    T-ext (eqb (bitOr a b) 0) (eqb a 0 && eqb b 0)
+    (λ t. T-and (eqb a 0) (eqb b 0) (true→T (eq-eqb a 0 (low (eqb→eq (bitOr a b) 0 t) .0))) (true→T (eq-eqb b 0 (low (eqb→eq (bitOr a b) 0 t) .1))))
+    (λ t. true→T (eq-eqb (bitOr a b) 0 (both (eqb→eq a 0 (T-left (eqb a 0) (eqb b 0) t)) (eqb→eq b 0 (T-right (eqb a 0) (eqb b 0) t)))))
+  where
+    low : bitOr a b ≡ 0 → (a ≡ 0) × (b ≡ 0)
+    low e = (omega (arith, or-add-and a b, and-le-r a b), omega (arith, or-add-and a b, and-le-l a b))
 
-pub zero-stop : (l : List ℕ) (i : ℕ) → i < length l → (getD l i 0 ≡ 0 → ⊥) → false ≡ allZero (drop i l)
-unfolding allZero
-zero-stop l i h d = rw (drop-cons l i 0 h, ne-eqb (getD l i 0) 0 d)
+    both : a ≡ 0 → b ≡ 0 → bitOr a b ≡ 0
+    both p q = omega (arith, or-add-and a b)
 
-pub zero-end : (l : List ℕ) (i : ℕ) → length l ≤ i → true ≡ allZero (drop i l)
+pub zero-start : (l : List ℕ) → allZero l ≡ eqb 0 0 && allZero l
+zero-start l = refl
+
+pub zero-next : (l : List ℕ) (a i : ℕ) → i < length l → eqb a 0 && allZero (drop i l) ≡ eqb (bitOr a (getD l i 0)) 0 && allZero (drop (i + 1) l)
 unfolding allZero
-zero-end l i h = rw (drop-of-length-le l h)
+zero-next l a i h = rw (add-one i, drop-cons l i 0 h, or-zero a (getD l i 0)) (sym (and-assoc (eqb a 0) (eqb (getD l i 0) 0) (allZero (drop (suc i) l))))
+  where
+    and-assoc : (a b c : Bool) → (a && b) && c ≡ a && (b && c)
+    and-assoc true b c = refl
+    and-assoc false b c = refl
+
+pub zero-end : (l : List ℕ) (a i : ℕ) → length l ≤ i → eqb a 0 ≡ eqb a 0 && allZero (drop i l)
+unfolding allZero
+zero-end l a i h = rw (drop-of-length-le l h) (and-true (eqb a 0))
+  where
+    and-true : (b : Bool) → b ≡ b && true
+    and-true true = refl
+    and-true false = refl
 
 -- ---- notes
 

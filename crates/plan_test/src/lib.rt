@@ -7,7 +7,7 @@ ghost use lib.ListN.{length, drop};
 ghost use Rattle.edges.specs.Rows.{rows};
 ghost use Rattle.plan.specs.Valid.{rowFits, rowsFit, allZero, treeValid, rangeValid, planValid};
 ghost use Rattle.plan_test.specs.Inner.{Noted};
-ghost use Rattle.plan.specs.Tie.{asPlan};
+ghost use Rattle.plan.specs.Tie.{shaped};
 
 // Does row i lead on, with room for an edge at both ends? If so they are noted.
 fn row_fits(ps: &[u16], cs: &[u16], i: usize, seen: &mut [u8], many: &mut [u8], v: usize) -> bool
@@ -57,18 +57,17 @@ fn rows_fit(ps: &[u16], cs: &[u16], seen: &mut [u8], many: &mut [u8], v: usize, 
     true
 }
 
-// Is there nothing but 0 from a place on?
+// Is there nothing but 0 from a place on? One pass without an early end.
 fn all_zero(l: &[u16], from: usize) -> bool
     ensures { λ r. ⌜ r ≡ allZero (drop from (now (l .entry))) ⌝ }
 {
+    let mut all: u16 = 0;
     let mut i = from;
     while i < l.len() {
-        if l[i] != 0 {
-            return false;
-        }
+        all = all | l[i];
         i += 1;
     }
-    true
+    all == 0
 }
 
 // Is this what reading a tree gives?
@@ -118,16 +117,14 @@ fn range_valid(count: u32, low: u32, ps: &[u16; base::MAX_ROWS], cs: &[u16; base
 }
 
 // Is this a plan that a plan reading gives?
-pub fn valid(p: plan::Plan) -> bool
-    ensures { λ r. ⌜ r ≡ planValid (asPlan p) ⌝ }
+pub fn valid(s: plan::Shape, ps: &[u16; base::MAX_ROWS], cs: &[u16; base::MAX_ROWS]) -> bool
+    ensures { λ r. ⌜ r ≡ planValid (shaped s (now (ps .entry)) (now (cs .entry))) ⌝ }
 {
-    let ps = p.parent;
-    let cs = p.child;
-    if p.kind == 1 {
-        return tree_valid(p.count, p.low, &ps, &cs);
+    if s.kind == 1 {
+        return tree_valid(s.count, s.low, ps, cs);
     }
-    if p.kind == 2 {
-        return range_valid(p.count, p.low, &ps, &cs);
+    if s.kind == 2 {
+        return range_valid(s.count, s.low, ps, cs);
     }
     false
 }

@@ -1,69 +1,79 @@
-use mathlib.Core.Bool.{false}
+use mathlib.Core.Path.{sym, _∙_}
 use native.Mathlib.Omega.{arith}
-use borrow.Author.Needs.{needs}
+use lib.Dec.{T}
 use borrow.Author.Tests.{not-true, not-false}
 use Rattle.base.specs.Sets.{Set}
-use Rattle.component.specs.Component.{degreeOf}
+use Rattle.base.proofs.Bools.{true→T}
+use Rattle.plan.specs.Plan.{Plan}
+use Rattle.plan.specs.Tie.{shaped}
 use Rattle.component.specs.Inner.{members}
-use Rattle.plan.specs.Tie.{asPlan}
-use Rattle.level.specs.Tie.{asLevel}
-use Rattle.party_inspect.proofs.Places.{settles-small, settles-large, survey-degree, first-fails, first-passes}
+use Rattle.party_inspect.proofs.Places.{part-elsewhere, part-small, part-large}
+use borrow.Author.Needs.{needs}
 use Rattle.party_inspect.proofs.inspect_part.Statement.{statement}
 use Rattle.party_inspect.proofs.inspect_part.Tie as tie
 
+-- the plan that is lent
+abbrev plan : tie.Start → Plan
+plan s = shaped (s .args .shape) (s .args .ps .now) (s .args .cs .now)
+
+-- its component
+abbrev component : tie.Start → Set
+component s = members (plan s) (s .args .span) (s .args .ports .now)
+
+-- it holds the position
+abbrev start : tie.Else1 → tie.Start
+start d = d .before .before .before .before .before
+
+inside : (d : tie.Else1) → T (component (start d) (start d .args .l .position))
+inside d = true→T (sym (d .before .contains .ensures) ∙ not-false _ (d .if1 .left))
+
+contains-requires : tie.Need-contains-requires
+contains-requires c κs = search needs
+
+returns : tie.Need-returns
+returns c =
+    let s = c .before .before .before .before .before in
+    let a = s .args in
+    let b = c .before .contains in
+    part-elsewhere (plan s) (component s) (a .l) (a .i) (a .last) _ (b .result) (b .ensures) (not-true _ (c .if1 .taken))
+
 size-requires : tie.Need-size-requires
-size-requires c κs = search needs
+size-requires c κs =
+    let s = c .before .before .before .before .before .before in
+    (s .pre .component, s .pre .flat)
 
 unresolved-requires : tie.Need-unresolved-requires
 unresolved-requires c κs = search needs
 
-returns : tie.Need-returns
-returns c =
-    let a = c .before .before .before .args in
-    settles-small (asPlan (a .plan)) (members (asPlan (a .plan)) (a .part)) (asLevel (a .l)) (a .chart) (a .i) (c .unresolved .result) (omega (arith, c .before .before .size .ensures, c .before .if1 .taken)) (c .unresolved .ensures)
-
-survey-at-requires : tie.Need-survey-at-requires
-survey-at-requires c κs = search needs
-
-extended-requires : tie.Need-extended-requires
-extended-requires c κs = search needs
-
-value-passes-requires : tie.Need-value-passes-requires
-value-passes-requires c κs = search needs
-
 returns-2 : tie.Need-returns-2
 returns-2 c =
-    let a = c .before .before .before .before .before .before .args in
-    let S : Set = members (asPlan (a .plan)) (a .part) in
-    let v = c .before .before .before .survey-at in
-    settles-large (asPlan (a .plan)) (a .part) (asLevel (a .l)) (a .chart) (a .i) (record { ok = false; chart = c .before .before .extended .result }) (v .result)
-    (omega (arith, c .before .before .before .before .before .size .ensures, c .before .before .before .before .if1 .left)) (v .ensures) (c .before .before .extended .ensures)
-    (first-fails (v .result .degree) (degreeOf (asPlan (a .plan)) S) (a .l .first) (a .l .result) (c .before .value-passes .result) (survey-degree (asPlan (a .plan)) S (a .l .position) (v .result) (v .ensures))
-    (c .before .value-passes .ensures) (not-true _ (c .if2 .taken)))
+    let s = c .before .before .before .before .before .before .before .before .before in
+    let a = s .args in
+    let b = c .before .before .before .before .before .contains in
+    let u = c .unresolved in
+    part-small (plan s) (component s) (a .l) (a .i) (a .last) _ (b .result) (b .ensures) (not-false _ (c .before .before .before .before .if1 .left)) (u .result) (omega (arith, c .before .before .size .ensures, c .before .if2 .taken)) (u .ensures .0)
 
-value-passes-requires-2 : tie.Need-value-passes-requires-2
-value-passes-requires-2 c κs = search needs
+inspect-sending-requires : tie.Need-inspect-sending-requires
+inspect-sending-requires c κs =
+    let s = c .before .before .before .before .before .before .before .before .before in
+    (s .pre, omega (arith, c .before .before .size .ensures, c .before .if2 .left), inside (c .before .before .before .before))
 
 returns-3 : tie.Need-returns-3
 returns-3 c =
-    let a = c .before .before .before .before .before .before .before .args in
-    let S : Set = members (asPlan (a .plan)) (a .part) in
-    let v = c .before .before .before .before .survey-at in
-    settles-large (asPlan (a .plan)) (a .part) (asLevel (a .l)) (a .chart) (a .i) (record { ok = c .value-passes2 .result; chart = c .before .before .before .extended .result }) (v .result)
-    (omega (arith, c .before .before .before .before .before .before .size .ensures, c .before .before .before .before .before .if1 .left)) (v .ensures) (c .before .before .before .extended .ensures)
-    (first-passes (v .result .degree) (degreeOf (asPlan (a .plan)) S) (a .l .first) (a .l .result) (c .before .before .value-passes .result) (c .value-passes2 .result)
-    (survey-degree (asPlan (a .plan)) S (a .l .position) (v .result) (v .ensures)) (c .before .before .value-passes .ensures) (not-false _ (c .before .if2 .left)) (c .value-passes2 .ensures))
+    let s = c .before .before .before .before .before .before .before .before .before .before in
+    let a = s .args in
+    let b = c .before .before .before .before .before .before .contains in
+    let r = c .inspect-sending in
+    part-large (plan s) (component s) (a .l) (a .i) (a .last) _ (b .result) (b .ensures) (not-false _ (c .before .before .before .before .before .if1 .left)) (r .result) (omega (arith, c .before .before .before .size .ensures, c .before .before .if2 .left)) (r .ensures .0) (r .ensures .1)
 
 pub inspect-part-spec : {M : Type 1} → statement M
 inspect-part-spec =
     tie.close
     (tie.spec
+    contains-requires
+    returns
     size-requires
     unresolved-requires
-    returns
-    survey-at-requires
-    extended-requires
-    value-passes-requires
     returns-2
-    value-passes-requires-2
+    inspect-sending-requires
     returns-3)

@@ -1,103 +1,184 @@
--- `party_run::run` meets its contract. The loop's invariant: so many rules led to the party, their messages are written, and there is room for those to come.
-use denote.Ref.{now}
-use mathlib.Core.Path.{sym, _∙_, subst}
-use mathlib.Core.List.{List}
-use Prim.Native.Nat.{_+_, _-_, _≤_}
+-- `party_run::run` meets its contract. The loop's invariant: so many rules led to the party, their messages are written, there is room for those to come,
+-- and no rule applies below level i. The measure: the rules that can still come, and of each all levels.
+use borrow.Author.Needs.{needs}
 use native.Mathlib.Omega.{arith}
-use lib.ListN.{length}
-use Rattle.base.specs.Limits.{maxRules}
-use Rattle.message.specs.declared.Message.{Message}
-use Rattle.party.specs.Run.{bytesOf}
-use Rattle.party.specs.Run.{madeBy}
-use Rattle.level.specs.Tie.{asApplied}
-use Rattle.party.specs.Tie.{asParty}
-use Rattle.party_step.proofs.Typed.{typed-sized}
-use Rattle.party_step.proofs.Openings.{found-none, found-level, found-below, found-open, found-rule, found-step, found-made}
-use Rattle.party_run.proofs.Going.{Going, going-start, going-end, going-fits, going-on, run-end, run-stop}
+use denote.Ref.{now}
+use Prim.Native.Nat.{_+_, _-_, _*_, _<_}
+use Rattle.base.specs.Limits.{levelCount, maxRules}
+use Rattle.plan.specs.Plan.{Plan}
+use Rattle.plan.specs.Tie.{shaped}
+use Rattle.party.specs.Party.{Party}
+use Rattle.party.specs.Tie.{partyIn}
+use Rattle.party_bounds.proofs.Laws.{Sized}
+use Rattle.party_step.proofs.Typed.{levels-full, levels-echoes}
+use Rattle.party_run.proofs.Parts.{sized-in}
+use Rattle.party_run.proofs.Turns.{Between, turn-start, turn-end, turn-limits, turn-next, turn-more, turn-fits, turn-steps, turn-again}
 use Rattle.party_run.proofs.run.Statement.{statement}
 use Rattle.party_run.proofs.run.Tie as tie
 
 abbrev Inv-loop : tie.InvT-loop
-Inv-loop out₀ loud q₀ d₀ sent₀ rules₀ out q d sent rules = Going (asParty q₀) loud out₀ (asParty q) d out sent rules
+Inv-loop v shape ps cs sets ports₀ out₀ loud ls₀ d₀ sent₀ rules₀ i₀ ports out ls d sent rules i =
+    Between v (shaped shape ps cs) sets (partyIn v (shaped shape ps cs) ls₀ sets) loud out₀ ls d ports out sent rules i
 
 abbrev μ-loop : tie.MeasureT-loop
-μ-loop out₀ loud q₀ d₀ sent₀ rules₀ out q d sent rules = maxRules - rules
+μ-loop v shape ps cs sets ports₀ out₀ loud ls₀ d₀ sent₀ rules₀ i₀ ports out ls d sent rules i = (levelCount + 1) * (maxRules - rules) + (levelCount - i)
+
+abbrev plan : tie.Start Inv-loop μ-loop → Plan
+plan s = shaped (s .args .shape) (now (s .args .ps)) (now (s .args .cs))
+
+abbrev first : tie.Start Inv-loop μ-loop → Party
+first s = partyIn (s .args .v) (plan s) (s .args .levels) (now (s .args .sets))
+
+sized : (s : tie.Start Inv-loop μ-loop) → Sized (first s)
+sized s =
+    let a = s .args in
+    let t = s .good .1 .1 .1 .1 .1 .0 in
+    sized-in (a .v) (plan s) (a .levels) (now (a .sets)) (s .pre .valid) (levels-full (a .levels) _ t) (levels-echoes (a .levels) _ t)
 
 loop-holds : tie.Need-loop-holds Inv-loop μ-loop
 loop-holds c =
-    let s = c .before in
+    let s = c .before .before .before in
     let a = s .args in
-    going-start (asParty (a .p)) (a .loud) (now (a .out)) (a .c) (typed-sized (a .p) _ (s .good .0) (s .pre .valid)) (s .pre .charts)
+    turn-start (a .v) (plan s) (now (a .sets)) (a .loud) (now (a .out)) (a .levels) (a .chart) (now (a .ports)) (sized s) (s .pre .charts)
 
-lowest-open-requires : tie.Need-lowest-open-requires Inv-loop μ-loop
-lowest-open-requires c κs = let g = c .before .loop .inv in record { valid = g .sized .formed .valid; charts = g .charts }
+-- i is a level that sends
+below : (c : tie.In-loop Inv-loop μ-loop) → c .before .loop .i + 1 < levelCount
+below c = omega (arith, c .before .loop .inv .going .charts .last, c .loop-test .taken)
 
-same-length : tie.Need-same-length Inv-loop μ-loop
-same-length c = c .before .before .before .loop .inv .long
+mul-s : tie.Need-mul-s Inv-loop μ-loop
+mul-s c = omega (arith, below c)
 
-returns : tie.Need-returns Inv-loop μ-loop
-returns c =
-    let l = c .before .before .before .loop in
-    let a = c .before .before .before .before .before .args in
-    let o = c .before .lowest-open in
-    going-end (asParty (a .p)) (a .loud) (now (a .out)) (asParty (l .q)) (l .d) (l .out) (l .sent) (l .rules) (l .inv)
-    (run-stop (maxRules - l .rules) (asParty (l .q)) (found-none (asParty (l .q)) (o .result .at) (asApplied (o .result .applied)) (o .ensures) (c .if1 .taken)))
+element-copy-out-s : tie.Need-element-copy-out-s Inv-loop μ-loop
+element-copy-out-s c = omega (arith, below c)
+
+mul-l : tie.Need-mul-l Inv-loop μ-loop
+mul-l c = omega (arith, below (c .before))
+
+array-copy-out-l : tie.Need-array-copy-out-l Inv-loop μ-loop
+array-copy-out-l c = omega (arith, below (c .before))
+
+add-next : tie.Need-add-next Inv-loop μ-loop
+add-next c = omega (arith, below (c .before .before))
+
+mul-next : tie.Need-mul-next Inv-loop μ-loop
+mul-next c = omega (arith, below (c .before .before))
+
+array-copy-out-next : tie.Need-array-copy-out-next Inv-loop μ-loop
+array-copy-out-next c = omega (arith, below (c .before .before))
+
+context-requires : tie.Need-context-requires Inv-loop μ-loop
+context-requires c κs = search needs
+
+rule-at-requires : tie.Need-rule-at-requires Inv-loop μ-loop
+rule-at-requires c κs =
+    let t = c .before .before .before .before .before in
+    let l = t .before .loop in
+    let s = t .before .before .before .before .before in
+    let a = s .args in (
+      omega (arith, below t),
+      omega (arith, c .before .rule-at-arg .given .0),
+      turn-limits (a .v) (plan s) (now (a .sets)) (first s) (a .loud) (now (a .out)) (l .ls) (l .d) (l .ports) (l .out) (l .sent) (l .rules) (l .i) (l .inv)
+          (t .loop-test .taken) (c .context .result) (c .context .ensures),
+    )
+
+applies-requires : tie.Need-applies-requires Inv-loop μ-loop
+applies-requires c κs = search needs
 
 emit-requires : tie.Need-emit-requires Inv-loop μ-loop
 emit-requires c κs =
-    let t = c .before .before in
-    let l = t .before .before .before .loop in
+    let n = c .before .before in
+    let x = n .before .before in
+    let t = x .before .before .before .before .before in
+    let l = t .before .loop in
     let s = t .before .before .before .before .before in
-    let a = s .args in
-    let o = t .before .lowest-open in (
-      subst (λ (ms : List Message). l .sent + length (bytesOf ms) ≤ length (l .out)) (sym (found-made (asParty (l .q)) (o .result .at) (asApplied (o .result .applied)) (o .ensures) (t .if1 .left)))
-          (going-fits (asParty (a .p)) (a .loud) (now (a .out)) (asParty (l .q)) (l .d) (l .out) (l .sent) (l .rules) (l .inv) (found-level (asParty (l .q)) (o .result .at) (asApplied (o .result .applied)) (o .ensures) (t .if1 .left)) (s .pre .room)),
-      omega (arith, found-below (asParty (l .q)) (o .result .at) (asApplied (o .result .applied)) (o .ensures) (t .if1 .left)),
+    let a = s .args in (
+      turn-fits (a .v) (plan s) (now (a .sets)) (first s) (a .loud) (now (a .out)) (l .ls) (l .d) (l .ports) (l .out) (l .sent) (l .rules) (l .i) (l .inv)
+          (t .loop-test .taken) (x .context .result) (x .context .ensures) (n .before .rule-at .result) (n .before .rule-at .ensures) (n .applies .result) (n .applies .ensures)
+          (c .before .if1 .taken) (s .pre .room),
+      omega (arith, below t),
     )
 
 step-requires : tie.Need-step-requires Inv-loop μ-loop
 step-requires c κs =
-    let t = c .before .before .before .before .before in
-    let l = t .before .before .before .loop in
-    let o = t .before .lowest-open in (
-      record { valid = l .inv .sized .formed .valid; charts = l .inv .charts },
-      found-open (asParty (l .q)) (o .result .at) (asApplied (o .result .applied)) (o .ensures) (t .if1 .left),
-      found-rule (asParty (l .q)) (o .result .at) (asApplied (o .result .applied)) (o .ensures) (t .if1 .left),
-    )
+    let y = c .before .before .before .before .before in
+    let n = y .before in
+    let x = n .before .before in
+    let t = x .before .before .before .before .before in
+    let l = t .before .loop in
+    let s = t .before .before .before .before .before in
+    let a = s .args in
+    turn-steps (a .v) (plan s) (now (a .sets)) (first s) (a .loud) (now (a .out)) (l .ls) (l .d) (l .ports) (l .out) (l .sent) (l .rules) (l .i) (l .inv)
+    (t .loop-test .taken) (x .context .result) (x .context .ensures) (n .before .rule-at .result) (n .before .rule-at .ensures) (n .applies .result) (n .applies .ensures)
+    (y .if1 .taken) (s .pre .rows)
+
+-- a rule is left
+more : (y : tie.Then1 Inv-loop μ-loop) → y .before .before .before .before .before .before .before .before .before .loop .rules < maxRules
+more y =
+    let n = y .before in
+    let x = n .before .before in
+    let t = x .before .before .before .before .before in
+    let l = t .before .loop in
+    let s = t .before .before .before .before .before in
+    let a = s .args in
+    turn-more (a .v) (plan s) (now (a .sets)) (first s) (a .loud) (now (a .out)) (l .ls) (l .d) (l .ports) (l .out) (l .sent) (l .rules) (l .i) (l .inv)
+    (t .loop-test .taken) (x .context .result) (x .context .ensures) (n .before .rule-at .result) (n .before .rule-at .ensures) (n .applies .result) (n .applies .ensures)
+    (y .if1 .taken)
 
 add-rules : tie.Need-add-rules Inv-loop μ-loop
-add-rules c =
-    let l = c .before .before .before .before .before .before .before .before .before .before in
-    omega (arith, l .loop-test .taken)
+add-rules c = omega (arith, more (c .before .before .before .before .before .before .before .before))
+
+back-requires : tie.Need-back-requires Inv-loop μ-loop
+back-requires c κs = search needs
 
 loop-less : tie.Need-loop-less Inv-loop μ-loop
 loop-less c =
-    let l = c .before .before .before .before .before .before .before .before .before .before in
-    omega (arith, l .loop-test .taken)
+    let y = c .before .before .before .before .before .before .before .before .before in
+    let t = y .before .before .before .before .before .before .before .before in
+    omega (arith, more y, below t, c .back .ensures)
 
 loop-again : tie.Need-loop-again Inv-loop μ-loop
 loop-again c =
-    let t = c .before .before .before .before .before .before .before .before in
-    let l = t .before .before .before .loop in
+    let y = c .before .before .before .before .before .before .before .before .before in
+    let n = y .before in
+    let x = n .before .before in
+    let t = x .before .before .before .before .before in
+    let l = t .before .loop in
     let s = t .before .before .before .before .before in
     let a = s .args in
-    let o = t .before .lowest-open in
-    let m = c .before .before .before .before .before .emit in
-    let r = c .before .before .step in
-    going-on (asParty (a .p)) (a .loud) (now (a .out)) (asParty (l .q)) (l .d) (l .out) (l .sent) (l .rules) (l .inv) (found-level (asParty (l .q)) (o .result .at) (asApplied (o .result .applied)) (o .ensures) (t .if1 .left)) (s .pre .room)
-    (t .before .before .loop-test .taken) (asParty (r .result .party)) (r .result .chart) (m .last .0) (m .result)
-    (r .ensures .party ∙ found-step (asParty (l .q)) (o .result .at) (asApplied (o .result .applied)) (o .ensures) (t .if1 .left)) (r .ensures .chart)
-    (madeBy (l .q .agreement) (o .result .at) (o .result .applied .effect)) (found-made (asParty (l .q)) (o .result .at) (asApplied (o .result .applied)) (o .ensures) (t .if1 .left)) (m .ensures .0) (m .ensures .1)
+    let m = c .before .before .before in
+    let o = m .before .before .before .before .emit in
+    turn-again (a .v) (plan s) (now (a .sets)) (first s) (a .loud) (now (a .out)) (l .ls) (l .d) (l .ports) (l .out) (l .sent) (l .rules) (l .i) (l .inv)
+    (t .loop-test .taken) (x .context .result) (x .context .ensures) (n .before .rule-at .result) (n .before .rule-at .ensures) (n .applies .result) (n .applies .ensures)
+    (y .if1 .taken) (s .pre .room) (m .step .result) (m .step .last .1 .1 .1 .1 .1 .0) (m .step .ensures) (o .last .0) (o .result) (o .ensures .0) (o .ensures .1)
+    (c .back .result) (c .back .ensures)
 
-same-length-2 : tie.Need-same-length-2 Inv-loop μ-loop
-same-length-2 c = c .before .loop .inv .long
+add-i : tie.Need-add-i Inv-loop μ-loop
+add-i c = omega (arith, below (c .before .before .before .before .before .before .before .before))
 
-returns-2 : tie.Need-returns-2 Inv-loop μ-loop
-returns-2 c =
+loop-less-2 : tie.Need-loop-less-2 Inv-loop μ-loop
+loop-less-2 c = omega (arith, below (c .before .before .before .before .before .before .before .before))
+
+loop-again-2 : tie.Need-loop-again-2 Inv-loop μ-loop
+loop-again-2 c =
+    let n = c .before in
+    let x = n .before .before in
+    let t = x .before .before .before .before .before in
+    let l = t .before .loop in
+    let s = t .before .before .before .before .before in
+    let a = s .args in
+    turn-next (a .v) (plan s) (now (a .sets)) (first s) (a .loud) (now (a .out)) (l .ls) (l .d) (l .ports) (l .out) (l .sent) (l .rules) (l .i) (l .inv)
+    (t .loop-test .taken) (x .context .result) (x .context .ensures) (n .before .rule-at .result) (n .before .rule-at .ensures) (n .applies .result) (n .applies .ensures)
+    (c .if1 .left)
+
+same-length : tie.Need-same-length Inv-loop μ-loop
+same-length c = c .before .loop .inv .going .long
+
+returns : tie.Need-returns Inv-loop μ-loop
+returns c =
     let l = c .before .loop in
-    let a = c .before .before .before .args in
-    going-end (asParty (a .p)) (a .loud) (now (a .out)) (asParty (l .q)) (l .d) (l .out) (l .sent) (l .rules) (l .inv)
-    (run-end (maxRules - l .rules) (asParty (l .q)) (omega (arith, c .loop-test .left)))
+    let s = c .before .before .before .before .before in
+    let a = s .args in
+    turn-end (a .v) (plan s) (now (a .sets)) (first s) (a .loud) (now (a .out)) (l .ls) (l .d) (l .ports) (l .out) (l .sent) (l .rules) (l .i) (l .inv) (c .loop-test .left)
 
 pub run-spec : {M : Type 1} → statement M
 run-spec =
@@ -106,13 +187,24 @@ run-spec =
     Inv-loop
     μ-loop
     loop-holds
-    lowest-open-requires
-    same-length
-    returns
+    mul-s
+    element-copy-out-s
+    mul-l
+    array-copy-out-l
+    add-next
+    mul-next
+    array-copy-out-next
+    context-requires
+    rule-at-requires
+    applies-requires
     emit-requires
     step-requires
     add-rules
+    back-requires
     loop-less
     loop-again
-    same-length-2
-    returns-2)
+    add-i
+    loop-less-2
+    loop-again-2
+    same-length
+    returns)

@@ -1,45 +1,98 @@
 -- `party_run::start` meets its contract.
 use borrow.Author.Needs.{needs}
 use denote.Ref.{now}
-use Rattle.party.specs.Tie.{asParty}
-use Rattle.party_step.proofs.Typed.{typed-formed}
-use Rattle.party_step.proofs.Entries.{start-enterable}
+use Rattle.plan.specs.Plan.{Plan}
+use Rattle.plan.specs.Tie.{shaped}
+use Rattle.component.specs.Component.{wholeOf}
+use Rattle.party.specs.Party.{Party}
+use Rattle.party.specs.Tie.{partyIn}
+use Rattle.party_laws.proofs.Laws.{Formed}
+use Rattle.party_step.proofs.Typed.{levels-full, levels-echoes, chart-surveys}
+use Rattle.party_step.proofs.Entries.{holds-enters}
+use Rattle.party_step.specs.Inner.{Enters}
+use Rattle.level.specs.Inner.{noCodeLevel}
+use lib.ListN.{getD, length}
 use Rattle.party_run.specs.Inner.{asOutcome}
-use Rattle.party_run.proofs.Calls.{valid-plan, start-valid, start-gives}
+use Rattle.party_run.proofs.Parts.{sized-in}
+use Rattle.party_run.proofs.Calls.{valid-plan, whole-enterable, start-ready, start-gives}
 use Rattle.party_run.proofs.start.Statement.{statement}
 use Rattle.party_run.proofs.start.Tie as tie
 
+abbrev plan : tie.Start → Plan
+plan s = shaped (s .args .shape) (now (s .args .ps)) (now (s .args .cs))
+
+abbrev first : tie.Start → Party
+first s = partyIn (s .args .v) (plan s) (s .args .levels) (now (s .args .sets))
+
+formed : (s : tie.Start) → Formed (first s)
+formed s =
+    let a = s .args in
+    let t = s .good .1 .1 .1 .1 .1 .0 in
+    sized-in (a .v) (plan s) (a .levels) (now (a .sets)) (s .pre .0 .valid) (levels-full (a .levels) _ t) (levels-echoes (a .levels) _ t) .formed
+
+-- level 0 is entered over the whole plan
+entered : (c : tie.After-enter)
+    → Enters (plan (c .before .before .before .before .before .before .before .before)) (wholeOf (plan (c .before .before .before .before .before .before .before .before)))
+    (getD (c .before .before .before .before .before .before .before .before .args .levels) 0 noCodeLevel) 0 (c .before .before .before .before .before .before .before .before .args .x)
+    (c .enter .result) (c .enter .last .1 .1 .1 .1 .0)
+entered c =
+    let s = c .before .before .before .before .before .before .before .before in
+    let a = s .args in
+    let h = c .before .before .before .whole in
+    holds-enters (plan s) (h .result) _ (wholeOf (plan s)) (h .ensures) (getD (a .levels) 0 noCodeLevel) 0 (a .x) (c .enter .result) (c .enter .last .1 .1 .1 .1 .0) (c .enter .ensures)
+
 whole-requires : tie.Need-whole-requires
-whole-requires c κs = let s = c .before .before in valid-plan (asParty (s .args .p)) (s .pre .0 .valid)
+whole-requires c κs = let s = c .before .before .before .before in valid-plan (first s) (s .pre .0 .valid)
+
+array-copy-out-enter : tie.Need-array-copy-out-enter
+array-copy-out-enter c = search needs
 
 enter-requires : tie.Need-enter-requires
 enter-requires c κs =
-    let s = c .before .before .before in
-    let a = s .args in
-    start-enterable (asParty (a .p)) (a .c) (c .whole .result) (a .x) (typed-formed (a .p) _ (s .good .0) (s .pre .0 .valid)) (s .pre .0 .charts) (c .whole .ensures) (s .pre .1) (s .pre .2)
+    let s = c .before .before .before .before .before .before .before in
+    let h = c .before .before .whole in
+    whole-enterable (plan s) (valid-plan (first s) (s .pre .0 .valid)) (s .pre .0 .rows) (h .result) _ (h .ensures) (s .args .x) (s .pre .2)
+
+array-set-from-ls : tie.Need-array-set-from-ls
+array-set-from-ls c = search needs
+
+charted-requires : tie.Need-charted-requires
+charted-requires c κs = search needs
 
 run-requires : tie.Need-run-requires
 run-requires c κs =
-    let e = c .before .before .before in
-    let s = e .before .before .before .before in
+    let d = c .before .before in
+    let e = d .before .before in
+    let s = e .before .before .before .before .before .before .before .before in
     let a = s .args in
-    record {
-      valid = start-valid (asParty (a .p)) (e .before .whole .result) (a .x) (e .before .whole .ensures) (asParty (e .enter .result .party)) (e .enter .result .chart) (e .enter .ensures)
-          (typed-formed (a .p) _ (s .good .0) (s .pre .0 .valid)) (s .pre .1) (s .pre .2);
-      charts = e .enter .ensures .chart;
-      room = s .pre .0 .room;
-    }
+    start-ready (a .v) (plan s) (a .levels) (now (a .sets)) (a .chart) (now (a .ports)) (formed s) (s .pre .0 .charts) (a .x) (s .pre .1) (s .pre .2) (e .enter .result)
+    (e .enter .last .1 .1 .1 .1 .0) (entered e) (chart-surveys (a .chart) _ (s .good .1 .1 .1 .1 .1 .1 .0)) (d .charted .result) (d .charted .ensures) (s .pre .0 .rows)
+    (length (now (a .out))) (s .pre .0 .room)
 
 same-length : tie.Need-same-length
 same-length c = search needs
 
 returns : tie.Need-returns
 returns c =
-    let r = c .before .before .run in
-    let e = c .before .before .before .before .before .before in
-    let a = e .before .before .before .before .args in
-    start-gives (asParty (a .p)) (e .before .whole .result) (a .x) (e .before .whole .ensures) (asParty (e .enter .result .party)) (e .enter .result .chart) (e .enter .ensures) (a .loud) (now (a .out)) (asOutcome (r .result))
-    (r .last .1 .1 .0) (r .ensures)
+    let n = c .before .before in
+    let d = n .before .before .before in
+    let e = d .before .before in
+    let s = e .before .before .before .before .before .before .before .before in
+    let a = s .args in
+    let r = n .run in
+    start-gives (a .v) (plan s) (a .levels) (now (a .sets)) (a .chart) (now (a .ports)) (formed s) (s .pre .0 .charts) (a .x) (s .pre .1) (s .pre .2) (e .enter .result)
+    (e .enter .last .1 .1 .1 .1 .0) (entered e) (a .loud) (now (a .out))
+    (asOutcome (a .v) (plan s) (now (a .sets)) (r .last .1 .1 .1 .1 .1 .1 .1 .0) (r .result)) (r .last .1 .1 .1 .1 .1 .1 .1 .1 .0) (r .ensures)
 
 pub start-spec : {M : Type 1} → statement M
-start-spec = tie.close (tie.spec whole-requires enter-requires run-requires same-length returns)
+start-spec =
+    tie.close
+    (tie.spec
+    whole-requires
+    array-copy-out-enter
+    enter-requires
+    array-set-from-ls
+    charted-requires
+    run-requires
+    same-length
+    returns)

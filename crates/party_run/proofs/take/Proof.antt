@@ -1,89 +1,120 @@
 -- `party_run::take` meets its contract.
 use borrow.Author.Needs.{needs}
+use native.Mathlib.Omega.{arith}
 use denote.Ref.{now}
-use mathlib.Core.Path.{_≡_, sym, ap, _∙_, subst}
-use Prim.Native.Nat.{ℕ}
-use lib.Dec.{T}
-use lib.ListN.{getD}
-use Rattle.message.specs.declared.Message.{Message}
-use Rattle.message.proofs.RoundTrip.{table-parts}
-use Rattle.level.specs.declared.Level as CodeLevel
-use Rattle.level.specs.Level.{Level, withHeard}
-use Rattle.level.specs.Inner.{noCodeLevel}
-use Rattle.level.specs.Tie.{asLevel}
-use Rattle.party.specs.declared.Party as Code
-use Rattle.party.specs.Party.{Party, levelAt}
-use Rattle.party.specs.Run.{run}
-use Rattle.party.specs.Valid.{partyValid}
-use Rattle.party.specs.Inner.{Charts}
-use Rattle.party.specs.Tie.{asParty}
-use Rattle.party.proofs.Ties.{level-at, put-level}
-use Rattle.party_step.proofs.Typed.{typed-formed}
-use Rattle.party_run.specs.Inner.{asOutcome, Gives}
-use Rattle.party_run.proofs.Calls.{valid-sender, table-level, take-valid, take-charts, take-gives}
+use mathlib.Core.Path.{_≡_, _∙_}
+use Prim.Native.Nat.{_<_}
+use lib.ListN.{length, set}
+use Rattle.base.specs.Limits.{maxBoards}
+use Rattle.plan.specs.Plan.{Plan}
+use Rattle.plan.specs.Tie.{shaped}
+use Rattle.party.specs.Party.{Party, heldBy}
+use Rattle.party.specs.Inner.{setCount}
+use Rattle.party.specs.Tie.{partyIn}
+use Rattle.party_laws.proofs.Laws.{Formed}
+use Rattle.party_step.proofs.Typed.{levels-full, levels-echoes}
+use Rattle.party_run.specs.Inner.{asOutcome}
+use Rattle.party_run.proofs.Parts.{sized-in}
+use Rattle.party_run.proofs.Calls.{valid-sender, taken-place, taken-held, taken-ready, taken-gives}
+use Rattle.party_run.proofs.Redone.{taking-held, gives-same, gives-rest}
 use Rattle.party_run.proofs.take.Statement.{statement}
 use Rattle.party_run.proofs.take.Tie as tie
 
--- what was heard, of the level as the code reads it and as the party has it
-heard : (p : Code.Party) (m : Message) (s : ℕ) (l : CodeLevel.Level) → asLevel l ≡ withHeard (asLevel (getD (p .levels) (m .level) noCodeLevel)) (m .body) s
-    → asLevel l ≡ withHeard (levelAt (asParty p) (m .level)) (m .body) s
-heard p m s l e = e ∙ ap (λ (k : Level). withHeard k (m .body) s) (sym (level-at p (m .level)))
+abbrev plan : tie.Start → Plan
+plan s = shaped (s .args .shape) (now (s .args .ps)) (now (s .args .cs))
 
-cast-i : tie.Need-cast-i
-cast-i c = search needs
+abbrev first : tie.Start → Party
+first s = partyIn (s .args .v) (plan s) (s .args .levels) (now (s .args .sets))
 
-mul-l : tie.Need-mul-l
-mul-l c = search needs
+formed : (s : tie.Start) → Formed (first s)
+formed s =
+    let a = s .args in
+    let t = s .good .1 .1 .1 .1 .1 .0 in
+    sized-in (a .v) (plan s) (a .levels) (now (a .sets)) (s .pre .0 .valid) (levels-full (a .levels) _ t) (levels-echoes (a .levels) _ t) .formed
 
-element-copy-out-l : tie.Need-element-copy-out-l
-element-copy-out-l c = let s = c .before .before in table-level (s .args .m) (s .pre .2)
+sender : (s : tie.Start) → s .args .s < maxBoards
+sender s = valid-sender (first s) (s .pre .0 .valid) (s .args .s) (s .pre .1)
 
-hear-requires : tie.Need-hear-requires
-hear-requires c κs =
-    let s = c .before .before .before in
-    (table-parts (s .args .m) (s .pre .2) .1, valid-sender (asParty (s .args .t1)) (s .pre .0 .valid) (s .args .s) (s .pre .1))
+-- the place of the message's set
+there : (c : tie.After-place) → c .place .result < setCount
+there c =
+    let s = c .before .before .before .before in
+    let a = s .args in
+    taken-place (a .v) (plan s) (a .levels) (now (a .sets)) (a .chart) (now (a .ports)) (formed s) (s .pre .0 .charts) (a .s) (a .m) (s .pre .1) (s .pre .2) (c .place .result)
+    (c .place .ensures)
 
-mul-t12 : tie.Need-mul-t12
-mul-t12 c = search needs
+-- what was found there
+held : (c : tie.After-contains) → heldBy (first (c .before .before .before .before .before .before)) (c .before .before .before .before .before .before .args .s) (c .before .before .before .before .before .before .args .m) ≡ c .contains .result
+held c =
+    let k = c .before .before .place in
+    let s = c .before .before .before .before .before .before in
+    let a = s .args in
+    taken-held (a .v) (plan s) (a .levels) (now (a .sets)) (a .chart) (now (a .ports)) (formed s) (s .pre .0 .charts) (a .s) (a .m) (s .pre .1) (s .pre .2) (k .result)
+    (k .ensures) (c .contains .result) (c .contains .ensures)
 
-element-set-from-q : tie.Need-element-set-from-q
-element-set-from-q c = let s = c .before .before .before .before in table-level (s .args .m) (s .pre .2)
+place-requires : tie.Need-place-requires
+place-requires c κs = search needs
+
+mul-mask : tie.Need-mul-mask
+mul-mask c = omega (arith, there c)
+
+element-copy-out-mask : tie.Need-element-copy-out-mask
+element-copy-out-mask c = there c
+
+contains-requires : tie.Need-contains-requires
+contains-requires c κs = sender (c .before .before .before .before .before)
+
+returns : tie.Need-returns
+returns c =
+    let s = c .before .before .before .before .before .before .before in
+    let a = s .args in
+    gives-same (taking-held (first s) (a .s) (a .m) (held (c .before) ∙ c .if1 .taken)) (gives-rest (first s) (a .chart) (now (a .ports)) (a .loud) (now (a .out)) (s .pre .0 .charts))
+
+add-requires : tie.Need-add-requires
+add-requires c κs = sender (c .before .before .before .before .before .before .before)
+
+mul-sets : tie.Need-mul-sets
+mul-sets c = omega (arith, there (c .before .before .before .before))
+
+element-write-sets : tie.Need-element-write-sets
+element-write-sets c = there (c .before .before .before .before)
 
 run-requires : tie.Need-run-requires
 run-requires c κs =
-    let s = c .before .before .before .before .before in
+    let n = c .before .before .before in
+    let k = n .before .before .before .before in
+    let s = k .before .before .before .before in
     let a = s .args in
-    let l = c .before .hear in
-    let h = heard (a .t1) (a .m) (a .s) (l .result) (l .ensures) in
-    let q = sym (put-level (a .t1) (a .m .level) (l .result)) in
-    record {
-      valid = subst (λ (p : Party). T (partyValid p)) q (take-valid (asParty (a .t1)) (a .s) (a .m) (asLevel (l .result)) h (typed-formed (a .t1) _ (s .good .0) (s .pre .0 .valid)) (s .pre .1) (s .pre .2));
-      charts = subst (λ (p : Party). Charts p (a .c)) q (take-charts (asParty (a .t1)) (a .s) (a .m) (asLevel (l .result)) h (a .c) (s .pre .0 .charts));
-      room = s .pre .0 .room;
-    }
+    taken-ready (a .v) (plan s) (a .levels) (now (a .sets)) (a .chart) (now (a .ports)) (formed s) (s .pre .0 .charts) (a .s) (a .m) (s .pre .1) (s .pre .2)
+    (k .place .result) (k .place .ensures) (n .add .result) (n .add .ensures) (s .pre .0 .rows) (length (now (a .out))) (s .pre .0 .room)
 
 same-length : tie.Need-same-length
 same-length c = search needs
 
-returns : tie.Need-returns
-returns c =
-    let s = c .before .before .before .before .before .before .before .before in
+returns-2 : tie.Need-returns-2
+returns-2 c =
+    let n = c .before .before .before .before .before .before in
+    let k = n .before .before .before .before in
+    let s = k .before .before .before .before in
     let a = s .args in
-    let l = c .before .before .before .before .hear in
     let r = c .before .before .run in
-    take-gives (asParty (a .t1)) (a .s) (a .m) (asLevel (l .result)) (heard (a .t1) (a .m) (a .s) (l .result) (l .ensures)) (s .pre .3) (a .loud) (now (a .out)) (asOutcome (r .result)) (r .last .1 .1 .0)
-    (subst (λ (p : Party). Gives (run p) (a .loud) (now (a .out)) (asOutcome (r .result)) (r .last .1 .1 .0)) (put-level (a .t1) (a .m .level) (l .result)) (r .ensures))
+    taken-gives (a .v) (plan s) (a .levels) (now (a .sets)) (a .chart) (now (a .ports)) (formed s) (s .pre .0 .charts) (a .s) (a .m) (s .pre .1) (s .pre .2)
+    (k .place .result) (k .place .ensures) (n .add .result) (n .add .ensures) (held (n .before .before) ∙ n .before .if1 .left) (a .loud) (now (a .out))
+    (asOutcome (a .v) (plan s) (set (now (a .sets)) (k .place .result) (n .add .result)) (r .last .1 .1 .1 .1 .1 .1 .1 .0) (r .result)) (r .last .1 .1 .1 .1 .1 .1 .1 .1 .0)
+    (r .ensures)
 
 pub take-spec : {M : Type 1} → statement M
 take-spec =
     tie.close
     (tie.spec
-    cast-i
-    mul-l
-    element-copy-out-l
-    hear-requires
-    mul-t12
-    element-set-from-q
+    place-requires
+    mul-mask
+    element-copy-out-mask
+    contains-requires
+    returns
+    add-requires
+    mul-sets
+    element-write-sets
     run-requires
     same-length
-    returns)
+    returns-2)

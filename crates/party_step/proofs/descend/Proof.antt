@@ -1,86 +1,45 @@
 -- `party_step::descend` meets its contract.
-use mathlib.Core.Path.{_≡_, sym, ap, _∙_}
-use mathlib.Core.Bool.{Bool}
-use native.Mathlib.Omega.{arith}
-use Prim.Native.Nat.{ℕ, _+_, _<_}
-use lib.ListN.{getD}
-use Rattle.base.specs.Pick.{pick}
-use Rattle.base.specs.Limits.{levelCount}
-use Rattle.level.specs.Level.{Level}
-use Rattle.level.specs.Inner.{noCodeLevel}
-use Rattle.party.specs.declared.Party as Code
-use Rattle.party.specs.Party.{levelAt}
-use Rattle.party.specs.Tie.{asParty}
-use Rattle.party.proofs.Ties.{level-at}
-use Rattle.party_laws.proofs.Laws.{Formed}
-use Rattle.party_step.proofs.Typed.{typed-formed}
-use Rattle.party_step.proofs.Entries.{leads-to, descends-next, descends-asks, descends-party, descends-enterable}
+use denote.Ref.{now}
+use mathlib.Core.Path.{sym, subst}
+use Prim.Native.Nat.{ℕ}
+use lib.Dec.{T}
+use Rattle.base.specs.Sets.{Set}
+use Rattle.plan.specs.Plan.{Plan}
+use Rattle.plan.specs.Tie.{shaped}
+use Rattle.component.specs.Component.{sideOf}
+use Rattle.component.specs.Inner.{members}
+use Rattle.party_step.specs.Inner.{Enters}
+use Rattle.party_step.proofs.Entries.{holds-enterable, holds-enters}
 use Rattle.party_step.proofs.descend.Statement.{statement}
 use Rattle.party_step.proofs.descend.Tie as tie
 
--- where a side is entered, with the old position as the code reads it
-old-place : (p : Code.Party) (i : ℕ) (keep : Bool) (y x : ℕ) → x ≡ pick keep (getD (p .levels) i noCodeLevel .position) y → x ≡ pick keep (levelAt (asParty p) i .position) y
-old-place p i keep y x e = e ∙ ap (λ (l : Level). pick keep (l .position) y) (sym (level-at p i))
+-- the plan, and the side that is entered
+abbrev plan : tie.Start → Plan
+plan s = shaped (s .args .shape) (now (s .args .ps)) (now (s .args .cs))
 
-formed : (s : tie.Start) → Formed (asParty (s .args .t1))
-formed s = typed-formed (s .args .t1) _ (s .good .0) (s .pre .valid)
-
-below : (s : tie.Start) → s .args .i + 1 < levelCount
-below s = descends-next (asParty (s .args .t1)) (s .args .t2) (s .args .i) (s .args .k) (s .args .keep) (formed s) (s .pre)
-
-mul-s : tie.Need-mul-s
-mul-s c = omega (arith, below (c .before))
-
-element-copy-out-s : tie.Need-element-copy-out-s
-element-copy-out-s c = omega (arith, below (c .before))
-
-mul-old : tie.Need-mul-old
-mul-old c = omega (arith, below (c .before .before .before))
-
-element-copy-out-old : tie.Need-element-copy-out-old
-element-copy-out-old c = omega (arith, below (c .before .before .before))
-
-side-requires : tie.Need-side-requires
-side-requires c κs =
-    let s = c .before .before .before .before in
-    let a = s .args in
-    descends-asks (asParty (a .t1)) (a .t2) (a .i) (a .k) (a .keep) (formed s) (s .pre)
+abbrev side : tie.Start → Set
+side s = sideOf (plan s) (members (plan s) (s .args .deepest) (now (s .args .ports))) (s .args .k)
 
 gate-requires : tie.Need-gate-requires
-gate-requires c κs =
-    let s = c .before .before .before .before .before in
-    let a = s .args in
-    descends-asks (asParty (a .t1)) (a .t2) (a .i) (a .k) (a .keep) (formed s) (s .pre)
+gate-requires c κs = let s = c .before .before .before in (s .pre .rows, s .pre .has)
 
-add-enter : tie.Need-add-enter
-add-enter c = omega (arith, below (c .before .before .before .before .before .before))
+side-requires : tie.Need-side-requires
+side-requires c κs = c .before .before .before .before .before .pre .has
 
 enter-requires : tie.Need-enter-requires
 enter-requires c κs =
-    let s = c .before .before .before .before .before .before in
-    let a = s .args in
-    descends-enterable (asParty (a .t1)) (a .t2) (a .i) (a .k) (a .keep) (formed s) (s .pre) (c .before .side .result) (c .gate .result) (c .before .side .ensures)
-    (old-place (a .t1) (a .i) (a .keep) _ _ (c .gate .ensures))
+    let s = c .before .before .before .before .before .before .before in
+    let g = c .before .before .before .gate in
+    holds-enterable (plan s) _ _ (side s) (c .before .side .ensures) (g .result) (s .pre .of) (subst (λ (x : ℕ). T (side s x)) (sym (g .ensures)) (s .pre .place))
+    (s .pre .rows)
 
 returns : tie.Need-returns
 returns c =
-    let s = c .before .before .before .before .before .before .before in
-    let a = s .args in
-    leads-to _ _ (asParty (c .enter .result .party)) (c .enter .result .chart)
-    (descends-party (asParty (a .t1)) (a .t2) (a .i) (a .k) (a .keep) (formed s) (s .pre) (c .before .before .side .result) (c .before .gate .result)
-    (c .before .before .side .ensures) (old-place (a .t1) (a .i) (a .keep) _ _ (c .before .gate .ensures)))
-    (c .enter .ensures)
+    let s = c .before .before .before .before .before .before .before .before in
+    let g = c .before .before .before .before .gate in
+    let e = c .enter in
+    subst (λ (x : ℕ). Enters (plan s) (side s) (s .args .next) (s .args .k) x (e .result) (e .last .1 .1 .1 .1 .0)) (g .ensures)
+    (holds-enters (plan s) _ _ (side s) (c .before .before .side .ensures) (s .args .next) (s .args .k) (g .result) (e .result) (e .last .1 .1 .1 .1 .0) (e .ensures))
 
 pub descend-spec : {M : Type 1} → statement M
-descend-spec =
-    tie.close
-    (tie.spec
-    mul-s
-    element-copy-out-s
-    mul-old
-    element-copy-out-old
-    side-requires
-    gate-requires
-    add-enter
-    enter-requires
-    returns)
+descend-spec = tie.close (tie.spec gate-requires side-requires enter-requires returns)

@@ -4,7 +4,7 @@ use Rattle.party_step.proofs.gate.Statement.{statement}
 use Rattle.party_step.proofs.gate.Tie as tie
 
 returns : tie.Need-returns
-returns c = search needs
+returns c = rw (c .if1 .taken)
 
 neighbour-requires : tie.Need-neighbour-requires
 neighbour-requires c κs = search needs

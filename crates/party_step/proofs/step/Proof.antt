@@ -1,130 +1,108 @@
 -- `party_step::step` meets its contract.
 use borrow.Author.Needs.{needs}
-use native.Mathlib.Omega.{arith}
-use mathlib.Core.Path.{sym, ap, _∙_, subst}
-use mathlib.Core.Bool.{false}
-use Prim.Native.Nat.{ℕ, _<_}
-use Rattle.base.specs.Limits.{levelCount}
-use Rattle.level.specs.declared.Applied as CodeApplied
-use Rattle.level.specs.Tie.{asLevel, asApplied}
-use Rattle.party.specs.declared.Party as Code
-use Rattle.party.specs.declared.Chart.{Chart}
-use Rattle.party.specs.Party.{Party, withLevel}
-use Rattle.party.specs.Run.{stepAt}
-use Rattle.party.specs.Tie.{asParty}
-use Rattle.party.proofs.Ties.{putLevel, put-level}
-use Rattle.party_laws.proofs.Laws.{Formed}
-use Rattle.party_step.specs.Inner.{Leads, Descends, descended}
-use Rattle.party_step.proofs.Typed.{typed-formed}
-use Rattle.party_step.proofs.Entries.{leads-to}
-use Rattle.party_step.proofs.Steps.{step-below, step-nothing, step-quiet, step-send, step-enter, step-send-enter}
+use borrow.Author.Tests.{not-true, not-false}
+use denote.Ref.{now}
+use Rattle.plan.specs.Plan.{Plan}
+use Rattle.plan.specs.Tie.{shaped}
+use Rattle.party_step.specs.Inner.{wayOf}
+use Rattle.party_step.proofs.Typed.{chart-surveys}
+use Rattle.party_step.proofs.Entries.{steps-descends, stepped-stays, stepped-enters}
 use Rattle.party_step.proofs.step.Statement.{statement}
 use Rattle.party_step.proofs.step.Tie as tie
 
--- the party as the code stores it
-stored : (p : Code.Party) (c : Chart) (i : ℕ) (a : CodeApplied.Applied) → Leads (stepAt (asParty p) i) (withLevel (asParty p) i (asLevel (a .level))) c
-    → Leads (stepAt (asParty p) i) (asParty (putLevel p i (a .level))) c
-stored p c i a h = subst (λ (q : Party). Leads (stepAt (asParty p) i) q c) (sym (put-level p i (a .level))) h
+abbrev plan : tie.Start → Plan
+plan s = shaped (s .args .shape) (now (s .args .ps)) (now (s .args .cs))
 
-formed : (s : tie.Start) → Formed (asParty (s .args .p))
-formed s = typed-formed (s .args .p) _ (s .good .0) (s .pre .0 .valid)
+mul-old : tie.Need-mul-old
+mul-old c = search needs
 
-below : (s : tie.Start) → s .args .i < levelCount
-below s = step-below (asParty (s .args .p)) (s .args .c) (s .args .i) (asApplied (s .args .a)) (formed s) (s .pre .0 .charts) (s .pre .1) (s .pre .2)
+array-copy-out-old : tie.Need-array-copy-out-old
+array-copy-out-old c = search needs
 
-mul-l : tie.Need-mul-l
-mul-l c = omega (arith, below (c .before))
+add-next : tie.Need-add-next
+add-next c = search needs
 
-element-set-from-l : tie.Need-element-set-from-l
-element-set-from-l c = below (c .before)
+mul-next : tie.Need-mul-next
+mul-next c = search needs
 
-enum-told : tie.Need-enum-told
-enum-told c = search needs
+array-copy-out-next : tie.Need-array-copy-out-next
+array-copy-out-next c = search needs
 
-enum-told-2 : tie.Need-enum-told-2
-enum-told-2 c = search needs
+mul-ls : tie.Need-mul-ls
+mul-ls c = search needs
 
-enum-told-3 : tie.Need-enum-told-3
-enum-told-3 c = search needs
+array-set-from-ls : tie.Need-array-set-from-ls
+array-set-from-ls c = search needs
 
-enum-known-e : tie.Need-enum-known-e
-enum-known-e c = search needs
-
-descend-requires : tie.Need-descend-requires
-descend-requires c κs =
-    let s = c .before .before .before .before in
-    let a = s .args in
-    let k = c .before .e .given in
-    subst (λ (q : Party). Descends q (a .c) (a .i) (k .0 .0) (k .0 .1 .0)) (sym (put-level (a .p) (a .i) (a .a .level)))
-    (step-enter (asParty (a .p)) (a .c) (a .i) (asApplied (a .a)) (formed s) (s .pre .0 .charts) (s .pre .1) (s .pre .2) (k .0 .0) (k .0 .1 .0) (k .1) .0)
-
-enum-known-e-2 : tie.Need-enum-known-e-2
-enum-known-e-2 c = search needs
-
-descend-requires-2 : tie.Need-descend-requires-2
-descend-requires-2 c κs =
-    let s = c .before .before .before .before in
-    let a = s .args in
-    let k = c .before .e2 .given in
-    subst (λ (q : Party). Descends q (a .c) (a .i) (k .0 .0) false) (sym (put-level (a .p) (a .i) (a .a .level)))
-    (step-send-enter (asParty (a .p)) (a .c) (a .i) (asApplied (a .a)) (formed s) (s .pre .0 .charts) (s .pre .1) (s .pre .2) (k .0 .0) (k .1) .0)
+way-of-requires : tie.Need-way-of-requires
+way-of-requires c κs = search needs
 
 returns : tie.Need-returns
 returns c =
-    let s = c .before .before .before in
+    let s = c .before .before .before .before .before .before .before .before in
     let a = s .args in
-    step-nothing (asParty (a .p)) (a .c) (a .i) (asApplied (a .a)) (formed s) (s .pre .0 .charts) (s .pre .1) (s .pre .2) (c .enum-told .given .1)
+    let w = c .before .before .way-of in
+    stepped-stays (plan s) (a .t4) (a .t5) (now (a .ports)) (a .i) (wayOf (a .a .effect)) (w .result) (w .ensures) (a .a)
+    (chart-surveys (a .t5) _ (s .good .1 .1 .1 .1 .0)) (not-true _ (c .if1 .taken))
+
+mul-s : tie.Need-mul-s
+mul-s c = search needs
+
+element-copy-out-s : tie.Need-element-copy-out-s
+element-copy-out-s c = search needs
+
+descend-requires : tie.Need-descend-requires
+descend-requires c κs =
+    let b = c .before .before .before in
+    let s = b .before .before .before .before .before .before .before .before in
+    let a = s .args in
+    let w = b .before .before .way-of in
+    steps-descends (plan s) (a .t4) (a .t5) (now (a .ports)) (a .i) (wayOf (a .a .effect)) (w .result) (w .ensures) (s .pre) (not-false _ (b .if1 .left))
+
+add-ls : tie.Need-add-ls
+add-ls c = search needs
+
+mul-ls-2 : tie.Need-mul-ls-2
+mul-ls-2 c = search needs
+
+array-set-from-ls-2 : tie.Need-array-set-from-ls-2
+array-set-from-ls-2 c = search needs
+
+add-charted : tie.Need-add-charted
+add-charted c = search needs
+
+charted-requires : tie.Need-charted-requires
+charted-requires c κs = search needs
 
 returns-2 : tie.Need-returns-2
 returns-2 c =
-    let s = c .before .before .before in
+    let b = c .before .before .before .before .before .before in
+    let s = b .before .before .before .before .before .before .before .before in
     let a = s .args in
-    stored (a .p) (a .c) (a .i) (a .a)
-    (step-quiet (asParty (a .p)) (a .c) (a .i) (asApplied (a .a)) (formed s) (s .pre .0 .charts) (s .pre .1) (s .pre .2) (c .enum-told2 .given .1))
-
-returns-3 : tie.Need-returns-3
-returns-3 c =
-    let s = c .before .before .before in
-    let a = s .args in
-    stored (a .p) (a .c) (a .i) (a .a)
-    (step-send (asParty (a .p)) (a .c) (a .i) (asApplied (a .a)) (formed s) (s .pre .0 .charts) (s .pre .1) (s .pre .2)
-    (c .enum-told3 .given .0 .0) (c .enum-told3 .given .1))
-
-returns-4 : tie.Need-returns-4
-returns-4 c =
-    let s = c .before .before .before .before .before in
-    let a = s .args in
-    let e = c .before .before .e .given in
-    leads-to _ _ (asParty (c .descend .result .party)) (c .descend .result .chart)
-    (ap (λ (q : Party). descended q (a .i) (e .0 .0) (e .0 .1 .0)) (put-level (a .p) (a .i) (a .a .level))
-    ∙ step-enter (asParty (a .p)) (a .c) (a .i) (asApplied (a .a)) (formed s) (s .pre .0 .charts) (s .pre .1) (s .pre .2) (e .0 .0) (e .0 .1 .0) (e .1) .1)
-    (c .descend .ensures)
-
-returns-5 : tie.Need-returns-5
-returns-5 c =
-    let s = c .before .before .before .before .before in
-    let a = s .args in
-    let e = c .before .before .e2 .given in
-    leads-to _ _ (asParty (c .descend2 .result .party)) (c .descend2 .result .chart)
-    (ap (λ (q : Party). descended q (a .i) (e .0 .0) false) (put-level (a .p) (a .i) (a .a .level))
-    ∙ step-send-enter (asParty (a .p)) (a .c) (a .i) (asApplied (a .a)) (formed s) (s .pre .0 .charts) (s .pre .1) (s .pre .2) (e .0 .0) (e .1) .1)
-    (c .descend2 .ensures)
+    let w = b .before .before .way-of in
+    let e = c .before .before .descend in
+    stepped-enters (plan s) (a .t4) (a .t5) (now (a .ports)) (a .i) (wayOf (a .a .effect)) (w .result) (w .ensures) (a .a)
+    (chart-surveys (a .t5) _ (s .good .1 .1 .1 .1 .0)) (not-false _ (b .if1 .left)) (e .result) (e .last .1 .1 .1 .1 .0) (e .ensures) (c .charted .result) (c .charted .ensures)
 
 pub step-spec : {M : Type 1} → statement M
 step-spec =
     tie.close
     (tie.spec
-    mul-l
-    element-set-from-l
-    enum-told
-    enum-told-2
-    enum-told-3
-    enum-known-e
-    descend-requires
-    enum-known-e-2
-    descend-requires-2
+    mul-old
+    array-copy-out-old
+    add-next
+    mul-next
+    array-copy-out-next
+    mul-ls
+    array-set-from-ls
+    way-of-requires
     returns
-    returns-2
-    returns-3
-    returns-4
-    returns-5)
+    mul-s
+    element-copy-out-s
+    descend-requires
+    add-ls
+    mul-ls-2
+    array-set-from-ls-2
+    add-charted
+    charted-requires
+    returns-2)
