@@ -4,3 +4,4 @@ pub mod Recorded
 pub mod Replays
 pub mod Kept
 pub mod Restored
+pub mod Parts

@@ -8,7 +8,7 @@ use lib.Dec.{T, ltb, eqb}
 use lib.ListN.{length}
 use borrow.Author.Tests.{le-leb, lt-leb, ne-eqb}
 use Rattle.base.specs.Pick.{pick}
-use Rattle.base.specs.Limits.{maxRules}
+use Rattle.base.specs.Limits.{levelCount, maxRules}
 use Rattle.base.specs.Found.{Found, found, refused, ask}
 use Rattle.message.specs.declared.Message.{Message}
 use Rattle.level.specs.Level.{Level, withHeard}
@@ -126,8 +126,13 @@ module _ (p : Party) (w : New p) where
   pub new-sized : Sized p
   new-sized = subst Sized (sym new-is) (sized-new (p .n) (p .t) (p .own) (p .agreement) (p .plan) (w .settings) (w .plan))
 
+  pub new-entered : (i : ℕ) → i < levelCount → levelAt p i .entered ≡ false
+  new-entered i h =
+      ap (λ (q : Party). levelAt q i .entered) new-is
+      ∙ ap (λ (l : Level). l .entered) (new-level (p .n) (p .t) (p .own) (p .agreement) (p .plan) i h)
+
   pub new-started : started p ≡ false
-  new-started = ap (λ (q : Party). started q) new-is ∙ ap (λ (l : Level). l .entered) (new-level (p .n) (p .t) (p .own) (p .agreement) (p .plan) 0 (omega arith))
+  new-started = new-entered 0 (omega arith)
 
   pub new-rules : (rs : List Record) → Life p rs → lived p rs .rules ≤ maxRules
   new-rules rs l =

@@ -10,6 +10,7 @@ use Rattle.plan.specs.Reading.{settledPlan}
 use Rattle.party.specs.declared.Party as Code
 use Rattle.party.specs.Party.{Party}
 use Rattle.party.specs.Tie.{asParty}
+use Rattle.party.specs.Inner.{Whole}
 use Rattle.party.proofs.Ties.{party-one}
 use Rattle.board_calls.specs.declared.SetUp as CodeSetUp
 use Rattle.board_calls.specs.declared.Called as CodeCalled
@@ -42,10 +43,10 @@ refused-untouched {q} {p} {used} {j} {out} {r} {jThen} {outThen} g number place 
       rules = ap (λ (c : Called). c .rules) (g .result);
     }
 
--- The code's record is the very one that was given: a record stands for one party only.
-pub refused-back : {q : Found Entry} {p : Code.Party} {used : ℕ} {j out : List ℕ} {r : CodeCalled.Called} {jThen outThen : List ℕ}
+-- The code's record is the very one that was given: a record stands for one party only. `Whole` says how long its arrays are, which every value of the type has.
+pub refused-back : {q : Found Entry} {p : Code.Party} {used : ℕ} {j out : List ℕ} {r : CodeCalled.Called} {jThen outThen : List ℕ} → Whole p → Whole (r .party)
     → CallGives q (asParty p) used j out (asCalled r) jThen outThen → (number place : ℕ) → r .verdict ≡ Verdict.Refused number place → r .party ≡ p
-refused-back {p = p} {r = r} g number place v = party-one (r .party) p (refused-untouched g number place v .party)
+refused-back {p = p} {r = r} h i g number place v = party-one (r .party) p i h (refused-untouched g number place v .party)
 
 -- ---- restore
 
@@ -74,14 +75,14 @@ refused-set-up n t own a bytes number place v = go (settledPlan n t own bytes) v
 
 -- ---- what a contract says of a result fixes the struct
 
-pub set-up-one : (r s : CodeSetUp.SetUp) → asSetUp r ≡ asSetUp s → r ≡ s
-set-up-one r s e =
-    let p = party-one (r .party) (s .party) (ap (λ (c : SetUp). c .party) e) in
+pub set-up-one : (r s : CodeSetUp.SetUp) → Whole (r .party) → Whole (s .party) → asSetUp r ≡ asSetUp s → r ≡ s
+set-up-one r s h i e =
+    let p = party-one (r .party) (s .party) h i (ap (λ (c : SetUp). c .party) e) in
     λ k. record { verdict = ap (λ (c : SetUp). c .verdict) e k; party = p k }
 
-pub called-one : (r s : CodeCalled.Called) → asCalled r ≡ asCalled s → r ≡ s
-called-one r s e =
-    let p = party-one (r .party) (s .party) (ap (λ (c : Called). c .party) e) in
+pub called-one : (r s : CodeCalled.Called) → Whole (r .party) → Whole (s .party) → asCalled r ≡ asCalled s → r ≡ s
+called-one r s h i e =
+    let p = party-one (r .party) (s .party) h i (ap (λ (c : Called). c .party) e) in
     λ k. record {
       verdict = ap (λ (c : Called). c .verdict) e k;
       party = p k;

@@ -1,4 +1,3 @@
-pub mod Befores
 pub mod Faults
 pub mod Restores
 pub mod Scans

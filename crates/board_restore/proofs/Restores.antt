@@ -1,34 +1,48 @@
--- Restore, case by case.
-use mathlib.Core.Path.{_≡_, sym, ap, _∙_, subst}
-use mathlib.Core.Logic.{_⊎_, inl, inr}
-use mathlib.Core.Bool.{true}
-use mathlib.Core.List.{List}
-use Prim.Native.Nat.{ℕ, _+_, _≤_}
+-- Restore: the pass that replays the records, and what comes of it.
+use mathlib.Core.Path.{_≡_, refl, sym, ap, _∙_, subst}
+use mathlib.Core.Logic.{inl, inr}
+use mathlib.Core.Bool.{Bool, true, false}
+use mathlib.Core.List.{List, [], _∷_}
+use types.Run.{OneOf}
+use denote.Enum.Declared.{tagOf}
+use Prim.Native.Nat.{ℕ, _+_, _≤_, _<_}
 use native.Mathlib.Omega.{arith}
-use native.Mathlib.Nat.{le-refl}
-use lib.Dec.{T}
+use lib.Dec.{T, eqb}
 use lib.ListN.{length}
+use borrow.Author.Tests.{le-ltb, eq-eqb, ne-eqb}
 use Rattle.base.specs.Put.{putAt}
-use Rattle.base.specs.Limits.{maxRules, outgoingSize}
+use Rattle.base.specs.Limits.{maxRules}
 use Rattle.base.specs.declared.Verdict.{Verdict}
-use Rattle.base.proofs.Puts.{put-none}
 use Rattle.base.specs.Found.{Found, found, refused}
+use Rattle.base.proofs.Puts.{put-none}
 use Rattle.message.specs.declared.Message.{Message}
+use Rattle.plan.specs.Plan.{Plan}
+use Rattle.plan.specs.declared.Shape.{Shape}
+use Rattle.plan.specs.Tie.{shaped, asPlan}
+use Rattle.component_laws.proofs.Laws.{rows-lent}
+use Rattle.component.specs.Inner.{Lent}
 use Rattle.journal.specs.declared.Record.{Record}
 use Rattle.journal.specs.declared.RecordRead.{RecordRead}
 use Rattle.journal.specs.Reading.{recordAt}
-use Rattle.party.specs.Party.{Party}
+use Rattle.journal.proofs.RecordRead.{the-type}
+use Rattle.party.specs.declared.Chart.{Chart}
+use Rattle.party.specs.declared.Vote.{Vote}
+use Rattle.party.specs.declared.Party as Code
+use Rattle.party.specs.Party.{Party, sending}
 use Rattle.party.specs.Run.{Ran, resting, bytesOf}
 use Rattle.party.specs.Valid.{partyValid}
+use Rattle.party.specs.Tie.{voteOf, partyIn, asParty}
+use Rattle.party.specs.Inner.{Charts}
 use Rattle.party_life.specs.Life.{replayed, following, Fits}
-use Rattle.party_run.specs.Inner.{Outcome, Gives, Ready}
+use Rattle.party_run.specs.declared.Ran as CodeRan
+use Rattle.party_run.specs.Inner.{voiced, Outcome, Gives, Ready}
 use Rattle.board_calls.specs.Calls.{Called}
 use Rattle.board_calls.specs.Restore.{Replay, replayFrom, restoredOf, restoreOutgoing}
 use Rattle.board_calls.specs.Results.{RestoreGives}
-use Rattle.board_laws.specs.Inner.{New, One, Many, none, more}
-use Rattle.board_restore.specs.Inner.{Whole, Replays}
-use Rattle.board_laws.proofs.Replays.{new-sized, one-longer, one-record, one-read, many-le, many-sized, many-first, many-last, many-then, many-rules}
-use Rattle.board_restore.proofs.Befores.{NoRecord, no-record}
+use Rattle.board_laws.specs.Inner.{New, One, Many, none}
+use Rattle.board_laws.proofs.Replays.{new-entered, new-sized, one-record, one-read, many-sized, many-board, many-le, many-first, many-last, many-then, many-rules}
+use Rattle.board_laws.proofs.Parts.{parts}
+use Rattle.board_restore.specs.Inner.{OfVote, Ends, Replayable, restoredBy}
 
 -- ---- what a restore gives
 
@@ -39,98 +53,177 @@ module _ {out : List ℕ} {r : Called} {q : Found Replay} where
   restored-gives : {x : Replay} {outThen : List ℕ} → q ≡ found x → r ≡ restoredOf (found x) → outThen ≡ restoreOutgoing out (found x) → RestoreGives q out r outThen
   restored-gives e i k = record { result = i ∙ ap restoredOf (sym e); outgoing = k ∙ ap (restoreOutgoing out) (sym e) }
 
--- found by another way
-pub regives : {out outThen : List ℕ} {r : Called} {x y : Found Replay} → x ≡ y → RestoreGives y out r outThen → RestoreGives x out r outThen
-regives {out} {outThen} {r} e g = subst (λ (z : Found Replay). RestoreGives z out r outThen) (sym e) g
+-- found by another way, with the same result
+pub regives : {out outThen : List ℕ} {r s : Called} {x y : Found Replay} → x ≡ y → s ≡ r → RestoreGives y out r outThen → RestoreGives x out s outThen
+regives {out} {outThen} {r} {s} e i g = subst (λ (z : Found Replay). RestoreGives z out s outThen) (sym e) (record { result = i ∙ g .result; outgoing = g .outgoing })
 
--- ---- the same records make the same of a party
+-- ---- a party that has entered no level
 
-module _ {j : List ℕ} where
-  one-place : {at next mid : ℕ} {r s t : Ran} → One j at r next s → One j at r mid t → (next ≡ mid) × (s ≡ t)
-  one-place o u =
-      let x = one-record o in
-      let a = one-read o (x .1) in
-      let b = one-read u (x .1) in
-      (b .0, a .2 ∙ sym (b .2))
+-- any chart of no level is its chart
+pub new-charts : {p : Party} → New p → {c : Chart} {ports : List ℕ} → c .sending ≡ 0 → Charts p c ports
+unfolding sending
+new-charts {p} w e = record {
+  sends = λ i h. rw (new-entered p w i h, e) (sym (le-ltb i 0 (omega arith)));
+  last = omega arith;
+  surveys = λ i h. absurd (omega arith);
+  deepest = λ i h. absurd (omega arith);
+  numbered = λ i h. absurd (omega arith);
+}
 
-  many-unique : {at end : ℕ} {r b q : Ran} → Many j at r end b → Many j at r end q → b ≡ q
-  many-unique {at} none m = many-last m (le-refl at)
-  many-unique {end = end} {q = q} (more {s = s} o k) m =
-      let f = many-first m (omega (arith, one-longer o, many-le k)) in
-      let e = one-place (f .2) o in
-      many-unique k (subst (λ (n : ℕ). Many j n s end q) (e .0) (subst (λ (z : Ran). Many j (f .0) z end q) (e .1) (f .3)))
+-- ---- a record that was not read
 
--- ---- a journal whose records pass
+abbrev pub NoRecord : RecordRead → Type 0
+NoRecord r = OneOf (1 ∷ 2 ∷ []) (tagOf the-type r)
 
-module _ {p : Party} {j : List ℕ} (w : New p) {last end : ℕ} {b q : Ran} (h : Whole p j last end b q) where
-  -- no record
-  pub empty-gives : end ≡ 0 → {out : List ℕ} {r : Called} → r ≡ record { verdict = Verdict.Accepted; party = p; used = 0; sent = 0; rules = 0 }
-      → RestoreGives (replayFrom (length j) j 0 (resting p)) out r out
-  unfolding bytesOf
-  empty-gives z {out} {r} i = go (h .newest)
-    where
-      nothing : q ≡ resting p → RestoreGives (replayFrom (length j) j 0 (resting p)) out r out
-      nothing e =
-          restored-gives (h .replay)
-          (i ∙ (λ k. record { verdict = Verdict.Accepted; party = sym e k .party; used = sym z k; sent = length (bytesOf (sym e k .made)); rules = sym e k .rules }))
-          (sym (put-none out 0) ∙ ap (λ (x : Ran). putAt out 0 (bytesOf (x .made))) (sym e))
+no-record : (r : RecordRead) → NoRecord r → {x : Record} {next : ℕ} → r ≡ RecordRead.Read x next → ⊥
+no-record (RecordRead.Read x next) (inl e) i = let z : _≡_ {A = ℕ} 0 1 = e in omega arith
+no-record (RecordRead.Read x next) (inr e) i = let z : _≡_ {A = ℕ} 0 2 = e in omega arith
+no-record RecordRead.Torn h i = let z : _≡_ {A = ℕ} 0 1 = cc in omega arith
+no-record RecordRead.Bad h i = let z : _≡_ {A = ℕ} 0 1 = cc in omega arith
 
-      go : ((end ≡ 0) × (q ≡ resting p)) ⊎ One j last b end q → RestoreGives (replayFrom (length j) j 0 (resting p)) out r out
-      go (inl e) = nothing (e .1)
-      go (inr o) = absurd (omega (arith, one-longer o))
+-- ---- the pass
 
-  module _ (d : end ≡ 0 → ⊥) where
-    newest : One j last b end q
-    newest = go (h .newest)
-      where
-        go : ((end ≡ 0) × (q ≡ resting p)) ⊎ One j last b end q → One j last b end q
-        go (inl e) = absurd (d (e .0))
-        go (inr o) = o
+-- the records before `at` are replayed, and those from there to `end` are left, where all make q; the outgoing buffer has the messages of the last alone
+pub record Replaying (p : Party) (j : List ℕ) (end : ℕ) (out : List ℕ) (now : Party) (d : Chart) (ports : List ℕ) (sum sent at : ℕ) (outNow : List ℕ) : Type 0 where
+  pub r : Ran
+  pub q : Ran
+  pub ends : Ends p j end q
+  pub done : Many j 0 (resting p) at r
+  pub rest : Many j at r end q
+  pub party : now ≡ r .party
+  pub chart : Charts now d ports
+  pub rules : sum ≡ r .rules
+  pub bytes : sent ≡ length (voiced (eqb at end) (r .made))
+  pub outgoing : outNow ≡ putAt out 0 (voiced (eqb at end) (r .made))
+  pub long : length outNow ≡ length out
 
-    -- the last record is there
-    pub last-read : NoRecord (recordAt j last) → ⊥
-    last-read n = no-record (recordAt j last) n (one-record newest .1)
+-- no byte of no message
+silence : (b : Bool) → voiced b [] ≡ []
+unfolding bytesOf
+silence true = refl
+silence false = refl
 
-    module _ {out outNow : List ℕ} {g : Outcome} (k : Replays p j last out g outNow) {x : Record} {next : ℕ} (e : recordAt j last ≡ RecordRead.Read x next) where
-      same : k .b ≡ b
-      same = many-unique (k .before) (h .before)
+pub replaying-start : {p : Party} {j : List ℕ} {end : ℕ} {out : List ℕ} → Replayable p j end (length out) → {c : Chart} {ports : List ℕ} → c .sending ≡ 0
+    → Replaying p j end out p c ports 0 0 0 out
+replaying-start {p} {j} {end} {out} h e = record {
+  r = resting p;
+  q = h .ran;
+  ends = h .ends;
+  done = none;
+  rest = h .ends .records;
+  party = refl;
+  chart = new-charts (h .new) e;
+  rules = refl;
+  bytes = ap length (sym (silence (eqb 0 end)));
+  outgoing = sym (put-none out 0) ∙ ap (putAt out 0) (sym (silence (eqb 0 end)));
+  long = refl;
+}
 
-      party-is : g .party ≡ b .party
-      party-is = k .party ∙ ap (λ (z : Ran). z .party) same
+module _ {p : Party} {j : List ℕ} {end : ℕ} {out : List ℕ} (w : Replayable p j end (length out)) {now : Party} {d : Chart} {ports : List ℕ} {sum sent at : ℕ}
+    {outNow : List ℕ} (s : Replaying p j end out now d ports sum sent at outNow) where
+  module _ (h : at < end) where
+    -- a record stands there
+    pub replaying-read : NoRecord (recordAt j at) → ⊥
+    replaying-read n = let x = one-record (many-first (s .rest) h .2) in no-record (recordAt j at) n (x .1)
 
-      pub last-asks : outgoingSize ≤ length out → Ready (g .party) (g .chart) (length outNow) × Fits (g .party) x
-      last-asks l = (
-        record {
-          valid = subst (λ (z : Party). T (partyValid z)) (sym party-is) (many-sized (h .before) (new-sized p w) .formed .valid);
-          charts = k .chart;
-          room = subst (λ (o : List ℕ). outgoingSize ≤ length o) (sym (k .silent)) l;
-        },
-        subst (λ (z : Party). Fits z x) (sym party-is) (one-read newest e .1),
-      )
+    -- nothing is written yet
+    silent : outNow ≡ out
+    silent = s .outgoing ∙ ap (λ (b : Bool). putAt out 0 (voiced b (s .r .made))) (ne-eqb at end (λ e. omega arith)) ∙ put-none out 0
 
-      module _ {f : Outcome} {outThen : List ℕ} (m : Gives (replayed (g .party) x) true outNow f outThen) where
-        again : replayed (g .party) x ≡ replayed (b .party) x
-        again = ap (λ (z : Party). replayed z x) party-is
+    module _ {x : Record} {next : ℕ} (e : recordAt j at ≡ RecordRead.Read x next) where
+      abbrev then : Ran
+      then = following (s .r) (replayed (s .r .party) x)
 
-        q-is : q ≡ following b (replayed (b .party) x)
-        q-is = one-read newest e .2
+      here : (next ≡ many-first (s .rest) h .0) × Fits (s .r .party) x × (many-first (s .rest) h .1 ≡ then)
+      here = one-read (many-first (s .rest) h .2) e
 
-        rules-are : g .rules + f .rules ≡ q .rules
-        rules-are =
-            omega (arith, k .rules, ap (λ (z : Ran). z .rules) same, m .rules, ap (λ (z : Ran). z .rules) again, ap (λ (z : Ran). z .rules) q-is)
+      -- it is the next
+      ahead : One j at (s .r) next then
+      ahead =
+          subst (λ (n : ℕ). One j at (s .r) n then) (sym (here .0))
+          (subst (One j at (s .r) (many-first (s .rest) h .0)) (here .2) (many-first (s .rest) h .2))
 
-        pub last-sum : g .rules + f .rules ≤ maxRules
-        last-sum = omega (arith, rules-are, many-rules p w (many-then (h .before) newest))
+      left : Many j next then end (s .q)
+      left =
+          subst (λ (n : ℕ). Many j n then end (s .q)) (sym (here .0))
+          (subst (λ (z : Ran). Many j (many-first (s .rest) h .0) z end (s .q)) (here .2) (many-first (s .rest) h .3))
 
-        made-is : replayed (g .party) x .made ≡ q .made
-        made-is = ap (λ (z : Ran). z .made) (again) ∙ ap (λ (z : Ran). z .made) (sym q-is)
+      pub replaying-asks : Ready now d ports (length outNow) × Fits now x
+      replaying-asks =
+          let sized = many-sized (s .done) (new-sized p (w .new)) in
+          let plan = ap (λ (z : Party). z .plan) (s .party) ∙ many-board (s .done) .plan in (
+            record {
+              valid = subst (λ (z : Party). T (partyValid z)) (sym (s .party)) (sized .formed .valid);
+              rows = subst Lent (sym plan) (rows-lent (p .plan) (w .new .plan) (w .parents) (w .children));
+              charts = s .chart;
+              room = omega (arith, w .room, s .long);
+            },
+            subst (λ (z : Party). Fits z x) (sym (s .party)) (here .1),
+          )
 
-        pub last-gives : {r : Called} → r ≡ record { verdict = Verdict.Accepted; party = f .party; used = next; sent = f .sent; rules = g .rules + f .rules }
-            → RestoreGives (replayFrom (length j) j 0 (resting p)) out r outThen
-        last-gives i =
-            let party : f .party ≡ q .party = m .party ∙ ap (λ (z : Ran). z .party) again ∙ ap (λ (z : Ran). z .party) (sym q-is) in
-            let used : next ≡ end = one-read newest e .0 in
-            let sent : f .sent ≡ length (bytesOf (q .made)) = m .sent ∙ ap (λ (z : List Message). length (bytesOf z)) made-is in
-            restored-gives (h .replay)
-            (i ∙ (λ z. record { verdict = Verdict.Accepted; party = party z; used = used z; sent = sent z; rules = rules-are z }))
-            (m .outgoing ∙ ap (λ (z : List Message). putAt outNow 0 (bytesOf z)) made-is ∙ ap (λ (z : List ℕ). putAt z 0 (bytesOf (q .made))) (k .silent))
+      module _ {g : Outcome} {outThen : List ℕ} (k : Gives (replayed now x) (eqb next end) outNow g outThen) where
+        same : replayed now x ≡ replayed (s .r .party) x
+        same = ap (λ (z : Party). replayed z x) (s .party)
+
+        -- the rules add up to few
+        pub replaying-sum : sum + g .rules ≤ maxRules
+        replaying-sum =
+            let f = many-rules p (w .new) (many-then (s .done) ahead) in
+            omega (arith, f, s .rules, k .rules, ap (λ (z : Ran). z .rules) same)
+
+        pub replaying-next : length outThen ≡ length outNow → Replaying p j end out (g .party) (g .chart) (g .ports) (sum + g .rules) (g .sent) next outThen
+        replaying-next l =
+            let made = ap (λ (z : Ran). voiced (eqb next end) (z .made)) same in
+            record {
+              r = then;
+              q = s .q;
+              ends = s .ends;
+              done = many-then (s .done) ahead;
+              rest = left;
+              party = k .party ∙ ap (λ (z : Ran). z .party) same;
+              chart = k .chart;
+              rules = omega (arith, s .rules, k .rules, ap (λ (z : Ran). z .rules) same);
+              bytes = k .sent ∙ ap length made;
+              outgoing = k .outgoing ∙ ap (putAt outNow 0) made ∙ ap (λ (o : List ℕ). putAt o 0 (voiced (eqb next end) (then .made))) silent;
+              long = l ∙ s .long;
+            }
+
+  -- all records are replayed
+  pub replaying-end : end ≤ at
+      → RestoreGives (replayFrom (length j) j 0 (resting p)) out (record { verdict = Verdict.Accepted; party = now; used = end; sent = sent; rules = sum }) outNow
+  replaying-end h =
+      let last : eqb at end ≡ true = eq-eqb at end (omega (arith, many-le (s .rest))) in
+      let all : s .r ≡ s .q = many-last (s .rest) h in
+      let made : voiced (eqb at end) (s .r .made) ≡ bytesOf (s .q .made) = ap (λ (b : Bool). voiced b (s .r .made)) last ∙ ap (λ (z : Ran). bytesOf (z .made)) all in
+      let party : now ≡ s .q .party = s .party ∙ ap (λ (z : Ran). z .party) all in
+      let bytes : sent ≡ length (bytesOf (s .q .made)) = s .bytes ∙ ap length made in
+      let rules : sum ≡ s .q .rules = s .rules ∙ ap (λ (z : Ran). z .rules) all in
+      restored-gives (s .ends .replay) (λ z. record { verdict = Verdict.Accepted; party = party z; used = end; sent = bytes z; rules = rules z })
+      (s .outgoing ∙ ap (putAt out 0) made)
+
+-- ---- a new party's record taken apart
+
+module _ (c : Code.Party) {v : Vote} {s : Shape} (e : v ≡ voteOf c) (i : shaped s (c .plan .parent) (c .plan .child) ≡ asPlan (c .plan)) where
+  abbrev plan : Plan
+  plan = shaped s (c .plan .parent) (c .plan .child)
+
+  together : partyIn v plan (c .levels) (c .sets) ≡ asParty c
+  together = parts c e i (c .levels) (c .sets)
+
+  pub of-vote : OfVote v (s .count) (asParty c)
+  of-vote = record {
+    n = ap (λ (w : Vote). w .n) (sym e);
+    agreement = ap (λ (w : Vote). w .agreement) (sym e);
+    positions = ap (λ (z : Plan). z .count) (sym i);
+  }
+
+  pub restore-asks : {j : List ℕ} {end out : ℕ} → Replayable (asParty c) j end out → Replayable (partyIn v plan (c .levels) (c .sets)) j end out
+  restore-asks {j} {end} {out} h = subst (λ (q : Party). Replayable q j end out) (sym together) h
+
+  pub restore-gives : (j : List ℕ) {out outThen : List ℕ} {end : ℕ} (sets : List ℕ) (g : CodeRan.Ran) {f : Called}
+      → RestoreGives (replayFrom (length j) j 0 (resting (partyIn v plan (c .levels) (c .sets)))) out (restoredBy v plan sets end g) outThen
+      → f ≡ restoredBy (voteOf c) (asPlan (c .plan)) sets end g
+      → RestoreGives (replayFrom (length j) j 0 (resting (asParty c))) out f outThen
+  restore-gives j {end = end} sets g h k =
+      regives (ap (λ (q : Party). replayFrom (length j) j 0 (resting q)) (sym together))
+      (k ∙ (λ z. record { verdict = Verdict.Accepted; party = sym (parts c e i (g .levels) sets) z; used = end; sent = g .sent; rules = g .rules })) h

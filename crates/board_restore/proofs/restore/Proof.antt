@@ -1,5 +1,5 @@
 -- `board_restore::restore` meets its contract: 18, the settings and the plan, then the records.
-use mathlib.Core.Path.{sym, ap, _∙_, subst}
+use mathlib.Core.Path.{refl, sym, ap, _∙_, subst}
 use lib.ListN.{length}
 use denote.Ref.{now}
 use Rattle.party.specs.Party.{Party}
@@ -47,7 +47,7 @@ returns-2 : tie.Need-returns-2
 returns-2 c =
     let s = c .before .before .before .before .before .before .before .before .before .before .before .before .before .args in
     let e = restore-found (s .n) (s .t) (s .own) (s .agreement) (now (s .bytes)) (now (s .journal)) (length (now (s .out))) (c .before .before .before .before .before .before .before .before .before .if1 .left) (answer-found (c .before .before .before .before .before .before .before .before .settle .ensures) (c .before .before .before .before .before .enum-told .given .1)) in
-    regives (e ∙ ap (λ (p : Party). replayFrom (length (now (s .journal))) (now (s .journal)) 0 (resting p)) (sym (c .before .before .before .before .new .ensures))) (c .before .before .restore-on .ensures)
+    regives (e ∙ ap (λ (p : Party). replayFrom (length (now (s .journal))) (now (s .journal)) 0 (resting p)) (sym (c .before .before .before .before .new .ensures))) refl (c .before .before .restore-on .ensures)
 
 returns-3 : tie.Need-returns-3
 returns-3 c =
