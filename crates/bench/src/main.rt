@@ -1,91 +1,52 @@
 // A vote on the bench: boards, readings and messages from a script on standard input.
-use bench_settings::Settings;
-use boards::Bench;
-use boards::JOURNALS;
-use libc::STDIN_FILENO;
-use script::Line;
-use script::Step;
+use bench_calls::BOARDS;
+use input::BYTES;
+use input::Input;
+use vote::Vote;
 
-mod boards;
+mod input;
 mod print;
+mod vote;
 
-// The bench, the line that is being read, and whether there may be more of it.
-struct Reader {
-    bench: Bench,
-    line: Line,
-    open: bool,
-}
-
-// Does a line say a step? (For one that does not, the bench is not even copied.)
-fn readable(step: Step) -> bool {
-    if let Step::Unreadable = step {
-        false
-    } else {
-        true
-    }
-}
-
-// The lines in some bytes.
-fn read_lines(
-    r: Reader,
-    s: &[u8],
-    journals: &mut [u8; JOURNALS],
-    wire: &mut [u8; bench_wire::SIZE],
-) -> Reader {
-    let mut next = r;
-    let mut at: usize = 0;
-    while at < s.len() {
-        let found = script::scan(next.line, s, at);
-        at = found.next;
-        let line = found.line;
-        next.line = line;
-        let step = found.step;
-        if readable(step) {
-            let v = next.bench;
-            next.bench = v.step(step, journals, wire);
-        }
-    }
-    next
-}
-
-// One read of standard input. Where it brings nothing, the last line ends, which may lack its newline.
-fn read_some(
-    r: Reader,
-    journals: &mut [u8; JOURNALS],
-    wire: &mut [u8; bench_wire::SIZE],
-) -> Reader {
-    let mut buf = io::buffer();
-    let got = libc::read(STDIN_FILENO, &mut buf);
-    let n = io::count(got, &buf);
-    if n == 0 {
-        let v = r.bench;
-        let line = r.line;
-        return Reader {
-            bench: v.step(line.step(), journals, wire),
-            line: Line::blank(),
-            open: false,
-        };
-    }
-    read_lines(r, &buf[..n], journals, wire)
-}
-
+// The parties stay in this frame, and a call changes one of them: an array of records cannot be lent, and by value it would be copied at every step.
 // A proved loop has to end, and nothing says that the input does: the turns are counted down from a number that no run uses up.
 fn main() {
-    let mut journals = [0u8; JOURNALS];
+    let mut bytes = [0u8; BYTES];
     let mut wire = [0u8; bench_wire::SIZE];
-    let first = Bench::new(Settings::blank());
-    let blank = Line::blank();
-    let mut r = Reader {
-        bench: first,
-        line: blank,
-        open: true,
-    };
+    let mut out = [0u8; base::OUTGOING];
+    let mut input = Input::new();
+    let mut vote = Vote::new();
+    let nobody = vote.set_up(0);
+    let mut parties = [nobody; BOARDS];
     let mut turns = u64::MAX;
-    while turns > 0 && r.open {
-        r = read_some(r, &mut journals, &mut wire);
+    while turns > 0 && input.open {
         turns -= 1;
+        input = input.next(&mut bytes);
+        let step = input.step;
+        vote = vote.told(step);
+        while vote.ready < BOARDS {
+            let i = vote.ready;
+            let p = vote.set_up(i as u32);
+            parties[i] = p;
+            vote.ready = i + 1;
+        }
+        let call = vote.call(step);
+        let b = call.board;
+        if b < BOARDS {
+            let p = parties[b];
+            let called = call.make(p, &wire, &mut out);
+            let q = called.party;
+            let v = called.verdict;
+            parties[b] = q;
+            vote = vote.after(b, v, &out, called.sent, &mut wire);
+        }
     }
-    let last = r.bench;
-    print::totals(last.settings, last.sent);
-    print::boards(last);
+    print::totals(vote.settings, vote.sent);
+    let n = vote.boards();
+    let mut i: usize = 0;
+    while i < n {
+        let p = parties[i];
+        print::board(i, p);
+        i += 1;
+    }
 }

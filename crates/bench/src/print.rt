@@ -1,6 +1,4 @@
 // What the program prints in the end.
-use crate::boards::BOARDS;
-use crate::boards::Bench;
 use bench_settings::Settings;
 use libc::STDOUT_FILENO;
 ghost use Prim.Native.Nat.{_^_, _<_};
@@ -42,7 +40,7 @@ fn answer(p: party::Party) {
 }
 
 // A board's number and its answer.
-fn board_line(i: usize, p: party::Party) {
+pub fn board(i: usize, p: party::Party) {
     io::print_decimal(STDOUT_FILENO, i as u64);
     byte(b' ');
     answer(p);
@@ -58,17 +56,4 @@ pub fn totals(s: Settings, sent: usize) {
     io::write_all(STDOUT_FILENO, b" sent ");
     io::print_decimal(STDOUT_FILENO, sent as u64);
     byte(b'\n');
-}
-
-// A line for each board.
-pub fn boards(v: Bench) {
-    let s = v.settings;
-    let mut i: usize = 0;
-    while i < BOARDS {
-        if s.n <= i as u32 {
-            return;
-        }
-        board_line(i, v.parties[i]);
-        i += 1;
-    }
 }

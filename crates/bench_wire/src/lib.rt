@@ -6,14 +6,21 @@ ghost use Rattle.base.specs.Limits.{messageSize};
 ghost use Rattle.bench_wire.specs.Wire.{messageRoom, wireSize};
 
 // The messages of all boards: each makes at most 22 at each of 15 levels.
-pub const MESSAGES: usize = base::MAX_BOARDS as usize
+const MESSAGES: usize = base::MAX_BOARDS as usize
     * base::SENDING_LEVELS as usize
     * base::LEVEL_MESSAGES;
 // The maker, and a message's bytes.
-pub const ENTRY: usize = 1 + base::MESSAGE_SIZE;
+const ENTRY: usize = 1 + base::MESSAGE_SIZE;
 
 // All of them.
 pub const SIZE: usize = ENTRY * MESSAGES;
+
+// A message that is kept: its maker, and the places from which and up to which its bytes stand.
+pub struct Kept {
+    pub maker: u32,
+    pub from: usize,
+    pub end: usize,
+}
 
 // The message is written from a place on, where the longest has room.
 fn write_message(wire: &mut [u8], from: usize, m: message::Message)
@@ -51,7 +58,7 @@ pub fn keep_all(wire: &mut [u8; SIZE], k: usize, maker: u8, out: &[u8], end: usi
 }
 
 // The place past the message that stands at `a`; `a` where there is none.
-pub fn message_end(wire: &[u8], a: usize) -> usize
+fn message_end(wire: &[u8], a: usize) -> usize
     requires { ⌜ a ≤ length (now wire) ⌝ }
     ensures { λ r. ⌜ (a ≤ r) × (r ≤ length (now (wire .entry))) ⌝ }
 {
@@ -59,4 +66,29 @@ pub fn message_end(wire: &[u8], a: usize) -> usize
         return a;
     };
     next
+}
+
+// A byte as a wider number.
+fn wide(x: u8) -> u32 {
+    x as u32
+}
+
+// Message k; no bytes where there is no room for so many.
+pub fn find(wire: &[u8; SIZE], k: usize) -> Kept
+    ensures { λ r. ⌜ (r .from ≤ r .end) × (r .end ≤ wireSize) ⌝ }
+{
+    if MESSAGES <= k {
+        return Kept {
+            maker: 0,
+            from: 0,
+            end: 0,
+        };
+    }
+    let at = ENTRY * k;
+    let from = at + 1;
+    Kept {
+        maker: wide(wire[at]),
+        from: from,
+        end: message_end(wire, from),
+    }
 }
