@@ -7,8 +7,8 @@ use second_sheet::sheet::Sheet;
 use second_wire::num;
 use second_wire::wire;
 
-// A level's sets of senders, its second echoes, and one end of each row of a plan.
-type Sets = [u16; level_counts::SLOTS];
+// The sets of senders of all levels, a level's second echoes, and one end of each row of a plan.
+type Sets = party::Sets;
 
 type Echoes = [bool; 17];
 
@@ -75,10 +75,12 @@ fn column(i: usize) -> usize {
 
 // ---- from a record to a sheet
 
-// The set in slot i.
-fn set_in(l: Level, i: usize) -> usize {
-    if i < level_counts::SLOTS {
-        return wide_half(l.sets[i]);
+// The set in slot i of level k.
+fn set_in(sets: &Sets, k: usize, i: usize) -> usize {
+    if k < base::LEVELS {
+        if i < level_counts::SLOTS {
+            return wide_half(sets[level_counts::SLOTS * k + i]);
+        }
     }
     0
 }
@@ -92,17 +94,17 @@ fn echo_in(l: Level, w: usize) -> usize {
 }
 
 // The set in slot i of level k, and whether value i was second-echoed.
-fn lay_slot(x: &mut Sheet, l: Level, k: usize, i: usize) {
-    sheet::set(x, k, column(i), set_in(l, i));
+fn lay_slot(x: &mut Sheet, sets: &Sets, l: Level, k: usize, i: usize) {
+    sheet::set(x, k, column(i), set_in(sets, k, i));
     if i < 17 {
         sheet::set(x, k, num::add(sheet::ECHOED, i), echo_in(l, i));
     }
 }
 
 // All of them.
-fn lay_slots(x: &mut Sheet, l: Level, k: usize) {
+fn lay_slots(x: &mut Sheet, sets: &Sets, l: Level, k: usize) {
     for i in 0..level_counts::SLOTS {
-        lay_slot(x, l, k, i);
+        lay_slot(x, sets, l, k, i);
     }
 }
 
@@ -130,7 +132,7 @@ fn lay_made(x: &mut Sheet, l: Level, k: usize) {
 fn lay_level(x: &mut Sheet, p: Party, k: usize) {
     if k < base::LEVELS {
         let l = p.levels[k];
-        lay_slots(x, l, k);
+        lay_slots(x, &p.sets, l, k);
         lay_results(x, l, k);
         lay_made(x, l, k);
     }
@@ -184,20 +186,20 @@ pub fn sheet_of(p: Party) -> Sheet {
 
 // ---- from a sheet to a record
 
-// The set in slot i becomes another.
-fn put_set(sets: &mut Sets, i: usize, set: usize) {
-    if i < level_counts::SLOTS {
-        sets[i] = half(set);
+// The set in slot i of level k becomes another.
+fn put_set(sets: &mut Sets, k: usize, i: usize, set: usize) {
+    if k < base::LEVELS {
+        if i < level_counts::SLOTS {
+            sets[level_counts::SLOTS * k + i] = half(set);
+        }
     }
 }
 
 // The sets of level k.
-fn sets_of(x: &Sheet, k: usize) -> Sets {
-    let mut sets = [0u16; level_counts::SLOTS];
+fn put_sets(sets: &mut Sets, x: &Sheet, k: usize) {
     for i in 0..level_counts::SLOTS {
-        put_set(&mut sets, i, sheet::at(x, k, column(i)));
+        put_set(sets, k, i, sheet::at(x, k, column(i)));
     }
-    sets
 }
 
 // Value w is second-echoed or not.
@@ -233,10 +235,8 @@ fn word_at(x: &Sheet, k: usize, column: usize) -> u32 {
 
 // Level k.
 fn level_of(x: &Sheet, k: usize) -> Level {
-    let sets = sets_of(x, k);
     let echoed = echoes_of(x, k);
     Level {
-        sets: sets,
         entered: flag(x, k, sheet::ENTERED),
         side: byte_at(x, k, sheet::SIDE),
         position: word_at(x, k, sheet::POSITION),
@@ -301,20 +301,13 @@ fn before_levels(x: &Sheet) -> Party {
     Party::new(n, t, own, number, plan)
 }
 
-// The record with another level k.
-fn with_level(p: Party, k: usize, l: Level) -> Party {
-    let mut q = p;
-    if k < base::LEVELS {
-        q.levels[k] = l;
-    }
-    q
-}
-
 // The record of a sheet.
 pub fn party_of(x: &Sheet) -> Party {
     let mut p = before_levels(x);
     for k in 0..base::LEVELS {
-        p = with_level(p, k, level_of(x, k));
+        put_sets(&mut p.sets, x, k);
+        let l = level_of(x, k);
+        p.levels[k] = l;
     }
     p
 }

@@ -5,10 +5,10 @@ use Rattle.random_records_sheet.proofs.lay_slots.Statement.{statement}
 use Rattle.random_records_sheet.proofs.lay_slots.Tie as tie
 
 abbrev Inv-loop : tie.InvT-loop
-Inv-loop x₀ l k i₀ x i = 0 ≤ i
+Inv-loop x₀ sets l k i₀ x i = 0 ≤ i
 
 abbrev μ-loop : tie.MeasureT-loop
-μ-loop x₀ l k i₀ x i = 83 - i
+μ-loop x₀ sets l k i₀ x i = 83 - i
 
 pub lay-slots-spec : {M : Type 1} → statement M
 lay-slots-spec =

@@ -1,17 +1,17 @@
--- `random_records_sheet::sets_of` is safe, and ends: each turn is one nearer to the end.
+-- `random_records_sheet::put_sets` is safe, and ends: each turn is one nearer to the end.
 use Prim.Native.Nat.{_≤_, _-_}
 use borrow.Author.Needs.{needs}
-use Rattle.random_records_sheet.proofs.sets_of.Statement.{statement}
-use Rattle.random_records_sheet.proofs.sets_of.Tie as tie
+use Rattle.random_records_sheet.proofs.put_sets.Statement.{statement}
+use Rattle.random_records_sheet.proofs.put_sets.Tie as tie
 
 abbrev Inv-loop : tie.InvT-loop
-Inv-loop x k sets₀ i₀ sets i = 0 ≤ i
+Inv-loop sets₀ x k i₀ sets i = 0 ≤ i
 
 abbrev μ-loop : tie.MeasureT-loop
-μ-loop x k sets₀ i₀ sets i = 83 - i
+μ-loop sets₀ x k i₀ sets i = 83 - i
 
-pub sets-of-spec : {M : Type 1} → statement M
-sets-of-spec =
+pub put-sets-spec : {M : Type 1} → statement M
+put-sets-spec =
     tie.close
     (tie.spec
     Inv-loop
