@@ -1,12 +1,4 @@
-// A party in both implementations, and what calls give as plain numbers.
-use party::Party;
-use second::Voter;
-
-// The party of the library and that of the second implementation.
-pub struct Pair {
-    pub party: Party,
-    pub voter: Voter,
-}
+// What calls are given and what they give, as plain numbers.
 
 // The settings that a set-up or a restore is given.
 pub struct Terms {

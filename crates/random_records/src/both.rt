@@ -3,13 +3,12 @@ use crate::calls;
 use crate::compare;
 use party::Party;
 use random_buffers::Out;
-use random_calls::Pair;
 use random_calls::number_of;
 use random_calls::place_of;
 use random_calls::wide;
 use random_records_draw::state;
 use random_records_draw::state::State;
-use second::Voter;
+use second_plan::table::Table;
 use second_wire::num;
 
 // The journals of both implementations.
@@ -41,14 +40,8 @@ fn call_first(p: Party, s: &mut State, journals: &mut Journals, out: &mut Out) -
 }
 
 // The call on the second implementation.
-fn call_second(
-    v: Voter,
-    asked: u32,
-    s: &mut State,
-    journals: &mut Journals,
-    out: &mut Out,
-) -> Voter {
-    let c = calls::make_second(v, asked, s, journals, out);
+fn call_second(t: &mut Table, asked: u32, s: &mut State, journals: &mut Journals, out: &mut Out) {
+    let c = calls::make_second(t, asked, s, journals, out);
     compare::note(
         s,
         state::SECOND,
@@ -58,7 +51,6 @@ fn call_second(
         c.sent,
         c.rules,
     );
-    c.voter
 }
 
 // The counts of a call on a changed record.
@@ -86,13 +78,25 @@ fn judge(s: &mut State, journals: &Journals, out: &Out) {
     }
 }
 
-// The call that the state describes, and a reading, on both; question 19 of the record gave `asked`
-// in the second implementation.
-pub fn call(seat: Pair, asked: u32, s: &mut State, journals: &mut Journals, out: &mut Out) -> Pair {
-    let p = call_first(seat.party, s, journals, out);
-    let v = call_second(seat.voter, asked, s, journals, out);
-    judge(s, journals, out);
-    let same = compare::is_same_reading(p, v, asked);
+// The reading of what the call left is compared.
+fn judge_reading(p: Party, t: &Table, asked: u32, s: &mut State) {
+    let same = compare::is_same_reading(p, t, asked);
     differ_if(s, !same);
-    Pair { party: p, voter: v }
+}
+
+// The call that the state describes, and a reading, on both: the party comes back, the table is
+// lent. Question 19 of the record gave `asked` in the second implementation.
+pub fn call(
+    before: Party,
+    t: &mut Table,
+    asked: u32,
+    s: &mut State,
+    journals: &mut Journals,
+    out: &mut Out,
+) -> Party {
+    let p = call_first(before, s, journals, out);
+    call_second(t, asked, s, journals, out);
+    judge(s, journals, out);
+    judge_reading(p, t, asked, s);
+    p
 }

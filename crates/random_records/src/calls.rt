@@ -4,8 +4,9 @@ use random_buffers::OUTGOING;
 use random_calls::word;
 use random_records_draw::state;
 use random_records_draw::state::State;
-use second::Outcome;
-use second::Voter;
+use second::record::Done;
+use second::record::idle;
+use second_plan::table::Table;
 use second_wire::num;
 use second_wire::num::Room;
 use second_wire::wire;
@@ -77,53 +78,44 @@ pub fn make_first(p: Party, s: &State, journals: &mut [u8], out: &mut [u8]) -> b
 
 // ---- the second implementation
 
-// A record that was refused comes back as given.
-fn refused(v: Voter, number: u32, used: usize) -> Outcome {
-    Outcome {
-        number,
-        place: 0,
-        voter: v,
-        used,
-        sent: 0,
-        rules: 0,
-    }
-}
+// Not a question's number: what is lent is too short, and there is no call.
+const NO_CALL: u32 = 98;
 
 // A take of the first bytes of the room.
 fn second_take_of(
-    v: Voter,
+    t: &mut Table,
     s: &State,
     whole: &Room,
     length: usize,
     journal: &mut [u8],
     out: &mut [u8],
-) -> Outcome {
+) -> Done {
     let sender = word(state::get(s, state::SENDER));
     let used = state::get(s, state::USED);
     let room = &whole[..];
     if room.len() < length {
-        return second::take(v, sender, room, journal, used, out);
+        return idle(NO_CALL, 0, used);
     }
-    second::take(v, sender, &room[0..length], journal, used, out)
+    second::take(t, sender, &room[0..length], journal, used, out)
 }
 
 // A take of the message.
-fn second_take(v: Voter, s: &State, journal: &mut [u8], out: &mut [u8]) -> Outcome {
+fn second_take(t: &mut Table, s: &State, journal: &mut [u8], out: &mut [u8]) -> Done {
     let mut room = num::empty_room();
     let length = write_message(s, &mut room);
-    second_take_of(v, s, &room, length, journal, out)
+    second_take_of(t, s, &room, length, journal, out)
 }
 
 // A start or a take on lent buffers.
-fn second_on(v: Voter, s: &State, journal: &mut [u8], out: &mut [u8]) -> Outcome {
+fn second_on(t: &mut Table, s: &State, journal: &mut [u8], out: &mut [u8]) -> Done {
     if state::get(s, state::CALL) == state::START {
-        return second::start(v, input(s), journal, state::get(s, state::USED), out);
+        return second::start(t, input(s), journal, state::get(s, state::USED), out);
     }
-    second_take(v, s, journal, out)
+    second_take(t, s, journal, out)
 }
 
 // The same of the second implementation, whose buffers stand after the library's.
-fn lend_second(v: Voter, s: &State, journals: &mut [u8], out: &mut [u8]) -> Outcome {
+fn lend_second(t: &mut Table, s: &State, journals: &mut [u8], out: &mut [u8]) -> Done {
     let room = num::add(state::JOURNAL, state::get(s, state::ROOM));
     let o = num::add(OUTGOING, state::get(s, state::OUT_ROOM));
     if state::JOURNAL <= room {
@@ -131,7 +123,7 @@ fn lend_second(v: Voter, s: &State, journals: &mut [u8], out: &mut [u8]) -> Outc
             if OUTGOING <= o {
                 if o <= out.len() {
                     return second_on(
-                        v,
+                        t,
                         s,
                         &mut journals[state::JOURNAL..room],
                         &mut out[OUTGOING..o],
@@ -140,19 +132,19 @@ fn lend_second(v: Voter, s: &State, journals: &mut [u8], out: &mut [u8]) -> Outc
             }
         }
     }
-    second_on(v, s, journals, out)
+    idle(NO_CALL, 0, 0)
 }
 
-// The call, unless question 19 of the record gave a number.
+// The call, unless question 19 of the record gave a number: then the table stays.
 pub fn make_second(
-    v: Voter,
+    t: &mut Table,
     asked: u32,
     s: &State,
     journals: &mut [u8],
     out: &mut [u8],
-) -> Outcome {
+) -> Done {
     if asked != 0 {
-        return refused(v, asked, state::get(s, state::USED));
+        return idle(asked, 0, state::get(s, state::USED));
     }
-    lend_second(v, s, journals, out)
+    lend_second(t, s, journals, out)
 }

@@ -7,7 +7,6 @@ use random_calls::number_of;
 use random_calls::wide;
 use random_records_draw::state;
 use random_records_draw::state::State;
-use second::Voter;
 use second_plan::table;
 use second_plan::table::Table;
 use second_wire::num;
@@ -67,7 +66,7 @@ fn is_answer(f: second::Found, z: i64) -> bool {
 }
 
 // Whether reading gives the same, where question 19 of the record gave this number.
-pub fn is_same_reading(p: Party, v: Voter, asked: u32) -> bool {
+pub fn is_same_reading(p: Party, t: &Table, asked: u32) -> bool {
     let r = board::read_answer(p);
     let verdict = r.verdict;
     let answer = r.answer;
@@ -81,7 +80,7 @@ pub fn is_same_reading(p: Party, v: Voter, asked: u32) -> bool {
         };
         return is_same_answer(answer, nothing);
     }
-    is_same_answer(answer, second::answer(v))
+    is_same_answer(answer, second::answer(t))
 }
 
 // ---- tables

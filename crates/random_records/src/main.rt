@@ -9,36 +9,33 @@ mod report;
 mod walk;
 
 use both::Journals;
+use party::Party;
 use random_buffers::Out;
-use random_calls::Pair;
 use random_calls::word;
 use random_records_draw::lead;
 use random_records_draw::plans;
 use random_records_draw::state;
 use random_records_draw::state::State;
+use second_plan::table;
+use second_plan::table::Table;
 use second_wire::num;
 use second_wire::num::Room;
 
-// How many votes a run has.
+// How many votes a run has, and the states of the pseudo-random numbers before each run's first.
 const VOTES: usize = 400;
 
-// A party before its start.
-fn set_up(s: &State, plan: &[u8]) -> Pair {
-    let n = word(state::get(s, state::BOARDS));
-    let t = word(state::get(s, state::FAULTS));
-    let number = word(state::get(s, state::NUMBER));
-    let a = board::set_up(n, t, 0, number, plan);
-    let b = second::set_up(n, t, 0, number, plan);
-    let party = a.party;
-    let voter = b.voter;
-    Pair { party, voter }
-}
+const SEED: usize = 88172645463325252;
 
-// Draws the next call on a seat.
-fn draw(s: &mut State, seat: Pair, step: usize) {
-    let v = seat.voter;
-    let t = v.table;
-    lead::draw_call(s, &t, step);
+const OTHER_SEED: usize = 362436069123456789;
+
+// A party before its start.
+fn set_up(t: &mut Table, s: &State, plan: &[u8]) -> Party {
+    let n = word(state::get(s, state::BOARDS));
+    let f = word(state::get(s, state::FAULTS));
+    let number = word(state::get(s, state::NUMBER));
+    let a = board::set_up(n, f, 0, number, plan);
+    second::set_up(t, n, f, 0, number, plan);
+    a.party
 }
 
 // The messages made are kept.
@@ -48,29 +45,37 @@ fn keep(s: &mut State, out: &Out) {
 }
 
 // The next call of the vote.
-fn step(seat: Pair, i: usize, s: &mut State, journals: &mut Journals, out: &mut Out) -> Pair {
-    draw(s, seat, i);
-    let next = both::call(seat, 0, s, journals, out);
+fn step(
+    p: Party,
+    t: &mut Table,
+    i: usize,
+    s: &mut State,
+    journals: &mut Journals,
+    out: &mut Out,
+) -> Party {
+    lead::draw_call(s, t, i);
+    let next = both::call(p, t, 0, s, journals, out);
     keep(s, out);
     next
 }
 
 // Now and then the record is compared as a whole, changed and tried.
-fn look(seat: Pair, s: &mut State, journals: &mut Journals, out: &mut Out) {
+fn look(p: Party, t: &Table, s: &mut State, journals: &mut Journals, out: &mut Out) {
     if state::once_in(s, 4) {
-        walk::check(s, seat);
-        walk::trial(seat, s, journals, out);
-        walk::trial(seat, s, journals, out);
+        walk::check(s, p, t);
+        walk::trial(p, t, s, journals, out);
+        walk::trial(p, t, s, journals, out);
     }
 }
 
-// One vote.
+// One vote, on a table of its own.
 fn vote(plan: &[u8], s: &mut State, journals: &mut Journals, out: &mut Out) {
-    let mut seat = set_up(s, plan);
+    let mut t = table::empty();
+    let mut p = set_up(&mut t, s, plan);
     let steps = state::get(s, state::STEPS);
     for i in 0..steps {
-        seat = step(seat, i, s, journals, out);
-        look(seat, s, journals, out);
+        p = step(p, &mut t, i, s, journals, out);
+        look(p, &t, s, journals, out);
     }
     state::grow(s, state::VOTES, 1);
 }
@@ -120,6 +125,6 @@ fn run(seed: usize, journals: &mut Journals, out: &mut Out) {
 fn main() {
     let mut journals = [7u8; 2 * state::JOURNAL];
     let mut out = [7u8; 2 * random_buffers::OUTGOING];
-    run(88172645463325252, &mut journals, &mut out);
-    run(2463534242, &mut journals, &mut out);
+    run(SEED, &mut journals, &mut out);
+    run(OTHER_SEED, &mut journals, &mut out);
 }

@@ -4,7 +4,6 @@ use crate::both::differ_if;
 use crate::walk;
 use random_buffers::OUTGOING;
 use random_buffers::Out;
-use random_calls::Pair;
 use random_calls::Terms;
 use random_calls::number_of;
 use random_calls::place_of;
@@ -12,6 +11,9 @@ use random_calls::wide;
 use random_calls::word;
 use random_records_draw::state;
 use random_records_draw::state::State;
+use second::record::Done;
+use second_plan::table;
+use second_plan::table::Table;
 use second_wire::num;
 
 // Settings that 1 to 3 refuse, or the vote's own.
@@ -64,25 +66,24 @@ fn given(s: &State) -> Terms {
 }
 
 // Number and place of a refusal are noted on both sides and compared; whether it is one.
-fn is_refused(s: &mut State, v: base::Verdict, number: u32, place: usize) -> bool {
-    let first = number_of(v);
+fn is_refused(s: &mut State, a: base::Verdict, number: u32, place: usize) -> bool {
+    let first = number_of(a);
     differ_if(s, first != wide(number));
-    differ_if(s, place_of(v) != place);
+    differ_if(s, place_of(a) != place);
     number != 0
 }
 
 // A set-up.
 pub fn set_up(plan: &[u8], s: &mut State, journals: &mut Journals, out: &mut Out) {
     let g = given(s);
+    let mut t = table::empty();
     let a = board::set_up(g.boards, g.faults, g.own, g.number, plan);
-    let b = second::set_up(g.boards, g.faults, g.own, g.number, plan);
+    let b = second::set_up(&mut t, g.boards, g.faults, g.own, g.number, plan);
     let v = a.verdict;
     let party = a.party;
-    let voter = b.voter;
-    let seat = Pair { party, voter };
     if is_refused(s, v, b.number, b.place) {
         state::grow(s, state::SET_UPS, 1);
-        walk::no_party(seat, s, journals, out);
+        walk::no_party(party, &mut t, s, journals, out);
     }
 }
 
@@ -112,17 +113,19 @@ fn first_restore(
 
 // The same of the second implementation, whose buffers stand after the library's.
 fn second_restore(
+    t: &mut Table,
     plan: &[u8],
     g: Terms,
     journals: &[u8],
     left: usize,
     out: &mut [u8],
-) -> second::Outcome {
+) -> Done {
     let end = num::add(state::JOURNAL, left);
     if state::JOURNAL <= end {
         if end <= journals.len() {
             if OUTGOING <= out.len() {
                 return second::restore(
+                    t,
                     g.boards,
                     g.faults,
                     g.own,
@@ -134,21 +137,20 @@ fn second_restore(
             }
         }
     }
-    second::restore(g.boards, g.faults, g.own, g.number, plan, journals, out)
+    second::restore(t, g.boards, g.faults, g.own, g.number, plan, journals, out)
 }
 
 // A restore from a few bytes of an earlier vote's journal.
 pub fn restore(plan: &[u8], s: &mut State, journals: &mut Journals, out: &mut Out) {
     let left = state::below(s, 12);
     let g = given(s);
+    let mut t = table::empty();
     let a = first_restore(plan, g, journals, left, out);
-    let b = second_restore(plan, g, journals, left, out);
+    let b = second_restore(&mut t, plan, g, journals, left, out);
     let v = a.verdict;
     let party = a.party;
-    let voter = b.voter;
-    let seat = Pair { party, voter };
     if is_refused(s, v, b.number, b.place) {
         state::grow(s, state::RESTORES, 1);
-        walk::no_party(seat, s, journals, out);
+        walk::no_party(party, &mut t, s, journals, out);
     }
 }

@@ -6,63 +6,56 @@ use crate::calls;
 use crate::compare;
 use party::Party;
 use random_buffers::Out;
-use random_calls::Pair;
 use random_calls::wide;
 use random_records_draw::change;
 use random_records_draw::lead;
 use random_records_draw::state;
 use random_records_draw::state::State;
+use second_plan::table;
 use second_plan::table::Table;
 use second_sheet::sheet;
-use second_sheet::sheet::Sheet;
+
+// Question 19 of a party's record, by the second implementation, which fills the table.
+fn inspect(p: Party, t: &mut Table) -> u32 {
+    let x = random_records_sheet::sheet_of(p);
+    second_inspect::inspect(&x, t)
+}
 
 // A record and a table that say the same: the table made of the record is compared with it.
-fn check_table(s: &mut State, x: &Sheet, t: &Table) {
-    let i = second_inspect::inspect(x);
-    let v = i.voter;
-    let u = v.table;
-    differ_if(s, i.number != 0);
+pub fn check(s: &mut State, p: Party, t: &Table) {
+    let mut u = table::empty();
+    let number = inspect(p, &mut u);
+    differ_if(s, number != 0);
     let same = compare::is_same_table(&u, t);
     differ_if(s, !same);
     state::grow(s, state::TABLES, 1);
 }
 
-// The same of a seat.
-pub fn check(s: &mut State, seat: Pair) {
-    let x = random_records_sheet::sheet_of(seat.party);
-    let v = seat.voter;
-    let t = v.table;
-    check_table(s, &x, &t);
-}
-
-// Draws a call on a seat whose record has this agreement number.
-fn draw(s: &mut State, seat: Pair) {
-    let p = seat.party;
-    let v = seat.voter;
-    let t = v.table;
-    lead::draw_other(s, &t, wide(p.agreement));
+// Draws a call on a record, which has its own agreement number.
+fn draw(s: &mut State, p: Party, t: &Table) {
+    lead::draw_other(s, t, wide(p.agreement));
 }
 
 // The next call on a record that passed, or on what came back.
-fn next(seat: Pair, s: &mut State, journals: &mut Journals, out: &mut Out) -> Pair {
-    draw(s, seat);
-    call(seat, 0, s, journals, out)
+fn next(p: Party, t: &mut Table, s: &mut State, journals: &mut Journals, out: &mut Out) -> Party {
+    draw(s, p, t);
+    call(p, t, 0, s, journals, out)
 }
 
 // Three calls on a record that passed.
-fn follow(seat: Pair, s: &mut State, journals: &mut Journals, out: &mut Out) {
-    let first = next(seat, s, journals, out);
-    let second = next(first, s, journals, out);
-    let third = next(second, s, journals, out);
-    check(s, third);
+fn follow(p: Party, t: &mut Table, s: &mut State, journals: &mut Journals, out: &mut Out) {
+    let first = next(p, t, s, journals, out);
+    let second = next(first, t, s, journals, out);
+    let third = next(second, t, s, journals, out);
+    check(s, third, t);
 }
 
 // A call on a record that is refused, which comes back as given.
-fn refuse(seat: Pair, s: &mut State, journals: &mut Journals, out: &mut Out) {
-    let x = random_records_sheet::sheet_of(seat.party);
-    draw(s, seat);
-    let after = call(seat, 19, s, journals, out);
-    let y = random_records_sheet::sheet_of(after.party);
+fn refuse(p: Party, t: &mut Table, s: &mut State, journals: &mut Journals, out: &mut Out) {
+    let x = random_records_sheet::sheet_of(p);
+    draw(s, p, t);
+    let after = call(p, t, 19, s, journals, out);
+    let y = random_records_sheet::sheet_of(after);
     differ_if(s, !sheet::is_same(&x, &y));
 }
 
@@ -79,47 +72,48 @@ fn tally(s: &mut State, number: u32) {
     state::count(s, state::FAILED, kind);
 }
 
-// A record is asked question 19 by the second implementation, and called.
+// A record is asked question 19 by the second implementation, and called, on a table of its own.
 fn try_record(p: Party, s: &mut State, journals: &mut Journals, out: &mut Out) {
-    let x = random_records_sheet::sheet_of(p);
-    let i = second_inspect::inspect(&x);
-    let v = i.voter;
-    let seat = Pair { party: p, voter: v };
-    tally(s, i.number);
-    if i.number == 0 {
-        follow(seat, s, journals, out);
+    let mut t = table::empty();
+    let number = inspect(p, &mut t);
+    tally(s, number);
+    if number == 0 {
+        follow(p, &mut t, s, journals, out);
         return;
     }
-    refuse(seat, s, journals, out);
+    refuse(p, &mut t, s, journals, out);
 }
 
 // The party's record with a change.
-fn changed(s: &mut State, seat: Pair) -> Party {
-    let mut x = random_records_sheet::sheet_of(seat.party);
-    let v = seat.voter;
-    let t = v.table;
-    change::change(s, &mut x, &t);
+fn changed(s: &mut State, p: Party, t: &Table) -> Party {
+    let mut x = random_records_sheet::sheet_of(p);
+    change::change(s, &mut x, t);
     random_records_sheet::party_of(&x)
 }
 
-// The seat's record is changed and tried; the vote goes on without that.
-pub fn trial(seat: Pair, s: &mut State, journals: &mut Journals, out: &mut Out) {
+// The record of a party in a vote is changed and tried; the vote goes on without that.
+pub fn trial(before: Party, t: &Table, s: &mut State, journals: &mut Journals, out: &mut Out) {
     let used = state::get(s, state::USED);
-    let p = changed(s, seat);
+    let p = changed(s, before, t);
     state::set(s, state::CHANGED, 1);
     try_record(p, s, journals, out);
     state::set(s, state::CHANGED, 0);
     state::set(s, state::USED, used);
 }
 
+// Question 19 of a party's record, on a table that is not kept.
+fn ask(p: Party) -> u32 {
+    let mut t = table::empty();
+    inspect(p, &mut t)
+}
+
 // A refused set-up's or restore's record fails question 19 in both: as the library's record, and in
 // the second implementation's own party.
-pub fn no_party(seat: Pair, s: &mut State, journals: &mut Journals, out: &mut Out) {
-    let x = random_records_sheet::sheet_of(seat.party);
-    let i = second_inspect::inspect(&x);
-    differ_if(s, i.number != 19);
-    draw(s, seat);
-    let after = call(seat, i.number, s, journals, out);
-    let c = calls::make_second(after.voter, 0, s, journals, out);
+pub fn no_party(p: Party, t: &mut Table, s: &mut State, journals: &mut Journals, out: &mut Out) {
+    let number = ask(p);
+    differ_if(s, number != 19);
+    draw(s, p, t);
+    call(p, t, number, s, journals, out);
+    let c = calls::make_second(t, 0, s, journals, out);
     differ_if(s, c.number != 19);
 }

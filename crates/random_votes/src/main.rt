@@ -8,8 +8,8 @@ mod limits;
 mod note;
 mod report;
 
+use party::Party;
 use random_buffers::Out;
-use random_calls::Pair;
 use random_votes_draw::draw;
 use random_votes_judge::demand;
 use random_votes_judge::judge;
@@ -18,6 +18,8 @@ use random_votes_state::call::Journals;
 use random_votes_state::state;
 use random_votes_state::state::State;
 use random_votes_steps::choose;
+use second_plan::table;
+use second_plan::table::Table;
 ghost use Prim.Native.Nat.{_<_};
 
 // How many votes are run from each seed, and the states of the pseudo-random numbers before the first of them.
@@ -43,7 +45,7 @@ fn prepare(s: &mut State, journals: &mut Journals, out: &mut Out) -> usize
 }
 
 // The rules of an accepted start or take are counted.
-fn count_rules(s: &mut State, p: party::Party, q: party::Party) {
+fn count_rules(s: &mut State, p: Party, q: Party) {
     if state::of(s, state::FIRST, call::NUMBER) != 0 {
         return;
     }
@@ -56,27 +58,33 @@ fn count_rules(s: &mut State, p: party::Party, q: party::Party) {
     }
 }
 
-// The call that the state describes, made on both, counted and judged; the seat after it.
-fn step(before: Pair, s: &mut State, journals: &mut Journals, out: &mut Out) -> Pair {
-    let after = calls::make(before, s, journals, out);
-    let p = before.party;
-    let q = after.party;
-    count_rules(s, p, q);
+// The call that the state describes, made on both, counted and judged; the library's party after it.
+fn step(
+    before: Party,
+    table: &mut Table,
+    s: &mut State,
+    journals: &mut Journals,
+    out: &mut Out,
+) -> Party {
+    let after = calls::make(before, table, s, journals, out);
+    count_rules(s, before, after);
     judge::judge(s, journals, out);
     after
 }
 
-// One vote, from its set-ups to its readings.
+// One vote, from its set-ups to its readings. A seat has a party of the library and a table of the second implementation.
 fn run(s: &mut State, journals: &mut Journals, out: &mut Out) {
     let nobody = calls::nobody();
     let mut seats = [nobody; 17];
+    let empty = table::empty();
+    let mut tables = [empty; 17];
     for _ in 0usize..100000 {
         if state::get(s, state::PHASE) == call::DONE {
             break;
         }
         let b = prepare(s, journals, out);
         let before = seats[b];
-        let after = step(before, s, journals, out);
+        let after = step(before, &mut tables[b], s, journals, out);
         seats[b] = after;
     }
     demand::conclude(s);

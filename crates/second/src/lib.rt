@@ -13,45 +13,10 @@ use second_plan::table::Table;
 use second_wire::num;
 use second_wire::wire;
 
-// A party: its memory.
-pub struct Voter {
-    pub table: Table,
-}
-
-// The number of the refused question, or 0, its place, and the party.
-pub struct SetUp {
-    pub number: u32,
-    pub place: usize,
-    pub voter: Voter,
-}
-
-// The same with the journal's used length, how many bytes of the outgoing buffer are messages, and
-// how many rules were applied.
-pub struct Outcome {
-    pub number: u32,
-    pub place: usize,
-    pub voter: Voter,
-    pub used: usize,
-    pub sent: usize,
-    pub rules: usize,
-}
-
 // An answer, if it is there.
 pub struct Found {
     pub there: bool,
     pub value: i64,
-}
-
-// A done call and the party as it is then.
-fn with_party(voter: Voter, done: Done) -> Outcome {
-    Outcome {
-        number: done.number,
-        place: done.place,
-        voter,
-        used: done.used,
-        sent: done.sent,
-        rules: done.rules,
-    }
 }
 
 // Keeps n, the three thresholds and the agreement number.
@@ -63,8 +28,9 @@ fn keep_settings(table: &mut Table, n: usize, t: usize, agreement: usize) {
     table::set_long(table, table::NUMBER, agreement);
 }
 
-// Questions 1 to 11, which fill an empty table.
+// Questions 1 to 11, which fill the table anew.
 fn prepare(n: u32, t: u32, own: u32, agreement: u32, bytes: &[u8], table: &mut Table) -> Verdict {
+    *table = table::empty();
     let number = ask::settings(n, t, own);
     if number != 0 {
         return plans::decided(number, 0);
@@ -73,33 +39,25 @@ fn prepare(n: u32, t: u32, own: u32, agreement: u32, bytes: &[u8], table: &mut T
     plans::read(bytes, table)
 }
 
-// A refused set-up or restore gives no party: its table is empty.
-fn party(number: u32, table: Table) -> Voter {
-    if number == 0 {
-        return Voter { table };
+// A refused set-up or restore leaves no party: its table is empty.
+fn leave(table: &mut Table, number: u32) {
+    if number != 0 {
+        *table = table::empty();
     }
-    let empty = table::empty();
-    Voter { table: empty }
 }
 
-// Set-up: questions 1 to 11.
-pub fn set_up(n: u32, t: u32, own: u32, agreement: u32, plan: &[u8]) -> SetUp {
-    let mut table = table::empty();
-    let verdict = prepare(n, t, own, agreement, plan, &mut table);
-    let voter = party(verdict.number, table);
-    SetUp {
-        number: verdict.number,
-        place: verdict.place,
-        voter,
-    }
+// Set-up: questions 1 to 11. The table that is lent becomes the party's.
+pub fn set_up(table: &mut Table, n: u32, t: u32, own: u32, agreement: u32, plan: &[u8]) -> Verdict {
+    let verdict = prepare(n, t, own, agreement, plan, table);
+    leave(table, verdict.number);
+    verdict
 }
 
 // Level 0's output, if there is one, as a start takes it.
-pub fn answer(voter: Voter) -> Found {
-    let table = voter.table;
-    if table::is_set(&table, 0, table::OUTPUT_THERE) {
-        let output = table::at(&table, 0, table::OUTPUT);
-        let base = table::long(&table, table::BASE);
+pub fn answer(table: &Table) -> Found {
+    if table::is_set(table, 0, table::OUTPUT_THERE) {
+        let output = table::at(table, 0, table::OUTPUT);
+        let base = table::long(table, table::BASE);
         return Found {
             there: true,
             value: reading::lowered(num::add(base, output)),
@@ -112,37 +70,37 @@ pub fn answer(voter: Voter) -> Found {
 }
 
 // Start: questions 19, 18, 20, 13, 12 and 17.
-pub fn start(voter: Voter, input: i64, journal: &mut [u8], used: usize, out: &mut [u8]) -> Outcome {
-    let mut table = voter.table;
-    let position = reading::above(table::long(&table, table::BASE), input);
+pub fn start(
+    table: &mut Table,
+    input: i64,
+    journal: &mut [u8],
+    used: usize,
+    out: &mut [u8],
+) -> Done {
+    let position = reading::above(table::long(table, table::BASE), input);
     let number = ask::first(
-        ask::call(&table, journal, used, out),
-        ask::start(&table, position),
+        ask::call(table, journal, used, out),
+        ask::start(table, position),
     );
-    let record = wire::start_of(table::long(&table, table::NUMBER), position, 0);
-    let done = record::commit(number, &mut table, record, journal, used, out);
-    let after = Voter { table };
-    with_party(after, done)
+    let record = wire::start_of(table::long(table, table::NUMBER), position, 0);
+    record::commit(number, table, record, journal, used, out)
 }
 
 // Take: questions 19, 18, 20, 14, 15, 16 and 17.
 pub fn take(
-    voter: Voter,
+    table: &mut Table,
     sender: u32,
     bytes: &[u8],
     journal: &mut [u8],
     used: usize,
     out: &mut [u8],
-) -> Outcome {
-    let mut table = voter.table;
+) -> Done {
     let record = wire::read_message(bytes, 0, sender as usize);
     let number = ask::first(
-        ask::call(&table, journal, used, out),
-        ask::message(&table, sender as usize, record, bytes.len()),
+        ask::call(table, journal, used, out),
+        ask::message(table, sender as usize, record, bytes.len()),
     );
-    let done = record::commit(number, &mut table, record, journal, used, out);
-    let after = Voter { table };
-    with_party(after, done)
+    record::commit(number, table, record, journal, used, out)
 }
 
 // Replays the journal over a table that was not refused.
@@ -172,8 +130,10 @@ fn ask_restore(
     prepare(n, t, own, agreement, plan, table)
 }
 
-// Restore: questions 18 and 1 to 11, then those of each record.
+// Restore: questions 18 and 1 to 11, then those of each record. The table that is lent becomes the
+// party's.
 pub fn restore(
+    table: &mut Table,
     n: u32,
     t: u32,
     own: u32,
@@ -181,10 +141,9 @@ pub fn restore(
     plan: &[u8],
     journal: &[u8],
     out: &mut [u8],
-) -> Outcome {
-    let mut table = table::empty();
-    let verdict = ask_restore(out.len(), n, t, own, agreement, plan, &mut table);
-    let done = recover(verdict, &mut table, journal, out);
-    let voter = party(done.number, table);
-    with_party(voter, done)
+) -> Done {
+    let verdict = ask_restore(out.len(), n, t, own, agreement, plan, table);
+    let done = recover(verdict, table, journal, out);
+    leave(table, done.number);
+    done
 }

@@ -8,7 +8,8 @@ use second_wire::num;
 use second_wire::num::Room;
 use second_wire::wire;
 
-// An outcome without the party.
+// The number of the refused question, or 0, its place, the journal's used length, how many bytes of
+// the outgoing buffer are messages, and how many rules were applied.
 pub struct Done {
     pub number: u32,
     pub place: usize,

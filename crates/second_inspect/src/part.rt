@@ -1,6 +1,7 @@
 // "whose settings pass 1 to 3, whose plan part a plan reading gives": the plan that the part spells
 // is read, and must give this very part back.
 use second_plan::plans;
+use second_plan::table::Table;
 use second_plan::trees;
 use second_plan::trees::Distances;
 use second_sheet::sheet;
@@ -53,24 +54,31 @@ fn spell(sheet: &Sheet, room: &mut Room) -> usize {
     spell_rows(sheet, room, next)
 }
 
-// Questions 1 to 3 of the settings, and 4 to 11 of so many bytes of a plan.
-fn set_up(sheet: &Sheet, room: &Room, length: usize) -> second::SetUp {
-    let bytes = &room[..];
+// Questions 1 to 3 of the settings, and 4 to 11 of a plan's bytes; the table is filled. Whether all
+// pass.
+fn set_up(sheet: &Sheet, bytes: &[u8], table: &mut Table) -> bool {
     let n = word(sheet::at(sheet, sheet::VOTE, sheet::BOARDS));
     let t = word(sheet::at(sheet, sheet::VOTE, sheet::FAULTS));
     let own = word(sheet::at(sheet, sheet::VOTE, sheet::OWN));
     let number = word(sheet::at(sheet, sheet::VOTE, sheet::NUMBER));
+    let verdict = second::set_up(table, n, t, own, number, bytes);
+    verdict.number == 0
+}
+
+// The same of the room's first bytes.
+fn set_up_first(sheet: &Sheet, room: &Room, length: usize, table: &mut Table) -> bool {
+    let bytes = &room[..];
     if bytes.len() < length {
-        return second::set_up(n, t, own, number, bytes);
+        return set_up(sheet, bytes, table);
     }
-    second::set_up(n, t, own, number, &bytes[0..length])
+    set_up(sheet, &bytes[0..length], table)
 }
 
 // The same of the plan that is spelt.
-pub fn read(sheet: &Sheet) -> second::SetUp {
+pub fn read(sheet: &Sheet, table: &mut Table) -> bool {
     let mut bytes = num::empty_room();
     let length = spell(sheet, &mut bytes);
-    set_up(sheet, &bytes, length)
+    set_up_first(sheet, &bytes, length, table)
 }
 
 // Whether row i leads from a vertex joined with vertex 0 to one that is not: reading lays a tree's

@@ -5,13 +5,16 @@ use Rattle.random_votes.proofs.run.Statement.{statement}
 use Rattle.random_votes.proofs.run.Tie as tie
 
 abbrev Inv-loop : tie.InvT-loop
-Inv-loop s₀ journals₀ out₀ seats₀ counter₀ s journals out seats counter = 0 ≤ counter
+Inv-loop s₀ journals₀ out₀ seats₀ tables₀ counter₀ s journals out seats tables counter = 0 ≤ counter
 
 abbrev μ-loop : tie.MeasureT-loop
-μ-loop s₀ journals₀ out₀ seats₀ counter₀ s journals out seats counter = 100000 - counter
+μ-loop s₀ journals₀ out₀ seats₀ tables₀ counter₀ s journals out seats tables counter = 100000 - counter
 
 nobody-requires : tie.Need-nobody-requires Inv-loop μ-loop
 nobody-requires c κs = search needs
+
+empty-requires : tie.Need-empty-requires Inv-loop μ-loop
+empty-requires c κs = search needs
 
 loop-holds : tie.Need-loop-holds Inv-loop μ-loop
 loop-holds c = search needs
@@ -27,6 +30,12 @@ mul-before c = search needs
 
 array-copy-out-before : tie.Need-array-copy-out-before Inv-loop μ-loop
 array-copy-out-before c = search needs
+
+mul-step : tie.Need-mul-step Inv-loop μ-loop
+mul-step c = search needs
+
+index-1-step : tie.Need-index-1-step Inv-loop μ-loop
+index-1-step c = search needs
 
 step-requires : tie.Need-step-requires Inv-loop μ-loop
 step-requires c κs = search needs
@@ -59,11 +68,14 @@ run-spec =
     Inv-loop
     μ-loop
     nobody-requires
+    empty-requires
     loop-holds
     get-requires
     prepare-requires
     mul-before
     array-copy-out-before
+    mul-step
+    index-1-step
     step-requires
     mul-seats
     array-set-from-seats

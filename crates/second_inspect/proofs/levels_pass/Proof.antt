@@ -5,10 +5,10 @@ use Rattle.second_inspect.proofs.levels_pass.Statement.{statement}
 use Rattle.second_inspect.proofs.levels_pass.Tie as tie
 
 abbrev Inv-loop : tie.InvT-loop
-Inv-loop sheet voter table₀ level₀ table level = 0 ≤ level
+Inv-loop sheet table₀ level₀ table level = 0 ≤ level
 
 abbrev μ-loop : tie.MeasureT-loop
-μ-loop sheet voter table₀ level₀ table level = 16 - level
+μ-loop sheet table₀ level₀ table level = 16 - level
 
 pub levels-pass-spec : {M : Type 1} → statement M
 levels-pass-spec =
