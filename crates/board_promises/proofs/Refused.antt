@@ -43,7 +43,7 @@ refused-untouched {q} {p} {used} {j} {out} {r} {jThen} {outThen} g number place 
       rules = ap (λ (c : Called). c .rules) (g .result);
     }
 
--- The code's record is the very one that was given: a record stands for one party only. `Whole` says how long its arrays are, which every value of the type has.
+-- The code's record is the very one that was given: a record stands for one party only. `Whole` says how long its arrays are, which every value of the type has (`party_step/proofs/Typed.antt` `typed-whole`).
 pub refused-back : {q : Found Entry} {p : Code.Party} {used : ℕ} {j out : List ℕ} {r : CodeCalled.Called} {jThen outThen : List ℕ} → Whole p → Whole (r .party)
     → CallGives q (asParty p) used j out (asCalled r) jThen outThen → (number place : ℕ) → r .verdict ≡ Verdict.Refused number place → r .party ≡ p
 refused-back {p = p} {r = r} h i g number place v = party-one (r .party) p i h (refused-untouched g number place v .party)
@@ -73,7 +73,7 @@ refused-set-up n t own a bytes number place v = go (settledPlan n t own bytes) v
     go (found plan) v = let z : _≡_ {A = ℕ} 0 1 = cc in absurd (omega arith)
     go (refused k at) v = refl
 
--- ---- what a contract says of a result fixes the struct
+-- ---- what a contract says of a result fixes the struct, whose arrays have their type's lengths
 
 pub set-up-one : (r s : CodeSetUp.SetUp) → Whole (r .party) → Whole (s .party) → asSetUp r ≡ asSetUp s → r ≡ s
 set-up-one r s h i e =

@@ -1,2 +1,3 @@
 pub mod Members
 pub mod RangeLaws
+pub mod Surveys

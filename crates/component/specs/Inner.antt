@@ -59,6 +59,13 @@ pub record Holds (p : Plan) (s : Span) (l : List ℕ) (S : Set) : Type 0 where
   pub is : members p s l ≡ S
   pub flat : Flat p l
 
+-- a component before its survey, with its plan's rows, and x one of its positions
+pub record Enterable (p : Plan) (s : Span) (l : List ℕ) (x : ℕ) : Type 0 where
+  pub rows : Lent p
+  pub of : OfPlan p (members p s l)
+  pub flat : Flat p l
+  pub place : T (members p s l x)
+
 -- a component of three or more positions, after its survey
 pub record Surveyed (p : Plan) (s : Span) (l : List ℕ) : Type 0 where
   pub of : OfPlan p (members p s l)
@@ -72,9 +79,15 @@ pub record HasSide (p : Plan) (s : Span) (l : List ℕ) (centre k : ℕ) : Type 
   pub low : 1 ≤ k
   pub high : k ≤ degreeOf p (members p s l)
 
--- what the survey of the component S finds, and leaves in the array
+-- what numbering the component S finds, and leaves in the array
 pub record Finds (p : Plan) (s : Span) (S : Set) (l : List ℕ) (r : Centre) : Type 0 where
   pub centre : r .centre ≡ centreOf p S
   pub degree : r .degree ≡ degreeOf p S
+  pub same : members p s l ≡ S
+  pub numbers : Numbered p s l
+
+-- and its survey with the board at x
+pub record Surveys (p : Plan) (s : Span) (S : Set) (x : ℕ) (l : List ℕ) (r : Survey) : Type 0 where
+  pub is : r ≡ surveyOf p S x
   pub same : members p s l ≡ S
   pub numbers : Numbered p s l

@@ -9,7 +9,7 @@ ghost use Rattle.tree.specs.Inner.{middle};
 ghost use Rattle.plan.specs.Valid.{planValid};
 ghost use Rattle.plan.specs.Tie.{shaped};
 ghost use Rattle.component.specs.Component.{sizeOf, portOf, neighbourOf, sideOf};
-ghost use Rattle.component.specs.Inner.{portAt, Lent, OfPlan, members, Flat, Holds, Surveyed, HasSide, Finds};
+ghost use Rattle.component.specs.Inner.{portAt, Lent, OfPlan, members, Flat, Holds, Enterable, Surveyed, HasSide, Finds, Surveys};
 
 // The first and the last position of a component of a range; nothing for a tree.
 pub struct Span {
@@ -102,7 +102,7 @@ fn range_port(m: base::Position, x: base::Position) -> u8
 }
 
 // The centre; and each position of a tree gets its number.
-pub fn survey_ports(
+fn survey_ports(
     s: plan::Shape,
     ps: &[u16],
     cs: &[u16],
@@ -129,7 +129,7 @@ pub fn survey_ports(
 }
 
 // The port of x.
-pub fn port(
+fn port(
     s: plan::Shape,
     ps: &[u16],
     cs: &[u16],
@@ -144,6 +144,27 @@ pub fn port(
         return ports[x as usize] - 1;
     }
     range_port(midpoint(span.low, span.high), x)
+}
+
+// The survey of a component of three or more positions with the board at x, one of them: its positions are numbered then.
+pub fn survey_at(
+    s: plan::Shape,
+    ps: &[u16],
+    cs: &[u16],
+    span: Span,
+    ports: &mut [u8; base::MAX_VERTICES],
+    x: base::Position,
+) -> Survey
+    requires { ⌜ Enterable (shaped s (now ps) (now cs)) span (now ports) x × (3 ≤ sizeOf (shaped s (now ps) (now cs)) (members (shaped s (now ps) (now cs)) span (now ports))) ⌝ }
+    ensures { λ r. ⌜ Surveys (shaped s (now (ps .entry)) (now (cs .entry))) span (members (shaped s (now (ps .entry)) (now (cs .entry))) span (now (ports .entry))) x (now (ports .exit)) r ⌝ }
+{
+    let c = survey_ports(s, ps, cs, span, ports);
+    let k = port(s, ps, cs, span, ports, x);
+    Survey {
+        centre: c.centre,
+        degree: c.degree,
+        port: k,
+    }
 }
 
 // Neighbour k of the centre.

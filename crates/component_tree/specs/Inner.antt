@@ -31,7 +31,7 @@ pub record OfTree (ps cs : List ℕ) (n : ℕ) (S : Set) : Type 0 where
 abbrev pub Ports : Edges → ℕ → Set → List ℕ → Type 0
 Ports E n S l = (x : ℕ) → getD l x 0 ≡ pick (S x) (suc (port E n S x)) 0
 
--- members that a table gives the same number are the same
+-- neighbours with the same label are the same
 abbrev pub Apart : List ℕ → List ℕ → ℕ → Type 0
 Apart near labels n = (w x : ℕ) → w < n → x < n → T (marked near w) → T (marked near x) → getD labels w 0 ≡ getD labels x 0 → w ≡ x
 

@@ -13,7 +13,7 @@ ghost use Rattle.component_tree.specs.Inner.{tree, OfTree, Ports, Apart,
 // Labels are bytes: a table has a place for each.
 const LABELS: usize = 256;
 
-// The number after k's rank is written at a place of the table if there is a mark; how many ranks there are then.
+// Where there is a mark, a neighbour is counted after the k before it, and its rank and one more is written at a place of the table; how many are counted then.
 fn rank(mark: u8, table: &mut [u8], at: usize, k: u8) -> u8
     requires { ⌜ (at < length (now table)) × (mark ≡ 1 → k + 2 ≤ maxVertices) ⌝ }
     ensures { λ r. ⌜ (r ≡ k + bit (eqb mark 1)) × (now (table .exit) ≡ pick (eqb mark 1) (set (now (table .entry)) at (k + 2)) (now (table .entry))) ⌝ }

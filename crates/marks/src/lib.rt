@@ -1,4 +1,4 @@
-// Sets of positions as bytes, 1 for each member: counts, searches, members set, each in one pass.
+// A byte for each position, 1 for a member: counts, searches, members set, each in one pass.
 ghost use mathlib.Core.Path.{_≡_};
 ghost use Prim.Native.Nat.{ℕ, _≤_};
 ghost use lib.Dec.{eqb, ltb};

@@ -43,7 +43,7 @@ pub struct Chart {
     pub sending: usize,
     // of each of these: the centre, its degree and the board's port
     pub surveys: [component::Survey; base::LEVELS],
-    // where the component of the last of these lies
+    // where the component of the last of these lies, while the level after it is not entered
     pub deepest: component::Span,
 }
 

@@ -2,5 +2,3 @@ pub mod Going
 pub mod Emitted
 pub mod Parts
 pub mod Turns
-pub mod Calls
-pub mod Redone

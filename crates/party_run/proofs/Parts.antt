@@ -1,14 +1,14 @@
 -- A party whose parts are lent one by one: its levels as the code reads and stores them, and the party after a rule.
-use mathlib.Core.Path.{_≡_, refl, sym, ap, _∙_, subst}
+use mathlib.Core.Path.{_≡_, sym, ap, _∙_, subst}
 use mathlib.Core.Bool.{Bool, true, false}
 use mathlib.Core.List.{List}
 use Prim.Native.Nat.{ℕ, _+_, _≤_, _<_}
 use native.Mathlib.Omega.{arith}
 use lib.Dec.{T}
-use lib.ListN.{length, getD, set, length-take, length-drop}
+use lib.ListN.{length, getD, set, length-set, length-take, length-drop}
+use Rattle.base.specs.Pick.{pick}
 use Rattle.base.specs.Limits.{levelCount}
 use Rattle.plan.specs.Plan.{Plan}
-use Rattle.component.specs.Component.{sideOf}
 use Rattle.component.specs.Inner.{Lent}
 use Rattle.level.specs.declared.Context.{Context}
 use Rattle.level.specs.declared.Level as CodeLevel
@@ -29,10 +29,9 @@ use Rattle.party_laws.proofs.Laws.{Formed}
 use Rattle.party_bounds.proofs.Laws.{Sized}
 use Rattle.party_bounds.proofs.Sized.{open-applies}
 use Rattle.party_step.specs.declared.Entered.{Entered}
-use Rattle.party_step.specs.declared.Moved.{Moved}
-use Rattle.party_step.specs.Inner.{seen, wayOf, place, above, chartWith, Enters, Below, Descends, Steps, Stepped}
+use Rattle.party_step.specs.Inner.{seen, wayOf, chartWith, Descends, Steps, Stepped}
 use Rattle.party_step.proofs.Openings.{rule-limits, rule-found}
-use Rattle.party_step.proofs.Steps.{step-next, step-stays, step-descends, step-enters}
+use Rattle.party_step.proofs.Steps.{step-next, step-descends, step-led}
 
 -- a level's sets are all there
 pub sets-there : (s : List ℕ) (i : ℕ) → setCount ≤ length s → i < levelCount → slotCount ≤ length (setsAt s i)
@@ -78,52 +77,45 @@ module _ (v : Vote) (plan : Plan) (ls : List CodeLevel.Level) (s : List ℕ) (w 
       next : i + 1 < levelCount
       next = step-next p c ports i (asApplied (setsAt s i) a) w h on rule
 
-      pub steps-in : Lent plan → Steps plan ls c ports i (wayOf (a .effect))
-      steps-in r = record {
-        next = next;
-        enters = λ t.
-            subst (λ (m : Level). Descends plan (c .deepest) ports (getD (c .surveys) i noSurvey .centre) (m .position) (wayOf (a .effect) .side) (wayOf (a .effect) .keep))
-            (at i (omega (arith, next))) (step-descends p c ports i (asApplied (setsAt s i) a) w h on rule t r);
-      }
+      pub steps-in : Lent plan
+          → Steps plan (c .deepest) ports (getD (c .surveys) i noSurvey .centre) (getD ls i noCodeLevel .position) (wayOf (a .effect))
+      steps-in r t =
+          subst (λ (m : Level). Descends plan (c .deepest) ports (getD (c .surveys) i noSurvey .centre) (m .position) (wayOf (a .effect) .side) (wayOf (a .effect) .keep))
+          (at i (omega (arith, next))) (step-descends p c ports i (asApplied (setsAt s i) a) w h on rule t r)
 
-      module _ (r : Moved) (after : List ℕ) (g : Stepped plan ls c ports i a (wayOf (a .effect)) r after) where
-        -- the record of level i is stored
-        stored : partyIn v plan (set ls i (a .level)) s ≡ withLevel (partyIn v plan ls s) i (asLevel (setsAt s i) (a .level))
-        stored = put-in v plan ls s i (a .level)
+      applied : T (applies (a .effect))
+      applied = subst (λ (z : Applied). T (applies (z .effect))) (sym rule) (open-applies p i on)
 
-        abbrev Led : Type 0
-        Led = (partyIn v plan (r .levels) s ≡ stepAt (partyIn v plan ls s) i) × Charts (stepAt (partyIn v plan ls s) i) (r .chart) after
+      -- the records of level i and of the next one are stored
+      module _ (e : Entered) (after : List ℕ)
+          (g : Stepped plan (c .deepest) ports (getD ls i noCodeLevel .position) (getD ls (i + 1) noCodeLevel) (wayOf (a .effect)) e after) where
+        stored : partyIn v plan (set (set ls i (a .level)) (i + 1) (e .level)) s
+            ≡ withLevel (withLevel (partyIn v plan ls s) i (asLevel (setsAt s i) (a .level))) (i + 1) (asLevel (setsAt s (i + 1)) (e .level))
+        stored =
+            put-in v plan (set ls i (a .level)) s (i + 1) (e .level)
+            ∙ ap (λ (q : Party). withLevel q (i + 1) (asLevel (setsAt s (i + 1)) (e .level))) (put-in v plan ls s i (a .level))
 
-        -- what was entered, with the old position
-        abbrev Over : ℕ → Entered → Type 0
-        Over x e =
-            Enters plan (sideOf plan (above plan c ports) (wayOf (a .effect) .side)) (getD ls (i + 1) noCodeLevel) (wayOf (a .effect) .side)
-            (place plan (above plan c ports) (wayOf (a .effect) .side) (wayOf (a .effect) .keep) x) e after
+        pub stepped-in : length (c .surveys) ≡ levelCount
+            → (partyIn v plan (set (set ls i (a .level)) (i + 1) (e .level)) s ≡ stepAt (partyIn v plan ls s) i)
+            × Charts (stepAt (partyIn v plan ls s) i) (chartWith c (i + 1) e) after
+        stepped-in full =
+            let y = step-led p c ports i (asApplied (setsAt s i) a) w h on rule (setsAt s (i + 1)) (getD ls (i + 1) noCodeLevel) (at (i + 1) next) e after
+            (subst (λ (l : Level). Stepped plan (c .deepest) ports (l .position) (getD ls (i + 1) noCodeLevel) (wayOf (a .effect)) e after) (sym (at i (omega (arith, next)))) g)
+            applied full in
+            (stored ∙ y .0, y .1)
 
-        applied : T (applies (a .effect))
-        applied = subst (λ (z : Applied). T (applies (z .effect))) (sym rule) (open-applies p i on)
+-- ---- the chart, as the code stores its parts
 
-        stays : wayOf (a .effect) .enters ≡ false → Led
-        stays f =
-            let y = step-stays p c ports i (asApplied (setsAt s i) a) w h on rule applied f in
-            let m = g .stays f in (
-              ap (λ (z : List CodeLevel.Level). partyIn v plan z s) (m .0) ∙ stored ∙ y .0,
-              subst (λ (z : Chart). Charts (stepAt p i) z after) (sym (m .1)) (subst (Charts (stepAt p i) c) (sym (m .2)) (y .1)),
-            )
+module _ (c : Chart) (i : ℕ) (e : Entered) where
+  pub chart-more : e .sends ≡ true → _≡_ {A = Chart} (record { sending = i + 1; surveys = set (c .surveys) i (e .survey); deepest = e .span }) (chartWith c i e)
+  chart-more t = rw t
 
-        entered : (t : wayOf (a .effect) .enters ≡ true) → (e : Entered) → Below plan ls c ports i (wayOf (a .effect)) e after
-            → r .levels ≡ set (set ls i (a .level)) (i + 1) (e .level) → r .chart ≡ chartWith c (i + 1) e → Led
-        entered t e k m d =
-            let y = step-enters p c ports i (asApplied (setsAt s i) a) w h on rule t (setsAt s (i + 1)) (getD ls (i + 1) noCodeLevel) (at (i + 1) next) e after
-            (subst (λ (l : Level). Over (l .position) e) (sym (at i (omega (arith, next)))) k) (g .surveys) in (
-              ap (λ (z : List CodeLevel.Level). partyIn v plan z s) m ∙ put-in v plan (set ls i (a .level)) s (i + 1) (e .level)
-                  ∙ ap (λ (q : Party). withLevel q (i + 1) (asLevel (setsAt s (i + 1)) (e .level))) stored ∙ y .0,
-              subst (λ (z : Chart). Charts (stepAt p i) z after) (sym d) (y .1),
-            )
+  pub chart-same : e .sends ≡ false → c ≡ chartWith c i e
+  chart-same f = rw f
 
-        pub stepped-in : (partyIn v plan (r .levels) s ≡ stepAt (partyIn v plan ls s) i) × Charts (stepAt (partyIn v plan ls s) i) (r .chart) after
-        stepped-in = go (wayOf (a .effect) .enters) refl
-          where
-            go : (y : Bool) → wayOf (a .effect) .enters ≡ y → Led
-            go false f = stays f
-            go true t = let m = g .enters t in entered t (m .0) (m .1) (m .2) (m .3)
+  pub chart-full : length (c .surveys) ≡ levelCount → length (chartWith c i e .surveys) ≡ levelCount
+  chart-full h = go (e .sends)
+    where
+      go : (b : Bool) → length (pick b (record { sending = i + 1; surveys = set (c .surveys) i (e .survey); deepest = e .span }) c .surveys) ≡ levelCount
+      go true = length-set (c .surveys) i (e .survey) ∙ h
+      go false = h

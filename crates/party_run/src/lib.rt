@@ -1,20 +1,16 @@
 // Rules applied until none does, with the messages that they make.
 ghost use mathlib.Core.Path.{_≡_};
-ghost use mathlib.Core.Bool.{true, false};
 ghost use Prim.Native.Nat.{_+_, _-_, _≤_, _<_};
 ghost use lib.ListN.{length};
 ghost use Rattle.base.specs.Put.{putAt};
 ghost use Rattle.base.specs.Limits.{levelCount};
 ghost use Rattle.plan.specs.Tie.{shaped};
-ghost use Rattle.message.specs.Message.{inTable};
 ghost use Rattle.level.specs.Inner.{InLimits};
 ghost use Rattle.level.specs.Rules.{lowestRule};
 ghost use Rattle.level.specs.Tie.{asLevel, asApplied};
-ghost use Rattle.party.specs.Party.{started};
 ghost use Rattle.party.specs.Run as Rules;
 ghost use Rattle.party.specs.Tie.{partyIn, setsAt};
 ghost use Rattle.party.specs.Inner.{setCount};
-ghost use Rattle.party_life.specs.Life.{replayed, Fits};
 ghost use Rattle.party_run.specs.Inner.{voiced, asOutcome, Gives, Ready};
 
 // What applying rules gave: the levels with their chart, how many rules, and how many outgoing bytes.
@@ -79,7 +75,7 @@ fn back(i: usize) -> usize
 
 // Rules until none applies. The messages are written from the buffer's first byte on where `loud`, else nowhere.
 // No rule applies below level i; a rule at level i opens none but at i - 1, i and i + 1. At most base::MAX_RULES rules apply.
-fn run(
+pub fn run(
     v: party::Vote,
     shape: plan::Shape,
     ps: &[u16],
@@ -107,11 +103,32 @@ fn run(
         let e = a.effect;
         if level::applies(e) {
             sent = emit(out, sent, v.agreement, i, e, loud);
-            let m = party_step::step(shape, ps, cs, ls, d, ports, i, a);
-            ls = m.levels;
-            d = m.chart;
+            let k = a.level;
+            ls[i] = k;
+            let deepest = d.deepest;
+            let below = party_step::step(
+                shape,
+                ps,
+                cs,
+                deepest,
+                ports,
+                s.centre,
+                l.position,
+                next,
+                e,
+            );
+            let m = below.level;
+            let j = i + 1;
+            ls[j] = m;
             rules += 1;
             i = back(i);
+            if below.sends {
+                let survey = below.survey;
+                let span = below.span;
+                d.sending = j + 1;
+                d.surveys[j] = survey;
+                d.deepest = span;
+            }
         } else {
             i += 1;
         }
@@ -121,105 +138,5 @@ fn run(
         chart: d,
         rules: rules,
         sent: sent,
-    }
-}
-
-// Level 0 is entered at x, and rules are applied.
-fn start(
-    v: party::Vote,
-    shape: plan::Shape,
-    ps: &[u16],
-    cs: &[u16],
-    sets: &party::Sets,
-    levels: party::Levels,
-    chart: party::Chart,
-    ports: &mut [u8; base::MAX_VERTICES],
-    x: base::Position,
-    out: &mut [u8],
-    loud: bool,
-) -> Ran
-    requires { ⌜ Ready (partyIn v (shaped shape (now ps) (now cs)) levels (now sets)) chart (now ports) (length (now out)) × (started (partyIn v (shaped shape (now ps) (now cs)) levels (now sets)) ≡ false) × (x < shape .count) ⌝ }
-    ensures { λ g. ⌜ Gives (Rules.starting (partyIn v (shaped shape (now (ps .entry)) (now (cs .entry))) levels (now (sets .entry))) x) loud (now (out .entry)) (asOutcome v (shaped shape (now (ps .entry)) (now (cs .entry))) (now (sets .entry)) (now (ports .exit)) g) (now (out .exit)) ⌝ }
-{
-    let span = component::whole(shape, ps, cs, ports);
-    let mut ls = levels;
-    let e = party_step::enter(shape, ps, cs, span, ports, ls[0], 0, x);
-    let l = e.level;
-    ls[0] = l;
-    let d = party_step::charted(chart, 0, e);
-    run(v, shape, ps, cs, sets, ls, d, ports, out, loud)
-}
-
-// A message is taken from s, and rules are applied; one that is held changes nothing.
-fn take(
-    v: party::Vote,
-    shape: plan::Shape,
-    ps: &[u16],
-    cs: &[u16],
-    sets: &mut party::Sets,
-    levels: party::Levels,
-    chart: party::Chart,
-    ports: &mut [u8; base::MAX_VERTICES],
-    s: u8,
-    m: message::Message,
-    out: &mut [u8],
-    loud: bool,
-) -> Ran
-    requires { ⌜ Ready (partyIn v (shaped shape (now ps) (now cs)) levels (now sets)) chart (now ports) (length (now out)) × (s < v .n) × (inTable m ≡ true) ⌝ }
-    ensures { λ g. ⌜ Gives (Rules.taking (partyIn v (shaped shape (now (ps .entry)) (now (cs .entry))) levels (now (sets .entry))) s m) loud (now (out .entry)) (asOutcome v (shaped shape (now (ps .entry)) (now (cs .entry))) (now (sets .exit)) (now (ports .exit)) g) (now (out .exit)) ⌝ }
-{
-    let k = party::place(m);
-    let mask = sets[k];
-    if senders::contains(mask, s) {
-        return Ran {
-            levels: levels,
-            chart: chart,
-            rules: 0,
-            sent: 0,
-        };
-    }
-    sets[k] = senders::add(mask, s);
-    run(v, shape, ps, cs, sets, levels, chart, ports, out, loud)
-}
-
-// What a record's call does: a start, or a message taken.
-pub fn replay(
-    v: party::Vote,
-    shape: plan::Shape,
-    ps: &[u16],
-    cs: &[u16],
-    sets: &mut party::Sets,
-    levels: party::Levels,
-    chart: party::Chart,
-    ports: &mut [u8; base::MAX_VERTICES],
-    r: journal::Record,
-    out: &mut [u8],
-    loud: bool,
-) -> Ran
-    requires { ⌜ Ready (partyIn v (shaped shape (now ps) (now cs)) levels (now sets)) chart (now ports) (length (now out)) × Fits (partyIn v (shaped shape (now ps) (now cs)) levels (now sets)) r ⌝ }
-    ensures { λ g. ⌜ Gives (replayed (partyIn v (shaped shape (now (ps .entry)) (now (cs .entry))) levels (now (sets .entry))) r) loud (now (out .entry)) (asOutcome v (shaped shape (now (ps .entry)) (now (cs .entry))) (now (sets .exit)) (now (ports .exit)) g) (now (out .exit)) ⌝ }
-{
-    match r {
-        journal::Record::Start {
-            agreement: _,
-            position: x,
-        } => start(v, shape, ps, cs, sets, levels, chart, ports, x, out, loud),
-        journal::Record::Taken {
-            sender: s,
-            message: m,
-        } => take(
-            v,
-            shape,
-            ps,
-            cs,
-            sets,
-            levels,
-            chart,
-            ports,
-            s,
-            m,
-            out,
-            loud,
-        ),
     }
 }

@@ -196,7 +196,7 @@ module _ (p : Party) (c : Chart) (ports : List ℕ) (i : ℕ) (S : Set) (k x : �
       where
         go : (b : Bool) → e .sends ≡ b → Charts (entering p i S k x) (pick b (record { sending = i + 1; surveys = set (c .surveys) i (e .survey); deepest = e .span }) c) after
         go true t =
-            more-charts v full (leb-true 3 (sizeOf (p .plan) S) (sym (g .sends) ∙ t)) (e .survey) (g .survey t) (e .span) after (g .component t) (g .numbers t)
+            more-charts v full (leb-true 3 (sizeOf (p .plan) S) (sym (g .sends) ∙ t)) (e .survey) (g .surveys t .is) (e .span) after (g .surveys t .same) (g .surveys t .numbers)
         go false t = small-charts after (leb-false 3 (sizeOf (p .plan) S) (sym (g .sends) ∙ t))
 
 -- the record that the code stores is the definition's

@@ -2,51 +2,23 @@
 use mathlib.Core.Path.{_≡_, refl, sym, ap, _∙_, subst}
 use mathlib.Core.Bool.{Bool, true, false}
 use mathlib.Core.List.{List}
-use Prim.Native.Nat.{ℕ, _+_, _≤_, _<_}
+use Prim.Native.Nat.{ℕ, _≤_, _<_}
 use lib.Dec.{T, leb}
-use lib.ListN.{length, getD, set}
+use lib.ListN.{set}
 use borrow.Author.Tests.{le-leb, lt-leb}
 use Rattle.base.specs.Pick.{pick}
 use Rattle.base.specs.Sets.{Set}
-use Rattle.base.specs.Limits.{levelCount}
 use Rattle.base.proofs.Bools.{true→T, false→not-T}
 use Rattle.plan.specs.Plan.{Plan}
 use Rattle.component.specs.declared.Span.{Span}
-use Rattle.component.specs.declared.Centre.{Centre}
-use Rattle.component.specs.declared.Survey.{Survey}
-use Rattle.component.specs.Component.{sizeOf, portOf}
-use Rattle.component.specs.Inner.{members, Lent, OfPlan, Surveyed, Finds, Numbered, Holds, surveyOf}
+use Rattle.component.specs.Component.{sizeOf}
+use Rattle.component.specs.Inner.{members, Lent, OfPlan, Enterable, Surveys, Holds}
 use Rattle.level.specs.Level.{withEntry}
 use Rattle.level.specs.declared.Level.{Level}
-use Rattle.level.specs.declared.Applied.{Applied}
-use Rattle.level.specs.Inner.{noCodeLevel}
 use Rattle.level.specs.Tie.{asLevel}
-use Rattle.party.specs.declared.Chart.{Chart}
-use Rattle.party.specs.Inner.{noSurvey}
 use Rattle.party_step.specs.declared.Entered.{Entered}
 use Rattle.party_step.specs.declared.Way.{Way}
-use Rattle.party_step.specs.declared.Moved.{Moved}
-use Rattle.party_step.specs.Inner.{chartWith, Enterable, Enters, Descends, Steps, Below, Stepped}
-
--- ---- what the survey finds
-
-module _ (p : Plan) (s : Span) (S : Set) (l : List ℕ) (h : Centre) (f : Finds p s S l h) where
-  pub found-surveyed : OfPlan p S → 3 ≤ sizeOf p S → Surveyed p s l
-  found-surveyed o t = record {
-    of = subst (OfPlan p) (sym (f .same)) o;
-    three = subst (λ (y : Set). 3 ≤ sizeOf p y) (sym (f .same)) t;
-    numbers = f .numbers;
-  }
-
-  pub found-place : (x : ℕ) → T (S x) → T (members p s l x)
-  found-place x t = subst (λ (y : Set). T (y x)) (sym (f .same)) t
-
-  pub found-survey : (x port : ℕ) → port ≡ portOf p (members p s l) x
-      → _≡_ {A = Survey} (record { centre = h .centre; degree = h .degree; port = port }) (surveyOf p S x)
-  unfolding surveyOf
-  found-survey x port e =
-      let q : port ≡ portOf p S x = e ∙ ap (λ (y : Set). portOf p y x) (f .same) in
-      λ z. record { centre = f .centre z; degree = f .degree z; port = q z }
+use Rattle.party_step.specs.Inner.{silentAs, Enters, Descends, Steps, Below, Stepped}
 
 -- ---- a level entered
 
@@ -63,17 +35,15 @@ module _ (p : Plan) (S : Set) (old : Level) (k x : ℕ) (e : Entered) (ports : L
       record {
         level = by-size false b m;
         sends = f ∙ sym b;
-        survey = λ t. absurd (false→not-T f (true→T t));
-        component = λ t. absurd (false→not-T f (true→T t));
-        numbers = λ t. absurd (false→not-T f (true→T t));
+        surveys = λ t. absurd (false→not-T f (true→T t));
       }
 
   -- over three or more
   pub large-enters : 3 ≤ sizeOf p S → e .sends ≡ true → ((sets : List ℕ) → asLevel sets (e .level) ≡ withEntry (asLevel sets old) k x (old .output))
-      → e .survey ≡ surveyOf p S x → members p (e .span) ports ≡ S → Numbered p (e .span) ports → Enters p S old k x e ports
-  large-enters l f m s c n =
+      → Surveys p (e .span) S x ports (e .survey) → Enters p S old k x e ports
+  large-enters l f m s =
       let b : leb 3 (sizeOf p S) ≡ true = le-leb 3 (sizeOf p S) l in
-      record { level = by-size true b m; sends = f ∙ sym b; survey = λ _. s; component = λ _. c; numbers = λ _. n }
+      record { level = by-size true b m; sends = f ∙ sym b; surveys = λ _. s }
 
 -- ---- a set as it is lent
 
@@ -92,24 +62,23 @@ module _ (p : Plan) (s : Span) (ports : List ℕ) (S : Set) (h : Holds p s ports
 
 -- ---- a rule's step
 
-module _ (p : Plan) (levels : List Level) (c : Chart) (before : List ℕ) (i : ℕ) (w v : Way) (same : v ≡ w) where
-  pub steps-descends : Steps p levels c before i w → v .enters ≡ true
-      → Descends p (c .deepest) before (getD (c .surveys) i noSurvey .centre) (getD levels i noCodeLevel .position) (v .side) (v .keep)
-  steps-descends s = subst (Steps p levels c before i) (sym same) s .enters
+-- by the way that the code found
+module _ (p : Plan) (s : Span) (before : List ℕ) (centre position : ℕ) (w v : Way) (same : v ≡ w) where
+  pub steps-descends : Steps p s before centre position w → v .enters ≡ true → Descends p s before centre position (v .side) (v .keep)
+  steps-descends h = subst (Steps p s before centre position) (sym same) h
 
-  module _ (a : Applied) (full : length (c .surveys) ≡ levelCount) where
-    to : (r : Moved) (after : List ℕ) → Stepped p levels c before i a v r after → Stepped p levels c before i a w r after
-    to r after h = subst (λ (y : Way). Stepped p levels c before i a y r after) same h
+  module _ (next : Level) where
+    to : (e : Entered) (after : List ℕ) → Stepped p s before position next v e after → Stepped p s before position next w e after
+    to e after h = subst (λ (y : Way). Stepped p s before position next y e after) same h
 
     -- no level is entered
-    pub stepped-stays : v .enters ≡ false → Stepped p levels c before i a w (record { levels = set levels i (a .level); chart = c }) before
-    stepped-stays f =
-        to (record { levels = set levels i (a .level); chart = c }) before
-        (record { surveys = full; stays = λ _. (refl, refl, refl); enters = λ t. absurd (false→not-T f (true→T t)) })
+    pub stepped-stays : v .enters ≡ false → (e : Entered) → e ≡ silentAs next s → Stepped p s before position next w e before
+    stepped-stays f e q =
+        to e before (record {
+          stays = λ _. (ap (λ (y : Entered). y .level) q, ap (λ (y : Entered). y .sends) q, refl);
+          enters = λ t. absurd (false→not-T f (true→T t));
+        })
 
     -- the next one is
-    pub stepped-enters : v .enters ≡ true → (e : Entered) (after : List ℕ) → Below p levels c before i v e after → (d : Chart) → d ≡ chartWith c (i + 1) e
-        → Stepped p levels c before i a w (record { levels = set (set levels i (a .level)) (i + 1) (e .level); chart = d }) after
-    stepped-enters t e after b d f =
-        to (record { levels = set (set levels i (a .level)) (i + 1) (e .level); chart = d }) after
-        (record { surveys = full; stays = λ n. absurd (false→not-T n (true→T t)); enters = λ _. (e, b, refl, f) })
+    pub stepped-enters : v .enters ≡ true → (e : Entered) (after : List ℕ) → Below p s before position next v e after → Stepped p s before position next w e after
+    stepped-enters t e after b = to e after (record { stays = λ n. absurd (false→not-T n (true→T t)); enters = λ _. b })

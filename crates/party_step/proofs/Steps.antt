@@ -6,7 +6,7 @@ use Prim.Native.Nat.{ℕ, suc, _+_, _≤_, _<_}
 use native.Mathlib.Numerals.{add-one}
 use native.Mathlib.Omega.{arith}
 use lib.Dec.{T, leb, T-not}
-use lib.ListN.{length, getD}
+use lib.ListN.{length, getD, set}
 use Rattle.base.specs.Pick.{pick}
 use Rattle.base.specs.Sets.{Set}
 use Rattle.base.specs.Limits.{levelCount}
@@ -28,10 +28,10 @@ use Rattle.party.specs.declared.Chart.{Chart}
 use Rattle.party.specs.Party.{Party, levelAt, withLevel, componentOf, contextOf, sending, entering}
 use Rattle.party.specs.Run.{ruleAt, openAt, gate, descend, afterRule, stepAt}
 use Rattle.party.specs.Inner.{Charts, noSurvey}
-use Rattle.party_laws.proofs.Laws.{Formed, Entry, SendingLevel, EnteredLevel, level-back, entry-level, entry-above, board-entering, descend-component, entered-level, sending-level, open-sending, open-move, formed-step}
+use Rattle.party_laws.proofs.Laws.{Formed, Entry, SendingLevel, EnteredLevel, level-other, level-back, entry-level, entry-above, board-entering, descend-component, entered-level, sending-level, open-sending, open-move, formed-step}
 use Rattle.party_step.specs.declared.Entered.{Entered}
 use Rattle.party_step.specs.declared.Way.{Way}
-use Rattle.party_step.specs.Inner.{wayOf, place, chartWith, Enters, Descends}
+use Rattle.party_step.specs.Inner.{wayOf, place, chartWith, Enters, Descends, Below, Stepped}
 use Rattle.party_step.proofs.Charts.{charts-with, sends-charted, new-charted, entered-charts, entered-party}
 
 -- a rule that enters leaves its level's record, and the next level was not entered
@@ -101,7 +101,7 @@ module _ (p : Party) (c : Chart) (ports : List ℕ) (i : ℕ) (a : Applied) (w :
 
   -- ---- no level is entered
 
-  pub step-stays : T (applies (a .effect)) → wayOf (a .effect) .enters ≡ false → (withLevel p i (a .level) ≡ stepAt p i) × Charts (stepAt p i) c ports
+  step-stays : T (applies (a .effect)) → wayOf (a .effect) .enters ≡ false → (withLevel p i (a .level) ≡ stepAt p i) × Charts (stepAt p i) c ports
   step-stays t f =
       let e : withLevel p i (a .level) ≡ stepAt p i = sym (after-stays p i (a .level) (a .effect) t f) ∙ by-rule in
       (e, subst (λ (q : Party). Charts q c ports) e (charts-with p c ports i (a .level) (unmoved .entered) (unmoved .side) (unmoved .position) h))
@@ -214,17 +214,47 @@ module _ (p : Party) (c : Chart) (ports : List ℕ) (i : ℕ) (a : Applied) (w :
       place = asked .5;
     }
 
-    -- the levels as the code stores them, and the chart
+    -- the next level as the code stores it, and the chart
     module _ (sets : List ℕ) (old : CodeLevel.Level) (is-old : levelAt p (i + 1) ≡ asLevel sets old) (e : Entered) (after : List ℕ)
-        (g₀ : Enters (p .plan) (sideOf (p .plan) (members (p .plan) (c .deepest) ports) (wayOf (a .effect) .side)) old (wayOf (a .effect) .side)
-        (place (p .plan) (members (p .plan) (c .deepest) ports) (wayOf (a .effect) .side) (wayOf (a .effect) .keep) (levelAt p i .position)) e after) where
+        (g₀ : Below (p .plan) (c .deepest) ports (levelAt p i .position) old (wayOf (a .effect)) e after) where
       g : Enters (p .plan) side old k x e after
       g = subst (λ (S : Set). Enters (p .plan) (sideOf (p .plan) S k) old k (place (p .plan) S k keep (levelAt p i .position)) e after) deepest g₀
 
-      pub step-enters : length (c .surveys) ≡ levelCount
+      step-enters : length (c .surveys) ≡ levelCount
           → (withLevel (withLevel p i (a .level)) (i + 1) (asLevel sets (e .level)) ≡ stepAt p i) × Charts (stepAt p i) (chartWith c (i + 1) e) after
       step-enters full = (
         ap (λ (q : Party). withLevel q (i + 1) (asLevel sets (e .level))) back ∙ entered-party p (i + 1) side k x sets old is-old e after g ∙ target-step,
         subst (λ (q : Party). Charts q (chartWith c (i + 1) e) after) target-step
             (entered-charts p c ports (i + 1) side k x w h level-next new component old e after g formed full),
       )
+
+  -- ---- whichever it is
+
+  module _ (sets : List ℕ) (old : CodeLevel.Level) (is-old : levelAt p (i + 1) ≡ asLevel sets old) (e : Entered) (after : List ℕ)
+      (g : Stepped (p .plan) (c .deepest) ports (levelAt p i .position) old (wayOf (a .effect)) e after) where
+    abbrev Led : Type 0
+    Led = (withLevel (withLevel p i (a .level)) (i + 1) (asLevel sets (e .level)) ≡ stepAt p i) × Charts (stepAt p i) (chartWith c (i + 1) e) after
+
+    next-stays : e .level ≡ old → withLevel (withLevel p i (a .level)) (i + 1) (asLevel sets (e .level)) ≡ withLevel p i (a .level)
+    next-stays q =
+        ap (λ (l : CodeLevel.Level). withLevel (withLevel p i (a .level)) (i + 1) (asLevel sets l)) q
+        ∙ ap (withLevel (withLevel p i (a .level)) (i + 1)) (sym is-old ∙ sym (level-other p i (a .level) (i + 1) (λ e. omega arith)))
+        ∙ level-back (withLevel p i (a .level)) (i + 1)
+
+    stays : T (applies (a .effect)) → wayOf (a .effect) .enters ≡ false → Led
+    stays t f =
+        let y = step-stays t f in
+        let m = g .stays f in (
+          next-stays (m .0) ∙ y .0,
+          subst
+              (λ (b : Bool). Charts (stepAt p i) (pick b (record { sending = i + 1 + 1; surveys = set (c .surveys) (i + 1) (e .survey); deepest = e .span }) c) after)
+              (sym (m .1)) (subst (Charts (stepAt p i) c) (sym (m .2)) (y .1)),
+        )
+
+    pub step-led : T (applies (a .effect)) → length (c .surveys) ≡ levelCount
+        → (withLevel (withLevel p i (a .level)) (i + 1) (asLevel sets (e .level)) ≡ stepAt p i) × Charts (stepAt p i) (chartWith c (i + 1) e) after
+    step-led t full = go (wayOf (a .effect) .enters) refl
+      where
+        go : (y : Bool) → wayOf (a .effect) .enters ≡ y → Led
+        go false f = stays t f
+        go true f = step-enters f sets old is-old e after (g .enters f) full

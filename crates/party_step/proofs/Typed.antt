@@ -19,6 +19,7 @@ use Rattle.level.specs.Inner.{noCodeLevel}
 use Rattle.level.proofs.Level as LevelType
 use Rattle.party.specs.declared.Chart.{Chart}
 use Rattle.party.specs.declared.Party as Code
+use Rattle.party.specs.Inner.{Whole}
 use Rattle.party.specs.Valid.{partyValid}
 use Rattle.party.specs.Tie.{voteOf, asParty}
 use Rattle.party.proofs.Ties.{length-tied, level-in}
@@ -58,6 +59,10 @@ chart-surveys c vs h = sym (length-map (c .surveys) _) ∙ h .1 .1 .1 .0 .1 .0 .
 module _ (p : Code.Party) (vs : List Val) (h : Is PartyType.the-row p vs) where
   full : length (p .levels) ≡ levelCount
   full = sym (length-map (p .levels) _) ∙ h .1 .1 .1 .1 .1 .1 .1 .0 .1 .0 .1
+
+  -- every value of the type is whole
+  pub typed-whole : Whole p
+  typed-whole = record { levels = full; sets = sym (length-map (p .sets) _) ∙ h .1 .1 .1 .1 .1 .1 .1 .1 .0 .1 .0 .1 }
 
   -- that passes question 19
   pub typed-sized : T (partyValid (asParty p)) → Sized (asParty p)

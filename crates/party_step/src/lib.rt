@@ -1,13 +1,11 @@
-// One rule's step: a level entered, and the levels with their chart after a rule at one of them.
+// One rule's step: a level entered, and the next level after a rule.
 ghost use mathlib.Core.Path.{_≡_};
-ghost use Prim.Native.Nat.{_<_};
-ghost use Rattle.base.specs.Limits.{levelCount};
 ghost use Rattle.plan.specs.Tie.{shaped};
 ghost use Rattle.component.specs.Component.{sideOf};
-ghost use Rattle.component.specs.Inner.{Lent, HasSide, members};
-ghost use Rattle.party_step.specs.Inner.{seen, noEntry, entryBy, wayOf, place, chartWith, Enterable, Enters, Descends, Steps, Stepped};
+ghost use Rattle.component.specs.Inner.{Lent, Enterable, HasSide, members};
+ghost use Rattle.party_step.specs.Inner.{seen, silentAs, noEntry, entryBy, wayOf, place, Enters, Descends, Steps, Stepped};
 
-// A level entered: its record, and where it sends, its survey and where its component lies.
+// A level entered, or left as it is: its record; whether it was entered just now and sends; and then its survey and where its component lies.
 pub struct Entered {
     pub level: level::Level,
     pub sends: bool,
@@ -22,12 +20,6 @@ pub struct Way {
     pub keep: bool,
 }
 
-// The levels with their chart after a rule.
-pub struct Moved {
-    pub levels: party::Levels,
-    pub chart: party::Chart,
-}
-
 // What the rules at a level see: the settings, its survey, and the level after it.
 pub fn context(n: u32, t: u32, s: component::Survey, next: level::Level) -> level::Context
     ensures { λ r. ⌜ r ≡ seen n t s (next .entered) (next .output) ⌝ }
@@ -40,6 +32,23 @@ pub fn context(n: u32, t: u32, s: component::Survey, next: level::Level) -> leve
         centre: s.centre,
         next_entered: next.entered,
         next_output: next.output,
+    }
+}
+
+// A level with this record of which nothing is surveyed.
+fn silent(level: level::Level, span: component::Span) -> Entered
+    ensures { λ r. ⌜ r ≡ silentAs level span ⌝ }
+{
+    let none = component::Survey {
+        centre: 0,
+        degree: 0,
+        port: 0,
+    };
+    Entered {
+        level: level,
+        sends: false,
+        survey: none,
+        span: span,
     }
 }
 
@@ -63,25 +72,9 @@ pub fn enter(
     l.position = x;
     if component::size(shape, ps, cs, span, ports) < 3 {
         l.output = x;
-        let none = component::Survey {
-            centre: 0,
-            degree: 0,
-            port: 0,
-        };
-        return Entered {
-            level: l,
-            sends: false,
-            survey: none,
-            span: span,
-        };
+        return silent(l, span);
     }
-    let h = component::survey_ports(shape, ps, cs, span, ports);
-    let port = component::port(shape, ps, cs, span, ports, x);
-    let s = component::Survey {
-        centre: h.centre,
-        degree: h.degree,
-        port: port,
-    };
+    let s = component::survey_at(shape, ps, cs, span, ports, x);
     Entered {
         level: l,
         sends: true,
@@ -112,7 +105,7 @@ fn gate(
 }
 
 // The next level is entered by side k, at the old position where `keep`, else at neighbour k.
-pub fn descend(
+fn descend(
     shape: plan::Shape,
     ps: &[u16],
     cs: &[u16],
@@ -130,23 +123,6 @@ pub fn descend(
     let x = gate(shape, ps, cs, deepest, ports, centre, k, keep, position);
     let span = component::side(shape, ps, cs, deepest, ports, centre, k as u32);
     enter(shape, ps, cs, span, ports, next, k, x)
-}
-
-// The chart with level i entered.
-pub fn charted(c: party::Chart, i: usize, e: Entered) -> party::Chart
-    requires { ⌜ i < levelCount ⌝ }
-    ensures { λ r. ⌜ r ≡ chartWith c i e ⌝ }
-{
-    if !e.sends {
-        return c;
-    }
-    let s = e.survey;
-    let span = e.span;
-    let mut d = c;
-    d.sending = i + 1;
-    d.surveys[i] = s;
-    d.deepest = span;
-    d
 }
 
 // A rule enters no level.
@@ -184,51 +160,35 @@ fn way_of(e: level::Effect) -> Way
     }
 }
 
-// A rule at level i: its record is stored, and the next level entered where the rule does so.
+// The next level after a rule with this effect at a level with this centre and position: entered where the rule does so.
 pub fn step(
     shape: plan::Shape,
     ps: &[u16],
     cs: &[u16],
-    levels: party::Levels,
-    chart: party::Chart,
+    deepest: component::Span,
     ports: &mut [u8; base::MAX_VERTICES],
-    i: usize,
-    a: level::Applied,
-) -> Moved
-    requires { ⌜ Steps (shaped shape (now ps) (now cs)) levels chart (now ports) i (wayOf (a .effect)) ⌝ }
-    ensures { λ r. ⌜ Stepped (shaped shape (now (ps .entry)) (now (cs .entry))) levels chart (now (ports .entry)) i a (wayOf (a .effect)) r (now (ports .exit)) ⌝ }
+    centre: base::Position,
+    position: base::Position,
+    next: level::Level,
+    e: level::Effect,
+) -> Entered
+    requires { ⌜ Steps (shaped shape (now ps) (now cs)) deepest (now ports) centre position (wayOf e) ⌝ }
+    ensures { λ r. ⌜ Stepped (shaped shape (now (ps .entry)) (now (cs .entry))) deepest (now (ports .entry)) position next (wayOf e) r (now (ports .exit)) ⌝ }
 {
-    let old = levels[i];
-    let next = levels[i + 1];
-    let mut ls = levels;
-    let l = a.level;
-    ls[i] = l;
-    let e = a.effect;
     let w = way_of(e);
     if !w.enters {
-        return Moved {
-            levels: ls,
-            chart: chart,
-        };
+        return silent(next, deepest);
     }
-    let s = chart.surveys[i];
-    let deepest = chart.deepest;
-    let below = descend(
+    descend(
         shape,
         ps,
         cs,
         deepest,
         ports,
-        s.centre,
-        old.position,
+        centre,
+        position,
         next,
         w.side,
         w.keep,
-    );
-    let k = below.level;
-    ls[i + 1] = k;
-    Moved {
-        levels: ls,
-        chart: charted(chart, i + 1, below),
-    }
+    )
 }

@@ -10,8 +10,8 @@ use Rattle.plan.specs.Tie.{shaped}
 use Rattle.party.specs.Party.{Party}
 use Rattle.party.specs.Tie.{partyIn}
 use Rattle.party_bounds.proofs.Laws.{Sized}
-use Rattle.party_step.proofs.Typed.{levels-full, levels-echoes}
-use Rattle.party_run.proofs.Parts.{sized-in}
+use Rattle.party_step.proofs.Typed.{levels-full, levels-echoes, chart-surveys}
+use Rattle.party_run.proofs.Parts.{sized-in, chart-more, chart-same}
 use Rattle.party_run.proofs.Turns.{Between, turn-start, turn-end, turn-limits, turn-next, turn-more, turn-fits, turn-steps, turn-again}
 use Rattle.party_run.proofs.run.Statement.{statement}
 use Rattle.party_run.proofs.run.Tie as tie
@@ -40,6 +40,7 @@ loop-holds c =
     let s = c .before .before .before in
     let a = s .args in
     turn-start (a .v) (plan s) (now (a .sets)) (a .loud) (now (a .out)) (a .levels) (a .chart) (now (a .ports)) (sized s) (s .pre .charts)
+    (chart-surveys (a .chart) _ (s .good .1 .1 .1 .1 .1 .1 .0))
 
 -- i is a level that sends
 below : (c : tie.In-loop Inv-loop μ-loop) → c .before .loop .i + 1 < levelCount
@@ -98,12 +99,28 @@ emit-requires c κs =
       omega (arith, below t),
     )
 
+-- the turn of a rule that applies, and what was known before it
+abbrev turn-k : tie.After-k Inv-loop μ-loop → tie.Then1 Inv-loop μ-loop
+turn-k c = c .before .before .before .before .before
+
+abbrev turn-m : tie.After-m Inv-loop μ-loop → tie.Then1 Inv-loop μ-loop
+turn-m c = turn-k (c .before .before .before .before)
+
+abbrev within : tie.Then1 Inv-loop μ-loop → tie.In-loop Inv-loop μ-loop
+within y = y .before .before .before .before .before .before .before .before
+
+mul-ls : tie.Need-mul-ls Inv-loop μ-loop
+mul-ls c = omega (arith, below (within (turn-k c)))
+
+array-set-from-ls : tie.Need-array-set-from-ls Inv-loop μ-loop
+array-set-from-ls c = omega (arith, below (within (turn-k c)))
+
 step-requires : tie.Need-step-requires Inv-loop μ-loop
 step-requires c κs =
-    let y = c .before .before .before .before .before in
+    let y = turn-k (c .before .before) in
     let n = y .before in
     let x = n .before .before in
-    let t = x .before .before .before .before .before in
+    let t = within y in
     let l = t .before .loop in
     let s = t .before .before .before .before .before in
     let a = s .args in
@@ -111,12 +128,21 @@ step-requires c κs =
     (t .loop-test .taken) (x .context .result) (x .context .ensures) (n .before .rule-at .result) (n .before .rule-at .ensures) (n .applies .result) (n .applies .ensures)
     (y .if1 .taken) (s .pre .rows)
 
+add-j : tie.Need-add-j Inv-loop μ-loop
+add-j c = omega (arith, below (within (turn-m c)))
+
+mul-ls-2 : tie.Need-mul-ls-2 Inv-loop μ-loop
+mul-ls-2 c = omega (arith, below (within (turn-m c)))
+
+array-set-from-ls-2 : tie.Need-array-set-from-ls-2 Inv-loop μ-loop
+array-set-from-ls-2 c = omega (arith, below (within (turn-m c)))
+
 -- a rule is left
-more : (y : tie.Then1 Inv-loop μ-loop) → y .before .before .before .before .before .before .before .before .before .loop .rules < maxRules
+more : (y : tie.Then1 Inv-loop μ-loop) → within y .before .loop .rules < maxRules
 more y =
     let n = y .before in
     let x = n .before .before in
-    let t = x .before .before .before .before .before in
+    let t = within y in
     let l = t .before .loop in
     let s = t .before .before .before .before .before in
     let a = s .args in
@@ -125,41 +151,72 @@ more y =
     (y .if1 .taken)
 
 add-rules : tie.Need-add-rules Inv-loop μ-loop
-add-rules c = omega (arith, more (c .before .before .before .before .before .before .before .before))
+add-rules c = omega (arith, more (turn-m c))
 
 back-requires : tie.Need-back-requires Inv-loop μ-loop
 back-requires c κs = search needs
 
 loop-less : tie.Need-loop-less Inv-loop μ-loop
 loop-less c =
-    let y = c .before .before .before .before .before .before .before .before .before in
-    let t = y .before .before .before .before .before .before .before .before in
-    omega (arith, more y, below t, c .back .ensures)
+    let k = c .before .before .before in
+    omega (arith, more (turn-m (k .before)), below (within (turn-m (k .before))), k .back .ensures)
+
+loop-less-2 : tie.Need-loop-less-2 Inv-loop μ-loop
+loop-less-2 c =
+    let k = c .before in
+    omega (arith, more (turn-m (k .before)), below (within (turn-m (k .before))), k .back .ensures)
+
+add-d : tie.Need-add-d Inv-loop μ-loop
+add-d c = omega (arith, below (within (turn-m (c .before .before .before .before))))
+
+mul-survey : tie.Need-mul-survey Inv-loop μ-loop
+mul-survey c = omega (arith, below (within (turn-m (c .before .before .before .before))))
+
+element-set-from-survey : tie.Need-element-set-from-survey Inv-loop μ-loop
+element-set-from-survey c = omega (arith, below (within (turn-m (c .before .before .before .before))))
 
 loop-again : tie.Need-loop-again Inv-loop μ-loop
 loop-again c =
-    let y = c .before .before .before .before .before .before .before .before .before in
+    let k = c .before .before .before in
+    let y = turn-m (k .before) in
     let n = y .before in
     let x = n .before .before in
-    let t = x .before .before .before .before .before in
+    let t = within y in
     let l = t .before .loop in
     let s = t .before .before .before .before .before in
     let a = s .args in
-    let m = c .before .before .before in
-    let o = m .before .before .before .before .emit in
+    let m = k .before .before in
+    let o = m .before .before .before .before .before .before .emit in
     turn-again (a .v) (plan s) (now (a .sets)) (first s) (a .loud) (now (a .out)) (l .ls) (l .d) (l .ports) (l .out) (l .sent) (l .rules) (l .i) (l .inv)
     (t .loop-test .taken) (x .context .result) (x .context .ensures) (n .before .rule-at .result) (n .before .rule-at .ensures) (n .applies .result) (n .applies .ensures)
-    (y .if1 .taken) (s .pre .room) (m .step .result) (m .step .last .1 .1 .1 .1 .1 .0) (m .step .ensures) (o .last .0) (o .result) (o .ensures .0) (o .ensures .1)
-    (c .back .result) (c .back .ensures)
+    (y .if1 .taken) (s .pre .room) (m .step .result) (m .step .last .1 .1 .1 .1 .0) (m .step .ensures) (o .last .0) (o .result) (o .ensures .0) (o .ensures .1)
+    (k .back .result) (k .back .ensures) _ (chart-more (l .d) (l .i + 1) (m .step .result) (c .before .before .if2 .taken))
+
+loop-again-2 : tie.Need-loop-again-2 Inv-loop μ-loop
+loop-again-2 c =
+    let k = c .before in
+    let y = turn-m (k .before) in
+    let n = y .before in
+    let x = n .before .before in
+    let t = within y in
+    let l = t .before .loop in
+    let s = t .before .before .before .before .before in
+    let a = s .args in
+    let m = k .before .before in
+    let o = m .before .before .before .before .before .before .emit in
+    turn-again (a .v) (plan s) (now (a .sets)) (first s) (a .loud) (now (a .out)) (l .ls) (l .d) (l .ports) (l .out) (l .sent) (l .rules) (l .i) (l .inv)
+    (t .loop-test .taken) (x .context .result) (x .context .ensures) (n .before .rule-at .result) (n .before .rule-at .ensures) (n .applies .result) (n .applies .ensures)
+    (y .if1 .taken) (s .pre .room) (m .step .result) (m .step .last .1 .1 .1 .1 .0) (m .step .ensures) (o .last .0) (o .result) (o .ensures .0) (o .ensures .1)
+    (k .back .result) (k .back .ensures) _ (chart-same (l .d) (l .i + 1) (m .step .result) (c .if2 .left))
 
 add-i : tie.Need-add-i Inv-loop μ-loop
 add-i c = omega (arith, below (c .before .before .before .before .before .before .before .before))
 
-loop-less-2 : tie.Need-loop-less-2 Inv-loop μ-loop
-loop-less-2 c = omega (arith, below (c .before .before .before .before .before .before .before .before))
+loop-less-3 : tie.Need-loop-less-3 Inv-loop μ-loop
+loop-less-3 c = omega (arith, below (c .before .before .before .before .before .before .before .before))
 
-loop-again-2 : tie.Need-loop-again-2 Inv-loop μ-loop
-loop-again-2 c =
+loop-again-3 : tie.Need-loop-again-3 Inv-loop μ-loop
+loop-again-3 c =
     let n = c .before in
     let x = n .before .before in
     let t = x .before .before .before .before .before in
@@ -198,13 +255,23 @@ run-spec =
     rule-at-requires
     applies-requires
     emit-requires
+    mul-ls
+    array-set-from-ls
     step-requires
+    add-j
+    mul-ls-2
+    array-set-from-ls-2
     add-rules
     back-requires
+    add-d
+    mul-survey
+    element-set-from-survey
     loop-less
     loop-again
-    add-i
     loop-less-2
     loop-again-2
+    add-i
+    loop-less-3
+    loop-again-3
     same-length
     returns)

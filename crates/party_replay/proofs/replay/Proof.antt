@@ -1,4 +1,4 @@
--- `party_run::replay` meets its contract, by the record.
+-- `party_replay::replay` meets its contract, by the record.
 use borrow.Author.Needs.{needs}
 use denote.Ref.{now}
 use mathlib.Core.Path.{subst}
@@ -8,9 +8,9 @@ use Rattle.party.specs.Party.{Party}
 use Rattle.party.specs.Tie.{partyIn}
 use Rattle.party_life.specs.Life.{Fits}
 use Rattle.party_life.proofs.Fits.{fits-start, fits-taken}
-use Rattle.party_run.proofs.Redone.{replayed-start, replayed-taken, gives-same}
-use Rattle.party_run.proofs.replay.Statement.{statement}
-use Rattle.party_run.proofs.replay.Tie as tie
+use Rattle.party_replay.proofs.Redone.{replayed-start, replayed-taken, gives-same}
+use Rattle.party_replay.proofs.replay.Statement.{statement}
+use Rattle.party_replay.proofs.replay.Tie as tie
 
 abbrev first : tie.Start → Party
 first s = partyIn (s .args .v) (shaped (s .args .shape) (now (s .args .ps)) (now (s .args .cs))) (s .args .levels) (now (s .args .sets))

@@ -1,4 +1,4 @@
--- `party_run::take` meets its contract.
+-- `party_replay::take` meets its contract.
 use borrow.Author.Needs.{needs}
 use native.Mathlib.Omega.{arith}
 use denote.Ref.{now}
@@ -13,12 +13,12 @@ use Rattle.party.specs.Inner.{setCount}
 use Rattle.party.specs.Tie.{partyIn}
 use Rattle.party_laws.proofs.Laws.{Formed}
 use Rattle.party_step.proofs.Typed.{levels-full, levels-echoes}
 use Rattle.party_run.specs.Inner.{asOutcome}
 use Rattle.party_run.proofs.Parts.{sized-in}
-use Rattle.party_run.proofs.Calls.{valid-sender, taken-place, taken-held, taken-ready, taken-gives}
-use Rattle.party_run.proofs.Redone.{taking-held, gives-same, gives-rest}
-use Rattle.party_run.proofs.take.Statement.{statement}
-use Rattle.party_run.proofs.take.Tie as tie
+use Rattle.party_replay.proofs.Calls.{valid-sender, taken-place, taken-held, taken-ready, taken-gives}
+use Rattle.party_replay.proofs.Redone.{taking-held, gives-same, gives-rest}
+use Rattle.party_replay.proofs.take.Statement.{statement}
+use Rattle.party_replay.proofs.take.Tie as tie
 
 abbrev plan : tie.Start → Plan
 plan s = shaped (s .args .shape) (now (s .args .ps)) (now (s .args .cs))

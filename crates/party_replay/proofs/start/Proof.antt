@@ -1,5 +1,7 @@
--- `party_run::start` meets its contract.
+-- `party_replay::start` meets its contract.
 use borrow.Author.Needs.{needs}
+use mathlib.Core.Path.{_≡_, _∙_}
+use mathlib.Core.Logic.{⊎-elim}
 use denote.Ref.{now}
 use Rattle.plan.specs.Plan.{Plan}
 use Rattle.plan.specs.Tie.{shaped}
@@ -9,14 +11,14 @@ use Rattle.party.specs.Tie.{partyIn}
 use Rattle.party_laws.proofs.Laws.{Formed}
 use Rattle.party_step.proofs.Typed.{levels-full, levels-echoes, chart-surveys}
 use Rattle.party_step.proofs.Entries.{holds-enters}
-use Rattle.party_step.specs.Inner.{Enters}
+use Rattle.party_step.specs.Inner.{Enters, chartWith}
 use Rattle.level.specs.Inner.{noCodeLevel}
 use lib.ListN.{getD, length}
 use Rattle.party_run.specs.Inner.{asOutcome}
-use Rattle.party_run.proofs.Parts.{sized-in}
-use Rattle.party_run.proofs.Calls.{valid-plan, whole-enterable, start-ready, start-gives}
-use Rattle.party_run.proofs.start.Statement.{statement}
-use Rattle.party_run.proofs.start.Tie as tie
+use Rattle.party_run.proofs.Parts.{sized-in, chart-more, chart-same}
+use Rattle.party_replay.proofs.Calls.{valid-plan, whole-enterable, start-ready, start-gives}
+use Rattle.party_replay.proofs.start.Statement.{statement}
+use Rattle.party_replay.proofs.start.Tie as tie
 
 abbrev plan : tie.Start → Plan
 plan s = shaped (s .args .shape) (now (s .args .ps)) (now (s .args .cs))
@@ -56,8 +58,16 @@ enter-requires c κs =
 array-set-from-ls : tie.Need-array-set-from-ls
 array-set-from-ls c = search needs
 
-charted-requires : tie.Need-charted-requires
-charted-requires c κs = search needs
+element-set-from-survey : tie.Need-element-set-from-survey
+element-set-from-survey c = search needs
+
+-- the chart then
+charted : (c : tie.Joined1)
+    → c .if1 .d ≡ chartWith (c .before .before .before .before .before .before .before .before .before .before .args .chart) 0 (c .before .before .enter .result)
+charted c =
+    let chart = c .before .before .before .before .before .before .before .before .before .before .args .chart in
+    let e = c .before .before .enter .result in
+    ⊎-elim (λ w. w .3 ∙ chart-more chart 0 e (w .0 .taken)) (λ w. w .1 ∙ chart-same chart 0 e (w .0 .left)) (c .if1 .came)
 
 run-requires : tie.Need-run-requires
 run-requires c κs =
@@ -66,7 +76,7 @@ run-requires c κs =
     let s = e .before .before .before .before .before .before .before .before in
     let a = s .args in
     start-ready (a .v) (plan s) (a .levels) (now (a .sets)) (a .chart) (now (a .ports)) (formed s) (s .pre .0 .charts) (a .x) (s .pre .1) (s .pre .2) (e .enter .result)
-    (e .enter .last .1 .1 .1 .1 .0) (entered e) (chart-surveys (a .chart) _ (s .good .1 .1 .1 .1 .1 .1 .0)) (d .charted .result) (d .charted .ensures) (s .pre .0 .rows)
+    (e .enter .last .1 .1 .1 .1 .0) (entered e) (chart-surveys (a .chart) _ (s .good .1 .1 .1 .1 .1 .1 .0)) (d .if1 .d) (charted d) (s .pre .0 .rows)
     (length (now (a .out))) (s .pre .0 .room)
 
 same-length : tie.Need-same-length
@@ -92,7 +102,7 @@ start-spec =
     array-copy-out-enter
     enter-requires
     array-set-from-ls
-    charted-requires
+    element-set-from-survey
     run-requires
     same-length
     returns)

@@ -13,7 +13,7 @@ use Rattle.plan.specs.Plan.{Plan}
 use Rattle.plan.specs.Valid.{planValid}
 use Rattle.component.specs.declared.Span.{Span}
 use Rattle.component.specs.Component.{wholeOf}
-use Rattle.component.specs.Inner.{Lent, Holds}
+use Rattle.component.specs.Inner.{Lent, Enterable, Holds}
 use Rattle.component_laws.proofs.Laws.{whole-plan, whole-in}
 use Rattle.message.specs.declared.Message.{Message}
 use Rattle.message.specs.Message.{inTable}
@@ -33,10 +33,10 @@ use Rattle.party.specs.Tie.{partyIn, setsAt}
 use Rattle.party.proofs.Ties.{length-tied, level-in, put-in, held-in, hearing-in}
 use Rattle.party_laws.proofs.Laws.{Formed, valid→, entry-whole, formed-entered, formed-hearing}
 use Rattle.party_step.specs.declared.Entered.{Entered}
-use Rattle.party_step.specs.Inner.{Enterable, Enters, chartWith}
+use Rattle.party_step.specs.Inner.{Enters, chartWith}
 use Rattle.party_step.proofs.Entries.{holds-enterable}
 use Rattle.party_step.proofs.Charts.{charts-hearing, new-charted, entered-charts, entered-party}
 use Rattle.party_run.specs.Inner.{Ready, Outcome, Gives}
 
 -- a valid party's plan, and how many boards there are
 pub valid-plan : (p : Party) → T (partyValid p) → T (planValid (p .plan))
