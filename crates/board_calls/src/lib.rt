@@ -2,7 +2,7 @@
 ghost use mathlib.Core.Path.{_≡_};
 ghost use Rattle.base.specs.declared.Verdict.{Verdict};
 ghost use Rattle.base.specs.Found.{refused};
-ghost use Rattle.board_calls.specs.Calls.{noParty, calledOf};
+ghost use Rattle.board_calls.specs.Calls.{noParty};
 ghost use Rattle.board_calls.specs.Restore.{restoredOf};
 ghost use Rattle.party.specs.Tie.{asParty};
 ghost use Rattle.board_calls.specs.Tie.{asCalled};
@@ -42,20 +42,6 @@ pub fn no_party() -> party::Party
     party::Party::new(0, 0, 0, 0, plan)
 }
 
-// A start or take refused by a question.
-pub fn refuse(p: party::Party, used: usize, number: u8) -> Called
-    ensures { λ r. ⌜ asCalled r ≡ calledOf (asParty p) used (refused number 0) ⌝ }
-{
-    let v = base::Verdict::Refused { number, place: 0 };
-    Called {
-        verdict: v,
-        party: p,
-        used: used,
-        sent: 0,
-        rules: 0,
-    }
-}
-
 // A restore refused by a question.
 pub fn unrestored(number: u8, place: usize) -> Called
     ensures { λ r. ⌜ asCalled r ≡ restoredOf (refused number place) ⌝ }
@@ -71,6 +57,7 @@ pub fn unrestored(number: u8, place: usize) -> Called
     }
 }
 
+// An accepted restore.
 pub fn accept(p: party::Party, used: usize, sent: usize, rules: u32) -> Called
     ensures { λ r. ⌜ asCalled r ≡ record { verdict = Verdict.Accepted; party = asParty p; used = used; sent = sent; rules = rules } ⌝ }
 {

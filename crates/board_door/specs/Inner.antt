@@ -1,26 +1,25 @@
--- What the functions inside this crate promise the calls.
-use mathlib.Core.Path.{_≡_}
-use mathlib.Core.Bool.{true}
+-- What carrying a call out asks and gives.
 use mathlib.Core.List.{List}
-use Prim.Native.Nat.{ℕ, _+_, _≤_}
-use lib.ListN.{length}
-use Rattle.base.specs.Put.{putAt}
-use Rattle.base.specs.Found.{Found, refused}
-use Rattle.journal.specs.declared.Record.{Record}
-use Rattle.journal.specs.Journal.{recordBytes}
+use Prim.Native.Nat.{ℕ}
+use lib.Dec.{T}
+use Rattle.plan.specs.Plan.{Plan}
+use Rattle.component.specs.Inner.{Lent}
+use Rattle.party.specs.declared.Chart.{Chart}
+use Rattle.party.specs.declared.Vote.{Vote}
 use Rattle.party.specs.Party.{Party}
-use Rattle.party_life.specs.Life.{replayed}
-use Rattle.party_run.specs.Inner.{Ready, Outcome, Gives}
-use Rattle.board_calls.specs.Calls.{Entry, atDoor}
-use Rattle.board_door.specs.declared.Door.{Door}
+use Rattle.party.specs.Valid.{partyValid}
+use Rattle.party.specs.Tie.{partyIn}
+use Rattle.party.specs.Inner.{Charts}
+use Rattle.board_calls.specs.Calls.{Called}
+use Rattle.board_questions.specs.declared.Asked.{Asked}
+use Rattle.board_questions.specs.Inner.{Recordable}
+use Rattle.board_door.specs.declared.Carried.{Carried}
 
--- questions 19, 18 and 20. Number 0: they pass, and the chart, with the lent port numbers, is the party's; else the first that fails
-pub record AtDoor (p : Party) (ports : List ℕ) (room used out : ℕ) (d : Door) : Type 0 where
-  pub passes : d .number ≡ 0 → Ready p (d .chart) ports out × (used ≤ room)
-  pub fails : (d .number ≡ 0 → ⊥) → (go : Found Entry) → atDoor p room used out go ≡ refused (d .number) 0
+-- what was found can be carried out: the chart, with the lent port numbers, is the party's
+pub record Carriable (p : Party) (chart : Chart) (ports : List ℕ) (room used out : ℕ) (a : Asked) : Type 0 where
+  pub fits : Recordable p room used out a
+  pub charted : T (partyValid p) → Lent (p .plan) × Charts p chart ports
 
--- the record stands behind the used bytes, which now end at `end`, and its call is made
-pub record Carries (p : Party) (r : Record) (used : ℕ) (j out : List ℕ) (end : ℕ) (g : Outcome) (jThen outThen : List ℕ) : Type 0 where
-  pub usedThen : end ≡ used + length (recordBytes r)
-  pub journal : jThen ≡ putAt j used (recordBytes r)
-  pub ran : Gives (replayed p r) true out g outThen
+-- what the call gives, with the settings and the plan that were lent, and the sets of senders as they are then
+abbrev pub carriedBy : Vote → Plan → List ℕ → Carried → Called
+carriedBy v plan sets g = record { verdict = g .verdict; party = partyIn v plan (g .levels) sets; used = g .used; sent = g .sent; rules = g .rules }

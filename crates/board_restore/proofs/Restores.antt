@@ -11,14 +11,16 @@ use lib.Dec.{T, eqb}
 use lib.ListN.{length}
 use borrow.Author.Tests.{le-ltb, eq-eqb, ne-eqb}
 use Rattle.base.specs.Put.{putAt}
-use Rattle.base.specs.Limits.{maxRules}
+use Rattle.base.specs.Limits.{maxRows, maxRules, outgoingSize}
 use Rattle.base.specs.declared.Verdict.{Verdict}
 use Rattle.base.specs.Found.{Found, found, refused}
 use Rattle.base.proofs.Puts.{put-none}
-use Rattle.message.specs.declared.Message.{Message}
 use Rattle.plan.specs.Plan.{Plan}
+use Rattle.plan.specs.Reading.{settledPlan, PlanRead, answered}
+use Rattle.plan.specs.declared.Plan as CodePlan
 use Rattle.plan.specs.declared.Shape.{Shape}
 use Rattle.plan.specs.Tie.{shaped, asPlan}
+use Rattle.level.specs.declared.Level as CodeLevel
 use Rattle.component_laws.proofs.Laws.{rows-lent}
 use Rattle.component.specs.Inner.{Lent}
 use Rattle.journal.specs.declared.Record.{Record}
@@ -31,7 +33,7 @@ use Rattle.party.specs.declared.Party as Code
 use Rattle.party.specs.Party.{Party, sending}
 use Rattle.party.specs.Run.{Ran, resting, bytesOf}
 use Rattle.party.specs.Valid.{partyValid}
-use Rattle.party.specs.Tie.{voteOf, partyIn, asParty}
+use Rattle.party.specs.Tie.{partyIn, asParty}
 use Rattle.party.specs.Inner.{Charts}
 use Rattle.party_life.specs.Life.{replayed, following, Fits}
 use Rattle.party_run.specs.declared.Ran as CodeRan
@@ -41,8 +43,9 @@ use Rattle.board_calls.specs.Restore.{Replay, replayFrom, restoredOf, restoreOu
 use Rattle.board_calls.specs.Results.{RestoreGives}
 use Rattle.board_laws.specs.Inner.{New, One, Many, none}
 use Rattle.board_laws.proofs.Replays.{new-entered, new-sized, one-record, one-read, many-sized, many-board, many-le, many-first, many-last, many-then, many-rules}
-use Rattle.board_laws.proofs.Parts.{parts}
-use Rattle.board_restore.specs.Inner.{OfVote, Ends, Replayable, restoredBy}
+use Rattle.board_laws.proofs.Restored.{settled-new, answer-found, answer-refused, restore-refused, restore-found}
+use Rattle.board_restore.specs.declared.Scan.{Scan}
+use Rattle.board_restore.specs.Inner.{OfVote, Ends, Scanned, ScansFor, Replayable, restoredBy, newOn, questionsOf, Answers}
 
 -- ---- what a restore gives
 
@@ -201,29 +204,66 @@ module _ {p : Party} {j : List ℕ} {end : ℕ} {out : List ℕ} (w : Replayable
       restored-gives (s .ends .replay) (λ z. record { verdict = Verdict.Accepted; party = party z; used = end; sent = bytes z; rules = rules z })
       (s .outgoing ∙ ap (putAt out 0) made)
 
+-- ---- the questions before the records are replayed
+
+module _ (v : Vote) (bytes j : List ℕ) {out : ℕ} (h : outgoingSize ≤ out) {r : PlanRead} (e : r ≡ answered (settledPlan (v .n) (v .t) (v .own) bytes)) where
+  -- what the settings and the plan find
+  pub asked-plan : {number place : ℕ} → r .verdict ≡ Verdict.Refused number place → (plan : Plan) (end : ℕ) → Answers v bytes j out plan end (r .verdict)
+  asked-plan w plan end =
+      subst (Answers v bytes j out plan end) (sym w) (restore-refused (v .n) (v .t) (v .own) (v .agreement) bytes j out h (answer-refused e w))
+
+  module _ (w : r .verdict ≡ Verdict.Accepted) where
+    settled : settledPlan (v .n) (v .t) (v .own) bytes ≡ found (r .plan)
+    settled = answer-found e w
+
+    of-new : OfVote v (r .plan .count) (newOn v (r .plan))
+    of-new = record { n = refl; agreement = refl; positions = refl }
+
+    questions : questionsOf v bytes j out ≡ replayFrom (length j) j 0 (resting (newOn v (r .plan)))
+    questions = restore-found (v .n) (v .t) (v .own) (v .agreement) bytes j out h settled
+
+    module _ {s : Scan} (f : ScansFor v (r .plan .count) j s) where
+      scanned : Scanned (newOn v (r .plan)) j s
+      scanned = f (newOn v (r .plan)) (settled-new (v .n) (v .t) (v .own) bytes (v .agreement) settled) of-new
+
+      -- what the records find
+      pub asked-record : (s .number ≡ 0 → ⊥) → questionsOf v bytes j out ≡ refused (s .number) (s .place)
+      asked-record d = questions ∙ scanned .fails d
+
+      pub asked-all : length (r .plan .parent) ≡ maxRows → length (r .plan .child) ≡ maxRows → s .number ≡ 0
+          → Answers v bytes j out (r .plan) (s .place) (r .verdict)
+      asked-all ps cs z =
+          let q = scanned .passes z in
+          subst (Answers v bytes j out (r .plan) (s .place)) (sym w) (
+            record {
+              new = settled-new (v .n) (v .t) (v .own) bytes (v .agreement) settled;
+              parents = ps;
+              children = cs;
+              room = h;
+              ran = q .0;
+              ends = q .1;
+            },
+            questions,
+          )
+
 -- ---- a new party's record taken apart
 
-module _ (c : Code.Party) {v : Vote} {s : Shape} (e : v ≡ voteOf c) (i : shaped s (c .plan .parent) (c .plan .child) ≡ asPlan (c .plan)) where
-  abbrev plan : Plan
-  plan = shaped s (c .plan .parent) (c .plan .child)
+module _ (v : Vote) {plan : CodePlan.Plan} {s : Shape} (i : shaped s (plan .parent) (plan .child) ≡ asPlan plan) (c : Code.Party) (e : asParty c ≡ newOn v (asPlan plan)) where
+  abbrev parts : List CodeLevel.Level → List ℕ → Party
+  parts levels sets = partyIn v (shaped s (plan .parent) (plan .child)) levels sets
 
-  together : partyIn v plan (c .levels) (c .sets) ≡ asParty c
-  together = parts c e i (c .levels) (c .sets)
+  together : parts (c .levels) (c .sets) ≡ newOn v (asPlan plan)
+  together =
+      λ k. record { n = v .n; t = v .t; own = v .own; agreement = v .agreement; plan = i k; levels = ap (λ (p : Party). p .levels) e k }
 
-  pub of-vote : OfVote v (s .count) (asParty c)
-  of-vote = record {
-    n = ap (λ (w : Vote). w .n) (sym e);
-    agreement = ap (λ (w : Vote). w .agreement) (sym e);
-    positions = ap (λ (z : Plan). z .count) (sym i);
-  }
-
-  pub restore-asks : {j : List ℕ} {end out : ℕ} → Replayable (asParty c) j end out → Replayable (partyIn v plan (c .levels) (c .sets)) j end out
+  pub restore-asks : {j : List ℕ} {end out : ℕ} → Replayable (newOn v (asPlan plan)) j end out → Replayable (parts (c .levels) (c .sets)) j end out
   restore-asks {j} {end} {out} h = subst (λ (q : Party). Replayable q j end out) (sym together) h
 
-  pub restore-gives : (j : List ℕ) {out outThen : List ℕ} {end : ℕ} (sets : List ℕ) (g : CodeRan.Ran) {f : Called}
-      → RestoreGives (replayFrom (length j) j 0 (resting (partyIn v plan (c .levels) (c .sets)))) out (restoredBy v plan sets end g) outThen
-      → f ≡ restoredBy (voteOf c) (asPlan (c .plan)) sets end g
-      → RestoreGives (replayFrom (length j) j 0 (resting (asParty c))) out f outThen
-  restore-gives j {end = end} sets g h k =
-      regives (ap (λ (q : Party). replayFrom (length j) j 0 (resting q)) (sym together))
-      (k ∙ (λ z. record { verdict = Verdict.Accepted; party = sym (parts c e i (g .levels) sets) z; used = end; sent = g .sent; rules = g .rules })) h
+  pub restore-gives : {q : Found Replay} (j : List ℕ) {out outThen : List ℕ} {end : ℕ} (sets : List ℕ) (g : CodeRan.Ran) {f : Called}
+      → q ≡ replayFrom (length j) j 0 (resting (newOn v (asPlan plan)))
+      → RestoreGives (replayFrom (length j) j 0 (resting (parts (c .levels) (c .sets)))) out (restoredBy v (shaped s (plan .parent) (plan .child)) sets end g) outThen
+      → f ≡ restoredBy v (asPlan plan) sets end g
+      → RestoreGives q out f outThen
+  restore-gives j {end = end} sets g x h k =
+      regives (x ∙ ap (λ (p : Party). replayFrom (length j) j 0 (resting p)) (sym together))
+      (k ∙ (λ z. restoredBy v (sym i z) sets end g)) h

@@ -5,15 +5,15 @@ use Prim.Native.Nat.{ℕ, _≤_}
 use lib.ListN.{length}
 use Rattle.base.specs.Limits.{maxRows, outgoingSize}
 use Rattle.base.specs.declared.Verdict.{Verdict}
-use Rattle.base.specs.Found.{found, refused}
+use Rattle.base.specs.Found.{Found, found, refused}
 use Rattle.plan.specs.Plan.{Plan}
 use Rattle.party.specs.declared.Vote.{Vote}
-use Rattle.party.specs.Party.{Party}
+use Rattle.party.specs.Party.{Party, newParty}
 use Rattle.party.specs.Run.{Ran, resting}
 use Rattle.party.specs.Tie.{partyIn}
 use Rattle.party_run.specs.declared.Ran as CodeRan
 use Rattle.board_calls.specs.Calls.{Called}
-use Rattle.board_calls.specs.Restore.{replayFrom}
+use Rattle.board_calls.specs.Restore.{Replay, replayFrom, restoreQuestions}
 use Rattle.board_laws.specs.Inner.{New, Many}
 use Rattle.board_restore.specs.declared.Scan.{Scan}
 
@@ -52,3 +52,15 @@ pub record Replayable (p : Party) (j : List ℕ) (end out : ℕ) : Type 0 where
 -- what it gives, in the definitions' words
 abbrev pub restoredBy : Vote → Plan → List ℕ → ℕ → CodeRan.Ran → Called
 restoredBy v plan sets end g = record { verdict = Verdict.Accepted; party = partyIn v plan (g .levels) sets; used = end; sent = g .sent; rules = g .rules }
+
+-- a new party of the vote on a plan that was read
+abbrev pub newOn : Vote → Plan → Party
+newOn v plan = newParty (v .n) (v .t) (v .own) (v .agreement) plan
+
+abbrev pub questionsOf : Vote → List ℕ → List ℕ → ℕ → Found Replay
+questionsOf v bytes j out = restoreQuestions (v .n) (v .t) (v .own) (v .agreement) bytes j out
+
+-- what the questions of a restore give: the records of j up to `end` replay on the plan, or a refusal
+abbrev pub Answers : Vote → List ℕ → List ℕ → ℕ → Plan → ℕ → Verdict → Type 0
+Answers v bytes j out plan end Verdict.Accepted = Replayable (newOn v plan) j end out × (questionsOf v bytes j out ≡ replayFrom (length j) j 0 (resting (newOn v plan)))
+Answers v bytes j out plan end (Verdict.Refused number place) = questionsOf v bytes j out ≡ refused number place

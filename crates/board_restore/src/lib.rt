@@ -3,18 +3,16 @@ use board_calls::Called;
 use board_calls::accept;
 use board_calls::unrestored;
 ghost use mathlib.Core.Path.{_≡_};
-ghost use Prim.Native.Nat.{_≤_};
 ghost use lib.ListN.{length};
-ghost use Rattle.base.specs.Limits.{maxRows, outgoingSize};
-ghost use Rattle.plan.specs.Tie.{shaped};
+ghost use Rattle.plan.specs.Tie.{shaped, asPlan};
 ghost use Rattle.party.specs.Run.{resting};
-ghost use Rattle.party.specs.Tie.{partyIn, asParty};
+ghost use Rattle.party.specs.Tie.{partyIn};
 ghost use Rattle.party_life.specs.Life.{faultOf};
 ghost use Rattle.board_calls.specs.Restore.{replayFrom, restoreQuestions};
 ghost use Rattle.board_calls.specs.Results.{RestoreGives};
 ghost use Rattle.board_calls.specs.Tie.{asCalled};
-ghost use Rattle.board_laws.specs.Inner.{New, startedBy};
-ghost use Rattle.board_restore.specs.Inner.{boardOf, ScansFor, Replayable, restoredBy};
+ghost use Rattle.board_laws.specs.Inner.{startedBy};
+ghost use Rattle.board_restore.specs.Inner.{boardOf, ScansFor, Answers, Replayable, restoredBy};
 
 // What reading the records finds: number 0 and the place past the last whole record, or a refusal's number and place.
 struct Scan {
@@ -110,12 +108,12 @@ fn scan_journal(v: party::Vote, count: u32, journal: &[u8]) -> Scan
     }
 }
 
-// The records up to the place `end`, replayed one after the other, with the messages of the last.
-fn replay_all(
+// The records up to the place `end`, replayed one after the other, with the messages of the last. The two columns are lent from one plan, for one lifetime.
+fn replay_all<'a>(
     v: party::Vote,
     shape: plan::Shape,
-    ps: &[u16; base::MAX_ROWS],
-    cs: &[u16; base::MAX_ROWS],
+    ps: &'a [u16; base::MAX_ROWS],
+    cs: &'a [u16; base::MAX_ROWS],
     sets: &mut party::Sets,
     levels: party::Levels,
     journal: &[u8],
@@ -140,7 +138,7 @@ fn replay_all(
                 sent: sent,
             };
         };
-        let g = party_run::replay(
+        let g = party_replay::replay(
             v,
             shape,
             ps,
@@ -167,38 +165,66 @@ fn replay_all(
     }
 }
 
-// The party of the journal's whole records, from p on, with the messages of the last.
-fn restore_on(mut p: party::Party, journal: &[u8], out: &mut [u8]) -> Called
-    requires { ⌜ New (asParty p) × (outgoingSize ≤ length (now out)) ⌝ }
-    ensures { λ r. ⌜ RestoreGives (replayFrom (length (now (journal .entry))) (now (journal .entry)) 0 (resting (asParty p))) (now (out .entry)) (asCalled r) (now (out .exit)) ⌝ }
+// What the questions of a restore give: accepted, with the place past the last whole record and the plan read, or refused.
+struct Asked {
+    verdict: base::Verdict,
+    end: usize,
+    plan: plan::Plan,
+}
+
+// "Start, take, restore: Has the outgoing buffer 2,640 bytes (15 × 22 × 8)? 18." Then 1 to 11 about the settings and the plan, then the records.
+fn ask(v: party::Vote, bytes: &[u8], journal: &[u8], room: usize) -> Asked
+    ensures { λ a. ⌜ Answers v (now (bytes .entry)) (now (journal .entry)) room (asPlan (a .plan)) (a .end) (a .verdict) ⌝ }
 {
-    let v = p.vote();
-    let plan = p.plan;
-    let shape = plan.shape();
-    let s = scan_journal(v, shape.count, journal);
-    if s.number != 0 {
-        return unrestored(s.number, s.place);
+    if room < base::OUTGOING {
+        let short = base::Verdict::Refused {
+            number: 18,
+            place: 0,
+        };
+        let none = plan::no_plan();
+        return Asked {
+            verdict: short,
+            end: 0,
+            plan: none,
+        };
     }
-    let ps = plan.parent;
-    let cs = plan.child;
-    let levels = p.levels;
-    let g = replay_all(
-        v,
-        shape,
-        &ps,
-        &cs,
-        &mut p.sets,
-        levels,
-        journal,
-        s.place,
-        out,
-    );
-    let ls = g.levels;
-    p.levels = ls;
-    accept(p, s.place, g.sent, g.rules)
+    let r = plan_reader::settle(v.n, v.t, v.own, bytes);
+    let verdict = r.verdict;
+    let plan = r.plan;
+    match verdict {
+        base::Verdict::Accepted => {
+            let s = scan_journal(v, plan.count, journal);
+            if s.number != 0 {
+                let failed = base::Verdict::Refused {
+                    number: s.number,
+                    place: s.place,
+                };
+                return Asked {
+                    verdict: failed,
+                    end: 0,
+                    plan: plan,
+                };
+            }
+            Asked {
+                verdict: verdict,
+                end: s.place,
+                plan: plan,
+            }
+        }
+        base::Verdict::Refused {
+            number: _,
+            place: _,
+        } => Asked {
+            verdict: verdict,
+            end: 0,
+            plan: plan,
+        },
+    }
 }
 
 // "Restore gives the party of the whole records, in order, their length in bytes, and the messages of the last whole record again."
+// A refusal builds a record of no party, and every exit that does so takes room in the frame: all questions are asked first, and one exit refuses.
+// For the same reason the restored party's parts are put together at the end.
 pub fn restore(
     n: u32,
     t: u32,
@@ -210,17 +236,42 @@ pub fn restore(
 ) -> Called
     ensures { λ r. ⌜ RestoreGives (restoreQuestions n t own agreement (now (bytes .entry)) (now (journal .entry)) (length (now (out .entry)))) (now (out .entry)) (asCalled r) (now (out .exit)) ⌝ }
 {
-    if out.len() < base::OUTGOING {
-        return unrestored(18, 0);
+    let v = party::Vote {
+        n: n,
+        t: t,
+        own: own,
+        agreement: agreement,
+    };
+    let a = ask(v, bytes, journal, out.len());
+    let verdict = a.verdict;
+    if let base::Verdict::Refused { number, place } = verdict {
+        return unrestored(number, place);
     }
-    let r = plan_reader::settle(n, t, own, bytes);
-    let v = r.verdict;
-    let plan = r.plan;
-    match v {
-        base::Verdict::Accepted => {
-            let p = party::Party::new(n, t, own, agreement, plan);
-            restore_on(p, journal, out)
-        }
-        base::Verdict::Refused { number, place } => unrestored(number, place),
-    }
+    let plan = a.plan;
+    let shape = plan.shape();
+    let new = party::Party::new(n, t, own, agreement, plan);
+    let levels = new.levels;
+    let mut sets = new.sets;
+    let g = replay_all(
+        v,
+        shape,
+        &plan.parent,
+        &plan.child,
+        &mut sets,
+        levels,
+        journal,
+        a.end,
+        out,
+    );
+    let ls = g.levels;
+    let p = party::Party {
+        n: n,
+        t: t,
+        own: own,
+        agreement: agreement,
+        plan: plan,
+        levels: ls,
+        sets: sets,
+    };
+    accept(p, a.end, g.sent, g.rules)
 }

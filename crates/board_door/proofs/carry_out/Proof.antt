@@ -1,13 +1,44 @@
--- `board_door::carry_out` meets its contract: the record is written and its call made.
+-- `board_door::carry_out` meets its contract, by what was found.
+use denote.Ref.{now}
+use Rattle.plan.specs.Plan.{Plan}
+use Rattle.plan.specs.Tie.{shaped}
+use Rattle.party.specs.Party.{Party}
+use Rattle.party.specs.Tie.{partyIn}
+use Rattle.board_door.proofs.Doors.{refusal-carried, again-carried, carried-asks, record-carried}
 use borrow.Author.Needs.{needs}
 use Rattle.board_door.proofs.carry_out.Statement.{statement}
 use Rattle.board_door.proofs.carry_out.Tie as tie
 
+-- the plan and the party of the lent parts
+abbrev plan : tie.Start → Plan
+plan s = shaped (s .args .shape) (now (s .args .ps)) (now (s .args .cs))
+
+abbrev party : tie.Start → Party
+party s = partyIn (s .args .v) (plan s) (s .args .levels) (now (s .args .sets))
+
+enum-known-a : tie.Need-enum-known-a
+enum-known-a c = search needs
+
+enum-told : tie.Need-enum-told
+enum-told c = search needs
+
+enum-known-a-2 : tie.Need-enum-known-a-2
+enum-known-a-2 c = search needs
+
 append-requires : tie.Need-append-requires
-append-requires c κs = c .before .before .before .pre .2
+append-requires c κs = carried-asks (c .before .before .a2 .given .1) (c .before .before .before .before .before .before .pre) .2
 
 replay-requires : tie.Need-replay-requires
-replay-requires c κs = let s = c .before .before .before .before .before .before .before .before .before .before .before in (s .pre .0, s .pre .1)
+replay-requires c κs =
+    let k = c .before .before .before .before .before .before .before .before .before .before in
+    let f = carried-asks (k .a2 .given .1) (k .before .before .before .before .pre) in
+    (f .0, f .1)
+
+returns : tie.Need-returns
+returns c = refusal-carried (c .before .a .given .1)
+
+returns-2 : tie.Need-returns-2
+returns-2 c = again-carried (c .enum-told .given .1)
 
 same-length : tie.Need-same-length
 same-length c = search needs
@@ -15,9 +46,24 @@ same-length c = search needs
 same-length-2 : tie.Need-same-length-2
 same-length-2 c = search needs
 
-returns : tie.Need-returns
-returns c = let a = c .before .before .before .before .before .before .before .before .before .before .append .ensures in record { usedThen = a .0; journal = a .1; ran = c .before .before .replay .ensures }
+returns-3 : tie.Need-returns-3
+returns-3 c =
+    let r = c .before .before .before in
+    let a = r .before .before .before .before .before .before .before .before in
+    let s = a .before .before .before .before .before .before .before in
+    record-carried {p = party s} (s .args .v) (plan s) _ _ (a .before .before .before .a2 .given .1) (a .append .ensures .0) (a .append .ensures .1) (r .replay .ensures)
 
 pub carry-out-spec : {M : Type 1} → statement M
 carry-out-spec =
-    tie.close (tie.spec append-requires replay-requires same-length same-length-2 returns)
+    tie.close
+    (tie.spec
+    enum-known-a
+    enum-told
+    enum-known-a-2
+    append-requires
+    replay-requires
+    returns
+    returns-2
+    same-length
+    same-length-2
+    returns-3)

@@ -1,21 +1,20 @@
--- `board_door::start` meets its contract, question by question.
+-- `board_door::start` meets its contract: what its questions find is carried out.
 use mathlib.Core.Path.{_≡_, sym, ap, _∙_}
-use Prim.Native.Nat.{_<_}
-use native.Mathlib.Omega.{arith}
 use lib.ListN.{length}
-use Rattle.base.specs.Limits.{maxRows, levelCount}
 use mir.Syntax.{w64}
 use mir.ValLaws.{toZ-ofZ}
 use denote.Ref.{now}
-use Rattle.plan.specs.Tie.{asPlan}
-use Rattle.party.specs.declared.Vote.{Vote}
-use Rattle.party.specs.Tie.{asParty}
-use Rattle.party.proofs.Ties.{entry}
+use Rattle.base.specs.Limits.{maxRows}
+use Rattle.base.specs.Found.{Found}
+use Rattle.plan.specs.Plan.{Plan}
+use Rattle.plan.specs.Tie.{shaped, asPlan}
+use Rattle.party.specs.Party.{Party}
+use Rattle.party.specs.Tie.{partyIn}
 use Rattle.board_calls.specs.Answers.{positionOf}
+use Rattle.board_calls.specs.Calls.{Entry, startQuestions}
 use Rattle.board_laws.proofs.Parts.{length-mapped}
-use Rattle.board_laws.proofs.Questions.{start-door, start-again, start-off}
-use Rattle.board_door.specs.Inner.{AtDoor}
-use Rattle.board_door.proofs.Doors.{door-in, room-for, record-full, record-fits, refused-gives, carry-asks, carry-gives, Starts, start-fits, start-asks}
+use Rattle.board_questions.specs.Inner.{Asks}
+use Rattle.board_door.proofs.Doors.{carriable, call-gives}
 use borrow.Author.Needs.{needs}
 use Rattle.board_door.proofs.start.Statement.{statement}
 use Rattle.board_door.proofs.start.Tie as tie
@@ -26,93 +25,51 @@ vote-requires c κs = search needs
 shape-requires : tie.Need-shape-requires
 shape-requires c κs = search needs
 
--- the lengths of a record's arrays
-rows : (s : tie.Start) → (length (s .args .t1 .plan .parent) ≡ maxRows) × (length (s .args .t1 .plan .child) ≡ maxRows)
-rows s = (search (needs, length-mapped), search (needs, length-mapped))
-
-some : (s : tie.Start) → 0 < length (s .args .t1 .levels)
-some s = let l : length (s .args .t1 .levels) ≡ levelCount = search (needs, length-mapped) in omega arith
-
-at-door-requires : tie.Need-at-door-requires
-at-door-requires c κs = rows (c .before .before .before .before .before .before .before .before .before .before .before .before .before)
-
--- past the door
-module _ (c : tie.After-at-door) where
-  abbrev s : tie.Start
-  s = c .before .before .before .before .before .before .before .before .before .before .before .before .before .before
-
-  door : AtDoor (asParty (s .args .t1)) (c .at-door .last .1 .1 .1 .1 .1 .1 .0) (length (now (s .args .journal))) (s .args .used) (length (now (s .args .out))) (c .at-door .result)
-  door = door-in (s .args .t1) (c .before .before .before .before .before .before .before .before .before .before .before .vote .ensures) (c .before .before .before .before .before .before .before .before .before .shape .ensures) (c .at-door .ensures)
-
-refuse-requires : tie.Need-refuse-requires
-refuse-requires c κs = search needs
-
-returns : tie.Need-returns
-returns c =
-    let b = c .before .before .before in
-    let a = s b .args in
-    refused-gives (start-door (asParty (a .t1)) (a .input) (length (now (a .journal))) (a .used) (length (now (a .out))) _ (door b .fails (c .before .if1 .taken))) (c .refuse .ensures)
-
-array-copy-out-l : tie.Need-array-copy-out-l
-array-copy-out-l c = search needs
-
-refuse-requires-2 : tie.Need-refuse-requires-2
-refuse-requires-2 c κs = search needs
-
-returns-2 : tie.Need-returns-2
-returns-2 c =
-    let b = c .before .before .before .before .before in
-    let a = s b .args in
-    let d = door b .passes (c .before .before .before .if1 .left) in
-    refused-gives (start-again (asParty (a .t1)) (a .input) (length (now (a .journal))) (a .used) (length (now (a .out))) (d .0 .valid) (d .0 .room) (d .1) (entry (a .t1) (some (s b)) (c .before .if2 .taken))) (c .refuse2 .ensures)
+inspect-requires : tie.Need-inspect-requires
+inspect-requires c κs = search needs
 
 position-of-requires : tie.Need-position-of-requires
 position-of-requires c κs = search needs
 
--- the input's position
-at-position : (c : tie.After-position-of) → c .position-of .result ≡ positionOf (asPlan (c .before .before .before .before .before .before .before .before .before .before .before .before .before .before .before .before .before .before .before .args .t1 .plan)) (c .before .before .before .before .before .before .before .before .before .before .before .before .before .before .before .before .before .before .before .args .input)
-at-position c =
-    let b = c .before .before .before .before .before .before .before .before .before .before .before .before .before .before .before .before .before .before .before in
-    c .position-of .ensures ∙ ap (positionOf (asPlan (b .args .t1 .plan))) (toZ-ofZ w64 (b .args .input) (b .fits .input))
+ask-start-requires : tie.Need-ask-start-requires
+ask-start-requires c κs = search needs
 
-refuse-requires-3 : tie.Need-refuse-requires-3
-refuse-requires-3 c κs = search needs
+-- the lengths of a record's arrays
+rows : (s : tie.Start) → (length (s .args .t1 .plan .parent) ≡ maxRows) × (length (s .args .t1 .plan .child) ≡ maxRows)
+rows s = (search (needs, length-mapped), search (needs, length-mapped))
 
-returns-3 : tie.Need-returns-3
-returns-3 c =
-    let b = c .before .before .before .before .before .before .before in
-    let a = s b .args in
-    let d = door b .passes (c .before .before .before .before .before .if1 .left) in
-    refused-gives (start-off (asParty (a .t1)) (a .input) (length (now (a .journal))) (a .used) (length (now (a .out))) (d .0 .valid) (d .0 .room) (d .1) (entry (a .t1) (some (s b)) (c .before .before .before .if2 .left)) _ (at-position (c .before .before)) (c .before .if3 .taken)) (c .refuse3 .ensures)
+-- its questions were asked
+module _ (c : tie.After-ask-start) where
+  abbrev i : tie.After-inspect
+  i = c .before .before
 
--- the party may start there
-starts : (c : tie.Else3) → Starts (asParty (c .before .before .before .before .before .before .before .before .before .before .before .before .before .before .before .before .before .before .before .before .args .t1)) (c .before .before .before .before .before .before .before .before .before .before .before .before .before .before .before .before .before .before .before .before .args .input) (c .before .position-of .result)
-starts c = record {
-  new = entry (c .before .before .before .before .before .before .before .before .before .before .before .before .before .before .before .before .before .before .before .before .args .t1) (some (c .before .before .before .before .before .before .before .before .before .before .before .before .before .before .before .before .before .before .before .before)) (c .before .before .if2 .left);
-  at = at-position (c .before);
-  on = c .if3 .left;
-}
+  abbrev h : tie.After-shape
+  h = i .before .before .before .before .before .before .before .before .before
 
-fits-requires : tie.Need-fits-requires
-fits-requires c κs = door (c .before .before .before .before .before .before) .passes (c .before .before .before .before .if1 .left) .1
+  abbrev v : tie.After-vote
+  v = h .before .before
 
-refuse-requires-4 : tie.Need-refuse-requires-4
-refuse-requires-4 c κs = search needs
+  abbrev s : tie.Start
+  s = v .before .before .before
 
-returns-4 : tie.Need-returns-4
-returns-4 c =
-    let d = door (c .before .before .before .before .before .before .before .before .before) .passes (c .before .before .before .before .before .before .before .if1 .left) in
-    refused-gives (record-full _ _ _ _ (start-asks (starts (c .before .before .before)) (ap (λ (v : Vote). v .agreement) (c .before .before .before .before .before .before .before .before .before .before .before .before .before .before .before .before .before .before .before .before .vote .ensures)) (d .0 .valid) (d .0 .room) (d .1)) (c .before .before .fits2 .ensures) (c .before .if4 .taken)) (c .refuse4 .ensures)
+  abbrev asks : Party → Found Entry
+  asks p = startQuestions p (s .args .input) (length (now (s .args .journal))) (s .args .used) (length (now (s .args .out)))
+
+  abbrev p : Party
+  p = partyIn (v .vote .result) (shaped (h .shape .result) (s .args .t1 .plan .parent) (s .args .t1 .plan .child)) (s .args .t1 .levels) (s .args .t1 .sets)
+
+  asked : Asks p (length (now (s .args .journal))) (s .args .used) (length (now (s .args .out))) (asks p) (c .ask-start .result)
+  asked =
+      c .ask-start .ensures .asks _ _ (s .args .input)
+      (c .before .position-of .ensures
+      ∙ ap (positionOf (asPlan (s .args .t1 .plan))) (toZ-ofZ w64 (s .args .input) (s .fits .input))
+      ∙ ap (λ (u : Plan). positionOf u (s .args .input)) (sym (h .shape .ensures)))
+      (i .inspect .ensures .0)
 
 carry-out-requires : tie.Need-carry-out-requires
 carry-out-requires c κs =
-    let b = c .before .before .before .before .before .before .before .before .before .before .before .before .before .before in
-    let d = door b .passes (c .before .before .before .before .before .before .before .before .before .before .before .before .if1 .left) in
-    let v = c .before .before .before .before .before .before .before .before .before .before .before .before .before .before .before .before .before .before .before .before .before .before .before .before .before .vote .ensures in
-    carry-asks (s b .args .t1) v (c .before .before .before .before .before .before .before .before .before .before .before .before .before .before .before .before .before .before .before .before .before .before .before .shape .ensures) _ _ (d .0) (start-fits (starts (c .before .before .before .before .before .before .before .before)) (ap (λ (v : Vote). v .agreement) v)) (room-for (c .before .before .before .before .before .before .before .fits2 .ensures) (c .before .before .before .before .before .before .if4 .left))
-
-accept-requires : tie.Need-accept-requires
-accept-requires c κs = search needs
+    let b = c .before .before .before .before in
+    carriable (s b .args .t1) (v b .vote .ensures) (h b .shape .ensures) (asked b) (i b .inspect .ensures .0) (i b .inspect .ensures .1 .0) (rows (s b) .0) (rows (s b) .1)
 
 same-length : tie.Need-same-length
 same-length c = search needs
@@ -120,14 +77,11 @@ same-length c = search needs
 same-length-2 : tie.Need-same-length-2
 same-length-2 c = search needs
 
-returns-5 : tie.Need-returns-5
-returns-5 c =
-    let b = c .before .before .before .before .before .before .before .before .before .before .before .before .before .before .before .before .before .before .before .before .before .before in
-    let d = door b .passes (c .before .before .before .before .before .before .before .before .before .before .before .before .before .before .before .before .before .before .before .before .if1 .left) in
-    let v = c .before .before .before .before .before .before .before .before .before .before .before .before .before .before .before .before .before .before .before .before .before .before .before .before .before .before .before .before .before .before .before .before .before .vote .ensures in
-    carry-gives (s b .args .t1) v (c .before .before .before .before .before .before .before .before .before .before .before .before .before .before .before .before .before .before .before .before .before .before .before .before .before .before .before .before .before .before .before .shape .ensures) _ _
-    (record-fits _ _ _ _ (start-asks (starts (c .before .before .before .before .before .before .before .before .before .before .before .before .before .before .before .before)) (ap (λ (v : Vote). v .agreement) v) (d .0 .valid) (d .0 .room) (d .1)) (c .before .before .before .before .before .before .before .before .before .before .before .before .before .before .before .fits2 .ensures) (c .before .before .before .before .before .before .before .before .before .before .before .before .before .before .if4 .left))
-    (c .before .before .before .before .before .before .before .carry-out .ensures) (c .accept .ensures)
+returns : tie.Need-returns
+returns c =
+    let k = c .before .before .before .before .before in
+    let b = k .before .before .before .before .before in
+    call-gives (s b .args .t1) (v b .vote .ensures) (h b .shape .ensures) (asks b) _ _ (asked b) (k .carry-out .ensures)
 
 pub start-spec : {M : Type 1} → statement M
 start-spec =
@@ -135,20 +89,10 @@ start-spec =
     (tie.spec
     vote-requires
     shape-requires
-    at-door-requires
-    refuse-requires
-    returns
-    array-copy-out-l
-    refuse-requires-2
-    returns-2
+    inspect-requires
     position-of-requires
-    refuse-requires-3
-    returns-3
-    fits-requires
-    refuse-requires-4
-    returns-4
+    ask-start-requires
     carry-out-requires
-    accept-requires
     same-length
     same-length-2
-    returns-5)
+    returns)

@@ -1,71 +1,77 @@
--- `board_restore::restore` meets its contract: 18, the settings and the plan, then the records.
-use mathlib.Core.Path.{refl, sym, ap, _∙_, subst}
+-- `board_restore::restore` meets its contract: refused, or replayed.
+use mathlib.Core.Path.{subst}
 use lib.ListN.{length}
 use denote.Ref.{now}
-use Rattle.party.specs.Party.{Party}
-use Rattle.party.specs.Run.{resting}
-use Rattle.board_laws.specs.Inner.{New}
-use Rattle.board_calls.specs.Restore.{replayFrom}
-use Rattle.board_laws.proofs.Restored.{settled-new, answer-found, answer-refused, restore-short, restore-refused, restore-found}
-use Rattle.board_restore.proofs.Restores.{unrestored-gives, regives}
+use Rattle.base.specs.declared.Verdict.{Verdict}
+use Rattle.party.specs.declared.Vote.{Vote}
+use Rattle.plan.specs.Tie.{asPlan}
+use Rattle.board_restore.specs.Inner.{Answers}
+use Rattle.board_restore.proofs.Restores.{unrestored-gives, restore-asks, restore-gives}
 use borrow.Author.Needs.{needs}
 use Rattle.board_restore.proofs.restore.Statement.{statement}
 use Rattle.board_restore.proofs.restore.Tie as tie
 
+ask-requires : tie.Need-ask-requires
+ask-requires c κs = search needs
+
+enum-known-verdict : tie.Need-enum-known-verdict
+enum-known-verdict c = search needs
+
 unrestored-requires : tie.Need-unrestored-requires
 unrestored-requires c κs = search needs
 
-returns : tie.Need-returns
-returns c =
-    let s = c .before .before .before .before .before .args in
-    unrestored-gives (restore-short (s .n) (s .t) (s .own) (s .agreement) (now (s .bytes)) (now (s .journal)) (length (now (s .out))) (c .before .if1 .taken)) (c .unrestored .ensures)
+abbrev vote : tie.Start → Vote
+vote s = record { n = s .args .n; t = s .args .t; own = s .args .own; agreement = s .args .agreement }
 
-settle-requires : tie.Need-settle-requires
-settle-requires c κs = search needs
+-- what the questions gave
+abbrev Gave : tie.After-ask → Verdict → Type 0
+Gave c w =
+    let s = c .before .before .before .before in
+    Answers (vote s) (now (s .args .bytes)) (now (s .args .journal)) (length (now (s .args .out))) (asPlan (c .ask .result .plan)) (c .ask .result .end) w
+
+returns : tie.Need-returns
+returns c = unrestored-gives (subst (Gave (c .before .before .before .before)) (c .before .before .verdict .given .1) (c .before .before .before .before .ask .ensures)) (c .unrestored .ensures)
 
 enum-told : tie.Need-enum-told
 enum-told c = search needs
 
+shape-requires : tie.Need-shape-requires
+shape-requires c κs = search needs
+
 new-requires : tie.Need-new-requires
 new-requires c κs = search needs
 
-restore-on-requires : tie.Need-restore-on-requires
-restore-on-requires c κs =
-    let s = c .before .before .before .before .before .before .before .before .before .before .args in
-    (subst New (sym (c .before .new .ensures)) (settled-new (s .n) (s .t) (s .own) (now (s .bytes)) (s .agreement) (answer-found (c .before .before .before .before .before .settle .ensures) (c .before .before .enum-told .given .1))), c .before .before .before .before .before .before .if1 .left)
+passes : (c : tie.After-enum-told) → Gave (c .before .before) Verdict.Accepted
+passes c = subst (Gave (c .before .before)) (c .enum-told .given .1) (c .before .before .ask .ensures)
 
-enum-known-v : tie.Need-enum-known-v
-enum-known-v c = search needs
+replay-all-requires : tie.Need-replay-all-requires
+replay-all-requires c κs =
+    restore-asks (vote (c .before .before .before .before .before .before .before .before .before .before .before .before .before .before .before .before)) (c .before .before .before .before .before .before .before .before .shape .ensures) (c .before .before .before .before .before .before .before .new .result) (c .before .before .before .before .before .before .before .new .ensures) (passes (c .before .before .before .before .before .before .before .before .before .before) .0)
 
-unrestored-requires-2 : tie.Need-unrestored-requires-2
-unrestored-requires-2 c κs = search needs
+accept-requires : tie.Need-accept-requires
+accept-requires c κs = search needs
 
 same-length : tie.Need-same-length
 same-length c = search needs
 
 returns-2 : tie.Need-returns-2
 returns-2 c =
-    let s = c .before .before .before .before .before .before .before .before .before .before .before .before .before .args in
-    let e = restore-found (s .n) (s .t) (s .own) (s .agreement) (now (s .bytes)) (now (s .journal)) (length (now (s .out))) (c .before .before .before .before .before .before .before .before .before .if1 .left) (answer-found (c .before .before .before .before .before .before .before .before .settle .ensures) (c .before .before .before .before .before .enum-told .given .1)) in
-    regives (e ∙ ap (λ (p : Party). replayFrom (length (now (s .journal))) (now (s .journal)) 0 (resting p)) (sym (c .before .before .before .before .new .ensures))) refl (c .before .before .restore-on .ensures)
-
-returns-3 : tie.Need-returns-3
-returns-3 c =
-    let s = c .before .before .before .before .before .before .before .before .before .before .args in
-    unrestored-gives (restore-refused (s .n) (s .t) (s .own) (s .agreement) (now (s .bytes)) (now (s .journal)) (length (now (s .out))) (c .before .before .before .before .before .before .if1 .left) (answer-refused (c .before .before .before .before .before .settle .ensures) (c .before .before .v .given .1))) (c .unrestored2 .ensures)
+    let s = c .before .before .before .before .before .before .before .before .before .before .before .before .before .before .before .before .before .before .before .before .before in
+    let g = c .before .before .before .before .replay-all in
+    restore-gives (vote s) (c .before .before .before .before .before .before .before .before .before .before .before .before .before .shape .ensures) (c .before .before .before .before .before .before .before .before .before .before .before .before .new .result) (c .before .before .before .before .before .before .before .before .before .before .before .before .new .ensures) (now (s .args .journal)) (g .last .1 .1 .1 .1 .0) (g .result) (passes (c .before .before .before .before .before .before .before .before .before .before .before .before .before .before .before) .1) (g .ensures) (c .accept .ensures)
 
 pub restore-spec : {M : Type 1} → statement M
 restore-spec =
     tie.close
     (tie.spec
+    ask-requires
+    enum-known-verdict
     unrestored-requires
     returns
-    settle-requires
     enum-told
+    shape-requires
     new-requires
-    restore-on-requires
-    enum-known-v
-    unrestored-requires-2
+    replay-all-requires
+    accept-requires
     same-length
-    returns-2
-    returns-3)
+    returns-2)

@@ -1,4 +1,4 @@
--- `board_door::read_answer` meets its contract.
+-- `board_ends::read_answer` meets its contract.
 use mathlib.Core.Path.{_≡_, sym, ap, _∙_}
 use Prim.Native.Nat.{_<_}
 use native.Mathlib.Omega.{arith}
@@ -9,10 +9,10 @@ use Rattle.party.specs.Tie.{asParty}
 use Rattle.party.proofs.Ties.{output}
 use Rattle.board_calls.specs.Answers.{answerOf}
 use Rattle.board_laws.proofs.Parts.{length-mapped}
-use Rattle.board_door.proofs.Doors.{valid-in, no-reading, reading}
+use Rattle.board_ends.proofs.Ends.{valid-in, no-reading, reading}
 use borrow.Author.Needs.{needs}
-use Rattle.board_door.proofs.read_answer.Statement.{statement}
-use Rattle.board_door.proofs.read_answer.Tie as tie
+use Rattle.board_ends.proofs.read_answer.Statement.{statement}
+use Rattle.board_ends.proofs.read_answer.Tie as tie
 
 vote-requires : tie.Need-vote-requires
 vote-requires c κs = search needs

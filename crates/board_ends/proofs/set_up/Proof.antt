@@ -1,8 +1,8 @@
--- `board_door::set_up` meets its contract, by the verdict.
-use Rattle.board_door.proofs.Doors.{set-up-accepted, set-up-refused}
+-- `board_ends::set_up` meets its contract, by the verdict.
+use Rattle.board_ends.proofs.Ends.{set-up-accepted, set-up-refused}
 use borrow.Author.Needs.{needs}
-use Rattle.board_door.proofs.set_up.Statement.{statement}
-use Rattle.board_door.proofs.set_up.Tie as tie
+use Rattle.board_ends.proofs.set_up.Statement.{statement}
+use Rattle.board_ends.proofs.set_up.Tie as tie
 
 settle-requires : tie.Need-settle-requires
 settle-requires c κs = search needs
