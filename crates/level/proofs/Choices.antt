@@ -12,8 +12,8 @@ use Rattle.base.proofs.Smallest.{sought}
 use Rattle.message.specs.Message.{noneValue}
 use Rattle.level_counts.specs.Places.{notYet}
 use Rattle.level_counts.proofs.Candidates.{candidate-le}
-use Rattle.level_counts_second.specs.declared.Graded.{Graded}
-use Rattle.level_counts_second.specs.Inner.{graded}
+use Rattle.level_counts_second_result.specs.declared.Graded.{Graded}
+use Rattle.level_counts_second_result.specs.Inner.{graded}
 
 module _ {A : Type 0} where
   -- x by the test p

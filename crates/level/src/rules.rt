@@ -93,7 +93,7 @@ impl Level {
         if self.first != NOT_YET {
             return self.idle();
         }
-        let w = level_counts_first::result(sets, c.degree, c.n, c.t);
+        let w = level_counts_first_result::result(sets, c.degree, c.n, c.t);
         if w == NOT_YET {
             return self.idle();
         }
@@ -186,7 +186,7 @@ impl Level {
         if self.result != NOT_YET {
             return self.idle();
         }
-        let g = level_counts_second::result(sets, c.degree, c.n, c.t);
+        let g = level_counts_second_result::result(sets, c.degree, c.n, c.t);
         if g.value == NOT_YET {
             return self.idle();
         }
@@ -286,7 +286,7 @@ impl Level {
         if c.next_entered {
             return self.idle();
         }
-        let k = level_counts_second::side(sets, c.degree, c.t);
+        let k = level_counts_leave::side(sets, c.degree, c.t);
         if k == NOT_YET {
             return self.idle();
         }
@@ -304,7 +304,7 @@ impl Level {
         requires { ⌜ InLimits c (asLevel (now sets) self) × (slotCount ≤ length (now sets)) ⌝ }
         ensures { λ r. ⌜ asApplied (now (sets .entry)) r ≡ Rules.rule13 c (asLevel (now (sets .entry)) self) ⌝ }
     {
-        if !level_counts_second::centre_due(sets, c.t) {
+        if !level_counts_leave::centre_due(sets, c.t) {
             return self.idle();
         }
         self.answer(c.centre)

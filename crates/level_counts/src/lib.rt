@@ -3,12 +3,13 @@ ghost use mathlib.Core.Path.{_≡_};
 ghost use Prim.Native.Nat.{_+_, _-_, _≤_, _<_};
 ghost use lib.Dec.{leb};
 ghost use lib.ListN.{length, getD};
+ghost use Rattle.base.specs.Limits.{maxDegree};
 ghost use Rattle.base.specs.Pick.{pick, smallest};
 ghost use Rattle.base.specs.Sets.{count};
 ghost use Rattle.message.specs.Message.{noneValue};
-ghost use Rattle.senders.specs.Senders.{atLeast};
-ghost use Rattle.level_counts.specs.Places.{slotCount};
-ghost use Rattle.level_counts.specs.Inner.{placesOf};
+ghost use Rattle.senders.specs.Senders.{union, atLeast};
+ghost use Rattle.level_counts.specs.Places.{secondProposals, slotCount};
+ghost use Rattle.level_counts.specs.Inner.{placesOf, reached, firstOf};
 
 // None, as a value of a level; the values before it are 0 to base::MAX_DEGREE.
 pub const NONE: u8 = base::NONE;
@@ -95,6 +96,13 @@ pub fn candidate(degree: usize, i: usize) -> usize
     if i <= degree { i } else { NONE_PLACE }
 }
 
+// The union of a and b where the test holds, else a.
+pub fn either_if(test: bool, a: senders::Mask, b: senders::Mask) -> senders::Mask
+    ensures { λ r. ⌜ r ≡ pick test (union a b) a ⌝ }
+{
+    if test { senders::either(a, b) } else { a }
+}
+
 // The first of the `number` sets from `from` on that has k senders, counted from 0; `number` if none has.
 pub fn first_reaching(sets: &[senders::Mask], from: usize, number: usize, k: u32) -> usize
     requires { ⌜ (from + number ≤ slotCount) × (slotCount ≤ length (now sets)) ⌝ }
@@ -122,4 +130,19 @@ pub fn count_reaching(sets: &[senders::Mask], from: usize, number: usize, k: u32
         i += 1;
     }
     sum
+}
+
+// The first candidate with k senders, its sets being those from `from` on; degree + 2 if there is none.
+pub fn first_candidate(sets: &[senders::Mask], from: usize, degree: usize, k: u32) -> usize
+    requires { ⌜ (degree ≤ maxDegree) × (from ≤ secondProposals) × (slotCount ≤ length (now sets)) ⌝ }
+    ensures { λ r. ⌜ r ≡ firstOf degree (reached (now (sets .entry)) from k) ⌝ }
+{
+    let i = first_reaching(sets, from, degree + 1, k);
+    if i <= degree {
+        return i;
+    }
+    if senders::reaches(sets[from + NONE_PLACE], k) {
+        return degree + 1;
+    }
+    degree + 2
 }

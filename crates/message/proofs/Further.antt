@@ -17,13 +17,14 @@ use Rattle.varint.specs.Reading.{varintAt, varintWithin}
 use Rattle.varint.proofs.Laws.{value-within, short-within, varint-within-at-end, all-bytes-append}
 use Rattle.varint.proofs.RoundTrip.{value-place}
 use Rattle.varint.proofs.Further.{varint-extends, varint-within-extends, value-stays, stays, varint-complete, varint-within-complete}
+use Rattle.message_values.specs.Values.{valueLow, valueHigh}
 use Rattle.message.specs.declared.Body.{Body}
 use Rattle.message.specs.declared.Body.the-variants.{Centre}
 use Rattle.message.specs.declared.Message.{Message}
 use Rattle.message.specs.declared.BodyRead.{BodyRead}
 use Rattle.message.specs.declared.MessageRead.{MessageRead}
 use Rattle.message.specs.Message.{lastLevel, maxValue, noneValue}
-use Rattle.message.specs.Reading.{valueLow, valueHigh, bodyOf, bodyAt, withValue, withBody, withKind, withLevel, withNumber, messageAt}
+use Rattle.message.specs.Reading.{bodyOf, bodyAt, withValue, withBody, withKind, withLevel, withNumber, messageAt}
 use Rattle.message.proofs.Laws.{body-with, body-without}
 use Rattle.message.proofs.RoundTrip.{message-parts, message-places}
 

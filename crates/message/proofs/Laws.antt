@@ -13,6 +13,7 @@ use Rattle.varint.specs.declared.VarintRead.{VarintRead}
 use Rattle.varint.specs.Varint.{varintBytes}
 use Rattle.varint.specs.Reading.{varintAt, varintWithin}
 use Rattle.varint.proofs.Laws.{pieces-most}
+use Rattle.message_values.specs.Values.{valueLow, valueHigh}
 use Rattle.message.specs.declared.Body.{Body}
 use Rattle.message.specs.declared.Body.the-variants.{FirstEcho, FirstProposal, SecondEcho, SecondProposal, Side, Centre}
 use Rattle.message.specs.declared.Message.{Message}
@@ -21,7 +22,7 @@ use Rattle.message.specs.declared.MessageRead.{MessageRead}
 use Rattle.message.specs.declared.Exactly.{Exactly}
 use Rattle.message.specs.declared.MessageWritten.{MessageWritten}
 use Rattle.message.specs.Message.{maxValue, noneValue, kindOf, valueBytes, bodyInTable, inTable, messageBytes}
-use Rattle.message.specs.Reading.{valueOf, valueLow, valueHigh, bodyAt, withValue, messageAt, withNumber, exactly, exactMessage}
+use Rattle.message.specs.Reading.{valueOf, bodyAt, withValue, messageAt, withNumber, exactly, exactMessage}
 use Rattle.message.specs.Writing.{writeAnswer, writeBuffer}
 
 -- ---- a body by its kind and value

@@ -17,6 +17,7 @@ use Rattle.varint.specs.Varint.{AllBytes, varintBytes}
 use Rattle.varint.specs.Reading.{varintAt, varintWithin}
 use Rattle.varint.proofs.Laws.{length-last, pieces-most, value-within}
 use Rattle.varint.proofs.RoundTrip.{varint-read-at, varint-within-read-at, varint-was-written, value-place}
+use Rattle.message_values.specs.Values.{valueLow, valueHigh}
 use Rattle.message.specs.declared.Body.{Body}
 use Rattle.message.specs.declared.Body.the-variants.{FirstEcho, FirstProposal, SecondEcho, SecondProposal, Side, Centre}
 use Rattle.message.specs.declared.Message.{Message}
@@ -24,7 +25,7 @@ use Rattle.message.specs.declared.BodyRead.{BodyRead}
 use Rattle.message.specs.declared.MessageRead.{MessageRead}
 use Rattle.message.specs.declared.Exactly.{Exactly}
 use Rattle.message.specs.Message.{lastLevel, kindOf, valueBytes, bodyInTable, inTable, messageBytes}
-use Rattle.message.specs.Reading.{valueOf, valueLow, valueHigh, bodyOf, bodyAt, withValue, withBody, withKind, withLevel, withNumber, messageAt, exactly, exactMessage}
+use Rattle.message.specs.Reading.{valueOf, bodyOf, bodyAt, withValue, withBody, withKind, withLevel, withNumber, messageAt, exactly, exactMessage}
 use Rattle.message.proofs.Laws.{bytes-with, bytes-without, table-with, body-with, body-without, high-most, read-message, read-exactly, exactly-one, message-length}
 
 -- ---- the table

@@ -4,15 +4,15 @@ use Prim.Native.Nat.{ℕ}
 use lib.Dec.{eqb}
 use lib.ListN.{length}
 use Rattle.base.specs.Pick.{pick}
-use Rattle.base.specs.Limits.{lastLevel, noneValue}
+use Rattle.base.specs.Limits.{lastLevel}
 use Rattle.varint.specs.declared.VarintRead.{VarintRead}
 use Rattle.varint.specs.Reading.{varintAt, varintWithin}
+use Rattle.message_values.specs.Values.{valueLow, valueHigh}
 use Rattle.message.specs.declared.Body.{Body}
 use Rattle.message.specs.declared.Body.the-variants.{FirstEcho, FirstProposal, SecondEcho, SecondProposal, Side, Centre}
 use Rattle.message.specs.declared.BodyRead.{BodyRead}
 use Rattle.message.specs.declared.MessageRead.{MessageRead}
 use Rattle.message.specs.declared.Exactly.{Exactly}
-use Rattle.message.specs.Message.{maxValue}
 
 -- a body's value; 0 for a centre, which has none
 abbrev pub valueOf : Body → ℕ
@@ -22,13 +22,6 @@ valueOf (SecondEcho v) = v
 valueOf (SecondProposal v) = v
 valueOf (Side v) = v
 valueOf Centre = 0
-
--- the table's column "Value": each kind's least and largest value; kind 6 has none
-abbrev pub valueLow : ℕ → ℕ
-valueLow k = pick (eqb k 5) 1 0
-
-abbrev pub valueHigh : ℕ → ℕ
-valueHigh k = pick (eqb k 2) maxValue (pick (eqb k 5) maxValue noneValue)
 
 -- the body of kind 1 to 6 with value v
 abbrev pub bodyOf : ℕ → ℕ → Body

@@ -7,13 +7,11 @@ ghost use lib.ListN.{length};
 ghost use Rattle.base.specs.Put.{putAt};
 ghost use Rattle.varint.specs.Reading.{varintWithin};
 ghost use Rattle.message.specs.Message.{lastLevel, kindOf, valueBytes, messageBytes, inTable, bodyInTable};
-ghost use Rattle.message.specs.Reading.{bodyOf, bodyAt, withBody, withKind, withLevel, messageAt, exactMessage, valueOf, valueLow, valueHigh};
+ghost use Rattle.message.specs.Reading.{bodyOf, bodyAt, withBody, withKind, withLevel, messageAt, exactMessage, valueOf};
 ghost use Rattle.message.specs.Writing.{writeAnswer, writeBuffer};
 
-// The largest value of a side or a port: the most neighbours of a centre.
-pub const MAX_SIDE: u32 = base::MAX_DEGREE as u32;
-// The value that stands for none: the next one.
-pub const NONE: u32 = base::NONE as u32;
+// The value that stands for none.
+pub const NONE: u32 = message_values::NONE;
 
 pub enum Body {
     FirstEcho(u8),
@@ -86,24 +84,6 @@ pub fn value_of(b: Body) -> u8
     }
 }
 
-fn value_low(kind: u32) -> u32
-    ensures { λ r. ⌜ r ≡ valueLow kind ⌝ }
-{
-    if kind == 5 { 1 } else { 0 }
-}
-
-fn value_high(kind: u32) -> u32
-    ensures { λ r. ⌜ r ≡ valueHigh kind ⌝ }
-{
-    if kind == 2 {
-        return MAX_SIDE;
-    }
-    if kind == 5 {
-        return MAX_SIDE;
-    }
-    NONE
-}
-
 // The body of kind 1 to 6 with value v.
 fn body_of(kind: u32, v: u8) -> Body
     ensures { λ r. ⌜ r ≡ bodyOf kind v ⌝ }
@@ -128,8 +108,8 @@ fn read_body(s: &[u8], at: usize, kind: u32) -> BodyRead
             next: at,
         };
     }
-    let low = value_low(kind);
-    let high = value_high(kind);
+    let low = message_values::value_low(kind);
+    let high = message_values::value_high(kind);
     match varint::read_within(s, at, low, high) {
         varint::VarintRead::Value { value: v, next } => BodyRead::Read {
             body: body_of(kind, v as u8),
@@ -223,10 +203,10 @@ fn body_in_table(b: Body) -> bool
         return true;
     }
     let v = value_of(b) as u32;
-    if v < value_low(kind) {
+    if v < message_values::value_low(kind) {
         return false;
     }
-    v <= value_high(kind)
+    v <= message_values::value_high(kind)
 }
 
 // Are level and value within the table?

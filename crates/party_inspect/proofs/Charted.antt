@@ -13,11 +13,10 @@ use lib.Seq.{getD-set-same, getD-set-other}
 use borrow.Author.Tests.{lt-ltb, le-ltb}
 use Rattle.base.specs.Pick.{pick}
 use Rattle.base.specs.Sets.{Set}
-use Rattle.base.specs.Limits.{maxRows, levelCount}
+use Rattle.base.specs.Limits.{levelCount}
 use Rattle.base.proofs.Bools.{T-and, T-left, T-right, T→true, true→T, not-T→false, false→not-T, T-ext}
 use Rattle.plan.specs.Plan.{Plan}
 use Rattle.plan.specs.Valid.{planValid}
-use Rattle.plan_laws.proofs.Parts.{tree-parts, valid-tree}
 use Rattle.component.specs.declared.Survey.{Survey}
 use Rattle.component.specs.Component.{wholeOf, sizeOf, centreOf, degreeOf, sideOf}
 use Rattle.component.specs.Inner.{Lent, members, OfPlan, Numbered, surveyOf}
@@ -30,11 +29,13 @@ use Rattle.party.specs.Tie.{setsAt}
 use Rattle.party.specs.Valid.{everyLevel, settingsPass, setsPass, outputPasses, valuePasses, placePasses, resultsPass, levelPasses, partyValid}
 use Rattle.party_laws.proofs.Laws.{valid→, sending-three, entered-sending}
 use Rattle.party_laws.proofs.Components as components
+use Rattle.party_fields.specs.Inner.{outputFits, isUnresolved, entryFits}
+use Rattle.party_fields.proofs.Sets.{pass-all}
+use Rattle.party_fields.proofs.Entries.{below→, →below}
 use Rattle.party_inspect.specs.declared.Last.{Last}
 use Rattle.party_inspect.specs.declared.Entered.{Entered}
-use Rattle.party_inspect.specs.Inner.{outputFits, isUnresolved, resultsFit, partFits, entryFits, partOf, enteredFits, Deepest, Ready, Sends, Settles, Filled}
-use Rattle.party_inspect.proofs.Sets.{pass-all}
-use Rattle.party_inspect.proofs.Entries.{below→, →below, entry-plan}
+use Rattle.party_inspect.specs.Inner.{resultsFit, partFits, partOf, enteredFits, Deepest, Ready, Sends, Settles, Filled}
+use Rattle.party_inspect.proofs.Entries.{entry-plan}
 
 -- the levels below i: the last that sends, and the surveys of those that do
 pub record ChartsTo (p : Party) (i : ℕ) (a : Last) (kept : List Survey) (ports : List ℕ) : Type 0 where
@@ -66,13 +67,6 @@ charts-start p a kept ports e = record {
   component = λ j q. absurd (omega arith);
   deepest = λ j q _. absurd (omega arith);
   numbers = λ j q _. absurd (omega arith);
-}
-
--- all rows of a plan that passes are lent
-pub plan-lent : (p : Plan) → T (planValid p) → length (p .parent) ≡ maxRows → length (p .child) ≡ maxRows → Lent p
-plan-lent p h a b = record {
-  parents = λ k. omega (arith, tree-parts p (subst T (sym (valid-tree p k refl)) h) .most);
-  children = λ k. omega (arith, tree-parts p (subst T (sym (valid-tree p k refl)) h) .most);
 }
 
 module _ (p : Party) (i : ℕ) (a : Last) (kept : List Survey) (ports : List ℕ) (C : ChartsTo p i a kept ports) where

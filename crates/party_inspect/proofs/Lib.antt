@@ -1,4 +1,3 @@
-pub mod Sets
 pub mod Entries
 pub mod Places
 pub mod Charted

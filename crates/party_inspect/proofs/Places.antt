@@ -5,53 +5,28 @@ use mathlib.Core.List.{List}
 use Prim.Native.Nat.{ℕ, _+_, _≤_, _<_}
 use native.Mathlib.Numerals.{add-one}
 use native.Mathlib.Omega.{arith}
-use lib.Dec.{T}
 use borrow.Author.Tests.{le-leb, lt-leb}
 use Rattle.base.specs.Sets.{Set}
 use Rattle.plan.specs.Plan.{Plan}
-use Rattle.component.specs.declared.Centre.{Centre}
 use Rattle.component.specs.declared.Span.{Span}
-use Rattle.component.specs.Component.{sizeOf, degreeOf, portOf}
-use Rattle.component.specs.Inner.{members, OfPlan, Surveyed, Finds, Holds, surveyOf}
+use Rattle.component.specs.declared.Survey.{Survey}
+use Rattle.component.specs.Component.{sizeOf, degreeOf}
+use Rattle.component.specs.Inner.{members, Holds, Surveys, surveyOf}
 use Rattle.level.specs.declared.Level as Code
-use Rattle.party.specs.Valid.{valuePasses}
+use Rattle.party_fields.specs.Inner.{isUnresolved, valuesFit, entryFits}
 use Rattle.party_inspect.specs.declared.Last.{Last}
 use Rattle.party_inspect.specs.declared.Entered.{Entered}
-use Rattle.party_inspect.specs.Inner.{isUnresolved, valuesFit, resultsFit, partFits, entryFits, partOf, enteredFits, Over, Sends, Settles}
+use Rattle.party_inspect.specs.Inner.{resultsFit, partFits, partOf, enteredFits, Sends, Settles}
 
 -- ---- a level that sends
 
-module _ (p : Plan) (s : Span) (ports after : List ℕ) (r : Centre) where
-  abbrev S : Set
-  S = members p s ports
+module _ (p : Plan) (s : Span) (S : Set) (after : List ℕ) (x : ℕ) (r : Survey) (f : Surveys p s S x after r) where
+  pub sends-passes : (l : Code.Level) (b : Bool) → b ≡ valuesFit (r .degree) l → b ≡ valuesFit (degreeOf p S) l
+  unfolding surveyOf
+  sends-passes l b h = h ∙ ap (λ (y : Survey). valuesFit (y .degree) l) (f .is)
 
-  module _ (f : Finds p s S after r) (x : ℕ) where
-    -- what its port asks for
-    pub port-asks : (i : ℕ) → Over p s ports i × (3 ≤ sizeOf p S) × T (S x) → Surveyed p s after × T (members p s after x)
-    port-asks i h = (
-      record { of = subst (OfPlan p) (sym (f .same)) (h .0 .component); three = subst (λ (M : Set). 3 ≤ sizeOf p M) (sym (f .same)) (h .1); numbers = f .numbers },
-      subst (λ (M : Set). T (M x)) (sym (f .same)) (h .2),
-    )
-
-    pub sends-passes : (l : Code.Level) (b : Bool) → b ≡ valuesFit (r .degree) l → b ≡ valuesFit (degreeOf p S) l
-    sends-passes l b h = h ∙ ap (λ (d : ℕ). valuesFit d l) (f .degree)
-
-    pub sends-part : (i port : ℕ) → port ≡ portOf p (members p s after) x
-        → Sends p S x i (record { sending = i + 1; survey = record { centre = r .centre; degree = r .degree; port = port }; span = s }) after
-    unfolding surveyOf
-    sends-part i port e = record {
-      sending = add-one i;
-      survey = rw (f .centre, f .degree, e, f .same);
-      deepest = f .same;
-      numbers = f .numbers;
-    }
-
--- the two results
-pub first-fails : (d : ℕ) (l : Code.Level) (a : Bool) → a ≡ valuePasses d (l .first) → a ≡ false → false ≡ valuesFit d l
-first-fails d l a h f = rw (← h, f)
-
-pub first-passes : (d : ℕ) (l : Code.Level) (a b : Bool) → a ≡ valuePasses d (l .first) → a ≡ true → b ≡ valuePasses d (l .result) → b ≡ valuesFit d l
-first-passes d l a b h f g = rw (← h, f) g
+  pub sends-part : (i : ℕ) → Sends p S x i (record { sending = i + 1; survey = r; span = s }) after
+  sends-part i = record { sending = add-one i; survey = f .is; deepest = f .same; numbers = f .numbers }
 
 -- ---- the position and the results
 

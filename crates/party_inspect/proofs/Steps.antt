@@ -21,10 +21,11 @@ use Rattle.party.specs.Party.{Party, levelAt}
 use Rattle.party.specs.Valid.{setsPass, levelPasses, partyValid}
 use Rattle.party.specs.Tie.{setsAt, partyIn}
 use Rattle.party.proofs.Ties.{length-tied, level-in}
+use Rattle.party_fields.specs.Inner.{outputFits, isUnresolved}
+use Rattle.party_fields.proofs.Sets.{pass-slice}
 use Rattle.party_inspect.specs.declared.Last.{Last}
 use Rattle.party_inspect.specs.declared.Entered.{Entered}
-use Rattle.party_inspect.specs.Inner.{outputFits, isUnresolved, partOf, enteredFits, Settles}
-use Rattle.party_inspect.proofs.Sets.{pass-slice}
+use Rattle.party_inspect.specs.Inner.{partOf, enteredFits, Settles}
 use Rattle.party_inspect.proofs.Charted.{Passed, output-fails, level-out, level-entered, charts-ready, charts-out, charts-entered, level-fails, sets-fail, passed-next}
 
 module _ (v : Vote) (plan : Plan) (ls : List Code.Level) (s : List ℕ) (full : length ls ≡ levelCount) where

@@ -1,43 +1,26 @@
 -- Question 19 of one level by what is known of the levels before it, for the functions inside this crate; and how long a record's arrays are.
 use mathlib.Core.Path.{_≡_}
-use mathlib.Core.Bool.{Bool, _&&_, _||_}
+use mathlib.Core.Bool.{Bool, _&&_}
 use mathlib.Core.List.{List}
 use Prim.Native.Nat.{ℕ, zero, suc, _≤_, _<_}
-use lib.Dec.{T, leb, ltb, eqb}
+use lib.Dec.{T, leb}
 use lib.ListN.{length}
 use Rattle.base.specs.Pick.{pick}
 use Rattle.base.specs.Sets.{Set}
 use Rattle.base.specs.Limits.{levelCount}
-use Rattle.senders.specs.Senders.{onlyBelow}
 use Rattle.plan.specs.Plan.{Plan}
 use Rattle.plan.specs.Valid.{planValid}
 use Rattle.component.specs.declared.Span.{Span}
 use Rattle.component.specs.Component.{wholeOf, sizeOf, centreOf, degreeOf, sideOf}
 use Rattle.component.specs.Inner.{Lent, OfPlan, members, Flat, Numbered, Surveyed, surveyOf}
 use Rattle.level.specs.declared.Level as Code
-use Rattle.level.specs.Level.{notYet, noOutput, valueCount}
+use Rattle.level.specs.Level.{valueCount}
 use Rattle.party.specs.Party.{Party, levelAt}
-use Rattle.party.specs.Valid.{setsPass, valuePasses}
+use Rattle.party_fields.specs.Inner.{isUnresolved, valuesFit, entryFits}
 use Rattle.party_inspect.specs.declared.Last.{Last}
 use Rattle.party_inspect.specs.declared.Entered.{Entered}
 
 -- ---- tests
-
--- for every n, m names only boards below n where all sets do
-pub record Unites (sets : List ℕ) (m : ℕ) : Type 0 where
-  pub below : (n : ℕ) → onlyBelow m n ≡ setsPass n sets
-
--- an output is on a plan of so many positions, or not there yet
-abbrev pub outputFits : ℕ → ℕ → Bool
-outputFits count x = eqb x noOutput || ltb x count
-
--- no result is there yet
-abbrev pub isUnresolved : Code.Level → Bool
-isUnresolved l = eqb (l .first) notYet && eqb (l .result) notYet
-
--- the results of a level of degree d
-abbrev pub valuesFit : ℕ → Code.Level → Bool
-valuesFit d l = valuePasses d (l .first) && valuePasses d (l .result)
 
 -- the results of a level over S
 unfoldable pub resultsFit : Plan → Set → Code.Level → Bool
@@ -46,11 +29,6 @@ resultsFit p S l = pick (leb 3 (sizeOf p S)) (valuesFit (degreeOf p S) l) (isUnr
 -- the position and the results of a level over S
 unfoldable pub partFits : Plan → Set → Code.Level → Bool
 partFits p S l = S (l .position) && resultsFit p S l
-
--- level i may be entered by side k: level 0 by no side, each next by a side of the level before, which is the last that sends and has degree d
-unfoldable pub entryFits : ℕ → ℕ → ℕ → ℕ → Bool
-entryFits sending d zero k = eqb k 0
-entryFits sending d (suc i) k = eqb sending (suc i) && (leb 1 k && leb k d)
 
 -- the component that is entered so
 unfoldable pub partOf : Plan → Span → List ℕ → ℕ → ℕ → Set

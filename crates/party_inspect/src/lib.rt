@@ -1,17 +1,17 @@
-// Question 19: is a record one of a party? One pass over the plan part, one over the sets of senders, and a few over each entered level's component.
+// Question 19: is a record one of a party? One pass over the plan part, one over the sets of senders, and a few over the plan's positions for each entered level (on a range: none).
 ghost use mathlib.Core.Path.{_≡_};
 ghost use Prim.Native.Nat.{_≤_};
 ghost use lib.Dec.{T};
 ghost use lib.ListN.{length};
-ghost use Rattle.base.specs.Limits.{levelCount};
 ghost use Rattle.plan.specs.Tie.{shaped};
 ghost use Rattle.component.specs.Component.{sizeOf, degreeOf};
 ghost use Rattle.component.specs.Inner.{members, Holds};
 ghost use Rattle.level.specs.Level.{valueCount};
-ghost use Rattle.party.specs.Valid.{valuePasses, partyValid};
+ghost use Rattle.party.specs.Valid.{partyValid};
 ghost use Rattle.party.specs.Tie.{partyIn};
 ghost use Rattle.party.specs.Inner.{Charts};
-ghost use Rattle.party_inspect.specs.Inner.{Unites, outputFits, isUnresolved, valuesFit, partFits, entryFits, partOf, enteredFits, Over, Ready, Sends, Settles, Filled};
+ghost use Rattle.party_fields.specs.Inner.{valuesFit, entryFits};
+ghost use Rattle.party_inspect.specs.Inner.{partFits, partOf, enteredFits, Over, Ready, Sends, Settles, Filled};
 
 pub struct Inspected {
     pub ok: bool,
@@ -31,64 +31,6 @@ struct Entered {
     last: Last,
 }
 
-// The senders that some set names.
-fn union_of(sets: &[senders::Mask]) -> senders::Mask
-    ensures { λ r. ⌜ Unites (now (sets .entry)) r ⌝ }
-{
-    let mut all: senders::Mask = 0;
-    let mut at: usize = 0;
-    while at < sets.len() {
-        all = senders::either(all, sets[at]);
-        at += 1;
-    }
-    all
-}
-
-// Is a result a value of at most d, none, or not there yet?
-fn value_passes(d: u32, v: u8) -> bool
-    ensures { λ r. ⌜ r ≡ valuePasses d v ⌝ }
-{
-    let w = v as u32;
-    if w <= d {
-        return true;
-    }
-    if w == message::NONE {
-        return true;
-    }
-    v == level::NOT_YET
-}
-
-// Is an output on a plan of so many positions, or not there yet?
-fn output_passes(count: u32, output: base::Position) -> bool
-    ensures { λ r. ⌜ r ≡ outputFits count output ⌝ }
-{
-    if output == level::NO_OUTPUT {
-        return true;
-    }
-    output < count
-}
-
-// A level without a degree has no result.
-fn unresolved(l: level::Level) -> bool
-    ensures answers { λ r. ⌜ r ≡ isUnresolved l ⌝ }
-    ensures sized { λ r. ⌜ length (l .echoed) ≡ valueCount ⌝ }
-{
-    if l.first != level::NOT_YET {
-        return false;
-    }
-    l.result == level::NOT_YET
-}
-
-// Do the results of a level of degree d pass?
-fn values_pass(d: u32, l: level::Level) -> bool
-    ensures { λ r. ⌜ r ≡ valuesFit d l ⌝ }
-{
-    if !value_passes(d, l.first) {
-        return false;
-    }
-    value_passes(d, l.result)
-}
-
 // No level sends.
 fn no_level() -> Last
     ensures { λ r. ⌜ r .sending ≡ 0 ⌝ }
@@ -106,20 +48,6 @@ fn no_level() -> Last
     }
 }
 
-// The chart of no level.
-fn empty_chart() -> party::Chart
-    ensures { λ r. ⌜ length (r .surveys) ≡ levelCount ⌝ }
-{
-    let none = no_level();
-    let s = none.survey;
-    let deepest = none.span;
-    party::Chart {
-        sending: none.sending,
-        surveys: [s; base::LEVELS],
-        deepest: deepest,
-    }
-}
-
 // Do the results of level i pass, over a component of three or more positions that holds its position? It sends.
 fn inspect_sending(
     shape: plan::Shape,
@@ -134,20 +62,15 @@ fn inspect_sending(
     ensures passes { λ r. ⌜ r .ok ≡ valuesFit (degreeOf (shaped shape (now (ps .entry)) (now (cs .entry))) (members (shaped shape (now (ps .entry)) (now (cs .entry))) span (now (ports .entry)))) l ⌝ }
     ensures last { λ r. ⌜ Sends (shaped shape (now (ps .entry)) (now (cs .entry))) (members (shaped shape (now (ps .entry)) (now (cs .entry))) span (now (ports .entry))) (l .position) i (r .last) (now (ports .exit)) ⌝ }
 {
-    let c = component::survey_ports(shape, ps, cs, span, ports);
-    let port = component::port(shape, ps, cs, span, ports, l.position);
-    let s = component::Survey {
-        centre: c.centre,
-        degree: c.degree,
-        port: port,
-    };
+    let s = component::survey_at(shape, ps, cs, span, ports, l.position);
+    let sending = i + 1;
     let last = Last {
-        sending: i + 1,
+        sending: sending,
         survey: s,
         span: span,
     };
     Entered {
-        ok: values_pass(c.degree, l),
+        ok: party_fields::values_pass(s.degree, l),
         last: last,
     }
 }
@@ -174,27 +97,11 @@ fn inspect_part(
     }
     if component::size(shape, ps, cs, span, ports) < 3 {
         return Entered {
-            ok: unresolved(l),
+            ok: party_fields::unresolved(l),
             last: last,
         };
     }
     inspect_sending(shape, ps, cs, l, i, span, ports)
-}
-
-// May level i be entered by side k? Level 0 by no side, each next by a side of the level before, which sends.
-fn entry_passes(sending: usize, degree: u32, i: usize, k: u8) -> bool
-    ensures { λ r. ⌜ r ≡ entryFits sending degree i k ⌝ }
-{
-    if i == 0 {
-        return k == 0;
-    }
-    if sending != i {
-        return false;
-    }
-    if k < 1 {
-        return false;
-    }
-    k as u32 <= degree
 }
 
 // The component that is entered so: the whole plan, or side k of the level before, in whose place it is put.
@@ -233,7 +140,7 @@ fn inspect_entered(
     ensures sized { λ r. ⌜ length (l .echoed) ≡ valueCount ⌝ }
 {
     let s = last.survey;
-    if !entry_passes(last.sending, s.degree, i, l.side) {
+    if !party_fields::entry_passes(last.sending, s.degree, i, l.side) {
         return Entered {
             ok: false,
             last: last,
@@ -257,7 +164,7 @@ pub fn inspect(
     ensures charted { λ r. ⌜ (T (r .ok) → Charts (partyIn v (shaped shape (now (ps .entry)) (now (cs .entry))) levels (now (sets .entry))) (r .chart) (now (ports .exit))) ⌝ }
     ensures sized { λ r. ⌜ (T (r .ok) → Filled (partyIn v (shaped shape (now (ps .entry)) (now (cs .entry))) levels (now (sets .entry)))) ⌝ }
 {
-    let mut chart = empty_chart();
+    let mut chart = party::Chart::empty();
     if settings::fault(v.n, v.t, v.own) != 0 {
         return Inspected {
             ok: false,
@@ -270,7 +177,7 @@ pub fn inspect(
             chart: chart,
         };
     }
-    if !senders::only_below(union_of(sets), v.n) {
+    if !senders::only_below(party_fields::union_of(sets), v.n) {
         return Inspected {
             ok: false,
             chart: chart,
@@ -280,14 +187,14 @@ pub fn inspect(
     let mut i: usize = 0;
     while i < base::LEVELS {
         let l = levels[i];
-        if !output_passes(shape.count, l.output) {
+        if !party_fields::output_passes(shape.count, l.output) {
             return Inspected {
                 ok: false,
                 chart: chart,
             };
         }
         if !l.entered {
-            if !unresolved(l) {
+            if !party_fields::unresolved(l) {
                 return Inspected {
                     ok: false,
                     chart: chart,

@@ -24,12 +24,12 @@ use Rattle.edges.specs.Reading.{onward, varintThen, endsApart, notJoined, roomA
 use Rattle.edges.specs.Rows.{rows}
 use Rattle.edges.specs.Inner.{faultBy, faultIn, EdgeList, edgesIn, Columns, Listing}
 use Rattle.plan.specs.Plan.{Plan}
-use Rattle.plan.specs.Positions.{treePlan, rangePlan}
+use Rattle.plan.specs.Positions.{rangePlan}
 use Rattle.plan.specs.Reading.{ended, treeFrom, rangeFrom, planFrom}
 use Rattle.plan.proofs.Listed.{ask-yes}
 use Rattle.plan.proofs.Answers.{ask-no}
 use Rattle.plan_groups.specs.declared.Next.{Next}
-use Rattle.plan_groups.specs.Inner.{pastOf, wanting, leftOf, Sound, treeEnd, secondThen, widthThen, restOf, kindNext, widthNext, afterEdges, Taken}
+use Rattle.plan_groups.specs.Inner.{wanting, leftOf, Sound, treeEnd, secondThen, restOf, kindNext, widthNext, afterEdges, Taken}
 
 -- the same of what is known to be the same
 pub told : {n m n′ m′ : Next} {l l′ : EdgeList} {f g : VarintRead} {at : ℕ} → n ≡ m → f ≡ g → m′ ≡ n′ → Taken m l g at n′ l′ → Taken n l f at m′ l′
@@ -227,16 +227,16 @@ module _ (l : EdgeList) (z : Sound Next.First l) (a b next at : ℕ) where
         same = λ s i. ap (λ (x : ℕ). refused x at) e ∙ sym (second-then s i ∙ ap (λ (t : Bool). pick t (further s) (refused faultHere at)) (ne-eqb faultHere 0 (λ j. d (e ∙ j))));
       }
 
-  pub taken-edge : faultHere ≡ 0 → (m : EdgeList) → Listing m → m .vertices ≡ l .vertices → m .count ≡ l .count + 1 → edgesIn m ≡ record { one = a; two = b } ∷ edgesIn l
+  pub taken-edge : (f : ℕ) → f ≡ faultHere → f ≡ 0 → (m : EdgeList) → Listing m → m .vertices ≡ l .vertices → m .count ≡ l .count + 1 → edgesIn m ≡ record { one = a; two = b } ∷ edgesIn l
       → Taken (Next.Second a) l (VarintRead.Value b next) at (afterEdges (m .count) (m .vertices)) m
-  taken-edge e m h i j n =
+  taken-edge f e d m h i j n =
       let k : m .count + 1 ≤ m .vertices = omega (arith, z .1, i, j) in
       record {
         sound = after-sound m h k (ltb (m .count + 1) (m .vertices)) refl;
         less = after-less m h k (ltb (m .count + 1) (m .vertices)) (leftOf (Next.Second a) l) (omega (arith, z .1, i, j));
         same = λ s x. after-rest m h k (ltb (m .count + 1) (m .vertices)) refl s next
             ∙ from-same s next i (omega (arith, i, j)) n
-            ∙ sym (second-then s x ∙ ap (λ (t : Bool). pick t (further s) (refused faultHere at)) (eq-eqb faultHere 0 e));
+            ∙ sym (second-then s x ∙ ap (λ (t : Bool). pick t (further s) (refused faultHere at)) (eq-eqb faultHere 0 (sym e ∙ d)));
       }
 
 -- ---- the end

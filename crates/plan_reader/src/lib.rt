@@ -34,7 +34,7 @@ pub fn past<'a>(r: PlanReader<'a>, found: varint::VarintRead) -> PlanReader<'a>
 }
 
 // The plan that the bytes are: a reader moves through them from group to group. The columns of the edges read are lent beside them (crate edges).
-pub fn read_plan(bytes: &[u8], up: &mut [u16], room: &mut [u16]) -> plan::PlanRead
+fn read_plan(bytes: &[u8], up: &mut [u16], room: &mut [u16]) -> plan::PlanRead
     requires { ⌜ Lent (now up) (now room) ⌝ }
     ensures { λ p. ⌜ asPlanRead p ≡ answered (planOf (now (bytes .entry))) ⌝ }
 {
@@ -42,10 +42,10 @@ pub fn read_plan(bytes: &[u8], up: &mut [u16], room: &mut [u16]) -> plan::PlanRe
     let mut so_far = plan_groups::begin();
     while plan_groups::wants(so_far) {
         let found = next_varint(here);
-        so_far = plan_groups::take(so_far, found, here.at, up, room);
+        so_far = plan_take::take(so_far, found, here.at, up, room);
         here = past(here, found);
     }
-    plan_groups::finish(so_far, here.bytes, here.at, room)
+    plan_finish::finish(so_far, here.bytes, here.at, room)
 }
 
 // The same, with columns of its own.

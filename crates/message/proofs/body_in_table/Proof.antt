@@ -2,7 +2,7 @@
 use mathlib.Core.Path.{sym, ap, ap₂, _∙_}
 use native.Mathlib.Omega.{arith}
 use lib.Dec.{leb}
-use Rattle.message.specs.Reading.{valueLow, valueHigh}
+use Rattle.message_values.specs.Values.{valueLow, valueHigh}
 use Rattle.message.proofs.Laws.{table-without, table-below, table-rest}
 use borrow.Author.Needs.{needs}
 use Rattle.message.proofs.body_in_table.Statement.{statement}

@@ -16,7 +16,8 @@ use Rattle.party.specs.Party.{Party}
 use Rattle.party.specs.Valid.{settingsPass, setsPass, partyValid}
 use Rattle.party.specs.Tie.{partyIn}
 use Rattle.party_laws.proofs.Laws.{settings→}
-use Rattle.party_inspect.proofs.Charted.{Passed, plan-lent, charts-ready, settings-fail, plan-fails, passed-start, all-pass, all-filled, all-charted}
+use Rattle.component_laws.proofs.Laws.{rows-lent}
+use Rattle.party_inspect.proofs.Charted.{Passed, charts-ready, settings-fail, plan-fails, passed-start, all-pass, all-filled, all-charted}
 use Rattle.party_inspect.proofs.Steps.{party-full, sets-stop, output-stops, out-stops, out-next, entered-stops, entered-next}
 use borrow.Author.Needs.{needs}
 use Rattle.party_inspect.proofs.inspect.Statement.{statement}
@@ -54,8 +55,8 @@ plan-held d = true→T (sym (d .before .before .before .before .before .valid .e
 sets-held : (d : tie.Else3 Inv-loop μ-loop) → T (setsPass (start d .args .v .n) (start d .args .sets .now))
 sets-held d = true→T (sym (d .before .before .union-of .ensures .below (start d .args .v .n)) ∙ sym (d .before .only-below .ensures) ∙ not-false _ (d .if3 .left))
 
-empty-chart-requires : tie.Need-empty-chart-requires Inv-loop μ-loop
-empty-chart-requires c κs = search needs
+empty-requires : tie.Need-empty-requires Inv-loop μ-loop
+empty-requires c κs = search needs
 
 fault-requires : tie.Need-fault-requires Inv-loop μ-loop
 fault-requires c κs = search needs
@@ -94,7 +95,7 @@ loop-holds c =
     let s = c .before .before .before .before .before .before .before .before .before .before in
     let a = s .args in (
       omega arith,
-      λ v t. passed-start (partyIn v (plan s) (a .t5) (a .sets .now)) (c .no-level .result) (c .before .before .before .before .before .before .before .before .before .empty-chart .result .surveys) (a .ports .now) (c .no-level .ensures) (c .before .before .before .before .before .before .before .before .before .empty-chart .ensures),
+      λ v t. passed-start (partyIn v (plan s) (a .t5) (a .sets .now)) (c .no-level .result) (c .before .before .before .before .before .before .before .before .before .empty .result .surveys) (a .ports .now) (c .no-level .ensures) (c .before .before .before .before .before .before .before .before .before .empty .ensures .1),
     )
 
 mul-l : tie.Need-mul-l Inv-loop μ-loop
@@ -158,7 +159,7 @@ inspect-entered-requires c κs =
     let h : o .i < levelCount = omega (arith, c .before .before .before .before .before .before .before .before .loop-test .taken) in
     let parents : length (a .ps .now) ≡ maxRows = omega (arith, c .before .before .inspect-entered-arg .given) in
     let children : length (a .cs .now) ≡ maxRows = omega (arith, c .before .inspect-entered-arg2 .given) in
-    let y = plan-lent (plan s) (plan-held d) parents children in
+    let y = rows-lent (plan s) (plan-held d) parents children in
     charts-ready (party s) (o .i) (o .last) (o .chart .surveys) (o .ports) (o .inv .1 (a .v) (sets-held d) .chart) (plan-held d) y h
 
 returns-6 : tie.Need-returns-6 Inv-loop μ-loop
@@ -193,7 +194,7 @@ loop-again-2 c =
     let h : o .i < levelCount = omega (arith, c .before .before .before .before .before .before .before .before .before .before .before .before .before .loop-test .taken) in
     let parents : length (a .ps .now) ≡ maxRows = omega (arith, c .before .before .before .before .before .before .before .inspect-entered-arg .given) in
     let children : length (a .cs .now) ≡ maxRows = omega (arith, c .before .before .before .before .before .before .inspect-entered-arg2 .given) in
-    let y = plan-lent (plan s) (plan-held d) parents children in
+    let y = rows-lent (plan s) (plan-held d) parents children in
     let b = c .before .before .before .before .before .before .before .before .before .before .before .output-passes in
     let e = c .before .before .before .before .inspect-entered in (
       omega arith,
@@ -222,7 +223,7 @@ inspect-spec =
     (tie.spec
     Inv-loop
     μ-loop
-    empty-chart-requires
+    empty-requires
     fault-requires
     returns
     valid-requires

@@ -6,7 +6,7 @@ use Rattle.base.proofs.Bools.{true→T}
 use Rattle.plan.specs.Plan.{Plan}
 use Rattle.plan.specs.Tie.{shaped}
 use Rattle.level.specs.Level.{valueCount}
-use Rattle.party_inspect.specs.Inner.{entryFits}
+use Rattle.party_fields.specs.Inner.{entryFits}
 use Rattle.party_inspect.proofs.Entries.{over-asks}
 use Rattle.party_inspect.proofs.Places.{entered-not, entered-part}
 use borrow.Author.Needs.{needs}

@@ -1,4 +1,4 @@
--- `plan_reader::read_plan` meets its contract: a walk of its MIR, by hand. The loop's body takes no decision: a group is read at the reader's offset, `plan_groups::take` says what
+-- `plan_reader::read_plan` meets its contract: a walk of its MIR, by hand. The loop's body takes no decision: a group is read at the reader's offset, `plan_take::take` says what
 -- follows, and the reader moves past the group. The invariant: what is left to read from the reader's offset on, after the edges that the lent columns keep, is the plan that the
 -- bytes are. `take` and `finish` are lent the columns again, each for its call alone (`Again.antt`).
 -- All that the proof knows of the functions called is that each meets its contract.
@@ -71,14 +71,14 @@ use Rattle.plan_groups.proofs.wants as wants
 use Rattle.plan_groups.proofs.wants.Symbol as wants-def
 use Rattle.plan_groups.proofs.wants.Symbol.{name as #plan-groups·wants}
 use Rattle.plan_groups.proofs.wants.Met as wants-thm
-use Rattle.plan_groups.proofs.take as takes
-use Rattle.plan_groups.proofs.take.Symbol as takes-def
-use Rattle.plan_groups.proofs.take.Symbol.{name as #plan-groups·take}
-use Rattle.plan_groups.proofs.take.Met as takes-thm
-use Rattle.plan_groups.proofs.finish as finish
-use Rattle.plan_groups.proofs.finish.Symbol as finish-def
-use Rattle.plan_groups.proofs.finish.Symbol.{name as #plan-groups·finish}
-use Rattle.plan_groups.proofs.finish.Met as finish-thm
+use Rattle.plan_take.proofs.take as takes
+use Rattle.plan_take.proofs.take.Symbol as takes-def
+use Rattle.plan_take.proofs.take.Symbol.{name as #plan-take·take}
+use Rattle.plan_take.proofs.take.Met as takes-thm
+use Rattle.plan_finish.proofs.finish as finish
+use Rattle.plan_finish.proofs.finish.Symbol as finish-def
+use Rattle.plan_finish.proofs.finish.Symbol.{name as #plan-finish·finish}
+use Rattle.plan_finish.proofs.finish.Met as finish-thm
 use Rattle.plan_reader.specs.declared.PlanReader.{PlanReader}
 use Rattle.plan_reader.proofs.PlanReader as T
 use Rattle.plan_reader.proofs.PlanReader.Laws as T′
@@ -112,7 +112,7 @@ more-body =
     (seq (assign (place 11 []) (aggregate (copy (place 10 []) ∷ copy (place 2 (field 1 ∷ [])) ∷ [])))
     (seq (assign (place 12 []) (addrOf (place 3 (field 0 ∷ deref (tyInt w16) ∷ []))))
     (seq (assign (place 13 []) (aggregate (copy (place 12 []) ∷ copy (place 3 (field 1 ∷ [])) ∷ [])))
-    (seq (call #plan-groups·take (copy (place 5 []) ∷ copy (place 6 []) ∷ copy (place 9 []) ∷ copy (place 11 []) ∷ copy (place 13 []) ∷ []) (place 5 []))
+    (seq (call #plan-take·take (copy (place 5 []) ∷ copy (place 6 []) ∷ copy (place 9 []) ∷ copy (place 11 []) ∷ copy (place 13 []) ∷ []) (place 5 []))
     (seq (assign (place 14 []) (rvOpd (copy (place 4 []))))
     (call #plan-reader·past (copy (place 14 []) ∷ copy (place 6 []) ∷ []) (place 4 []))))))))))
 
@@ -213,8 +213,8 @@ further x v p u d us rs i j e t m p-is d-is =
 module _ {M : Type 1} (𝓤 : URA M) (H : Heap 𝓤) (A : Atoms 𝓤) (W : Given 𝓤 H A) (mem : Memory → SProp 𝓤) (run : Routine → Fun 𝓤) (𝓣 : Tables 𝓤 H)
     (known-open : Triple 𝓤 (𝓣 .C #plan-reader·open) (Open 𝓤 H A mem run))
     (known-begin : Triple 𝓤 (𝓣 .C #plan-groups·begin) (Begin 𝓤 H A mem run)) (known-wants : Triple 𝓤 (𝓣 .C #plan-groups·wants) (Wants 𝓤 H A mem run))
-    (known-next : Triple 𝓤 (𝓣 .C #plan-reader·next-varint) (Next′ 𝓤 H A mem run)) (known-take : Triple 𝓤 (𝓣 .C #plan-groups·take) (Take 𝓤 H A mem run))
-    (known-past : Triple 𝓤 (𝓣 .C #plan-reader·past) (Past 𝓤 H A mem run)) (known-finish : Triple 𝓤 (𝓣 .C #plan-groups·finish) (Finish 𝓤 H A mem run)) where
+    (known-next : Triple 𝓤 (𝓣 .C #plan-reader·next-varint) (Next′ 𝓤 H A mem run)) (known-take : Triple 𝓤 (𝓣 .C #plan-take·take) (Take 𝓤 H A mem run))
+    (known-past : Triple 𝓤 (𝓣 .C #plan-reader·past) (Past 𝓤 H A mem run)) (known-finish : Triple 𝓤 (𝓣 .C #plan-finish·finish) (Finish 𝓤 H A mem run)) where
   abbrev fm : FmC 𝓤 H (W .laws) (𝓣 .C)
   fm = fmOf 𝓤 H (W .laws) 𝓣
 
@@ -499,8 +499,8 @@ module _ {M : Type 1} (𝓤 : URA M) (H : Heap 𝓤) (A : Atoms 𝓤) (W : Given
 
 read-plan-meets : {M : Type 1} (𝓤 : URA M) (H : Heap 𝓤) (A : Atoms 𝓤) (W : Given 𝓤 H A) (mem : Memory → SProp 𝓤) (run : Routine → Fun 𝓤) (𝓣 : Tables 𝓤 H)
     → Triple 𝓤 (𝓣 .C #plan-reader·open) (Open 𝓤 H A mem run) → Triple 𝓤 (𝓣 .C #plan-groups·begin) (Begin 𝓤 H A mem run) → Triple 𝓤 (𝓣 .C #plan-groups·wants) (Wants 𝓤 H A mem run)
-    → Triple 𝓤 (𝓣 .C #plan-reader·next-varint) (Next′ 𝓤 H A mem run) → Triple 𝓤 (𝓣 .C #plan-groups·take) (Take 𝓤 H A mem run)
-    → Triple 𝓤 (𝓣 .C #plan-reader·past) (Past 𝓤 H A mem run) → Triple 𝓤 (𝓣 .C #plan-groups·finish) (Finish 𝓤 H A mem run)
+    → Triple 𝓤 (𝓣 .C #plan-reader·next-varint) (Next′ 𝓤 H A mem run) → Triple 𝓤 (𝓣 .C #plan-take·take) (Take 𝓤 H A mem run)
+    → Triple 𝓤 (𝓣 .C #plan-reader·past) (Past 𝓤 H A mem run) → Triple 𝓤 (𝓣 .C #plan-finish·finish) (Finish 𝓤 H A mem run)
     → Meets 𝓤 H A read-plan.signature (WpFn 𝓤 H (𝓣 .C) (𝓣 .Λ) code.function) (read-plan.spec 𝓤 H A mem run)
 read-plan-meets 𝓤 H A W mem run 𝓣 known-open known-begin known-wants known-next known-take known-past known-finish =
     walk-meets 𝓤 H A read-plan.ended stayed W (goes-none-slice 𝓤 H A W 3 (0 ∷ []) tt (plain (λ _. u8)) yes, (goes-slice 𝓤 H A W 3 1 tt (plain (λ _. u16)), (goes-slice 𝓤 H A W 3 2 tt (plain (λ _. u16)), tt))) (read-plan.clauses 𝓤 H A mem run)
@@ -521,6 +521,6 @@ read-plan-spec 𝓤 H 𝓜 𝓖 𝓡 =
     (cited 𝓤 H (Begin 𝓤 H (𝓖 .A) (𝓜 .mem) (𝓡 .run)) 𝓜 𝓡 code.env #plan-groups·begin begin-def.routine code.calls-plan-groups·begin (begin-thm.met 𝓤 H 𝓜 𝓖 𝓡))
     (cited 𝓤 H (Wants 𝓤 H (𝓖 .A) (𝓜 .mem) (𝓡 .run)) 𝓜 𝓡 code.env #plan-groups·wants wants-def.routine code.calls-plan-groups·wants (wants-thm.met 𝓤 H 𝓜 𝓖 𝓡))
     (cited 𝓤 H (Next′ 𝓤 H (𝓖 .A) (𝓜 .mem) (𝓡 .run)) 𝓜 𝓡 code.env #plan-reader·next-varint next-def.routine code.calls-plan-reader·next-varint (next-thm.met 𝓤 H 𝓜 𝓖 𝓡))
-    (cited 𝓤 H (Take 𝓤 H (𝓖 .A) (𝓜 .mem) (𝓡 .run)) 𝓜 𝓡 code.env #plan-groups·take takes-def.routine code.calls-plan-groups·take (takes-thm.met 𝓤 H 𝓜 𝓖 𝓡))
+    (cited 𝓤 H (Take 𝓤 H (𝓖 .A) (𝓜 .mem) (𝓡 .run)) 𝓜 𝓡 code.env #plan-take·take takes-def.routine code.calls-plan-take·take (takes-thm.met 𝓤 H 𝓜 𝓖 𝓡))
     (cited 𝓤 H (Past 𝓤 H (𝓖 .A) (𝓜 .mem) (𝓡 .run)) 𝓜 𝓡 code.env #plan-reader·past past-def.routine code.calls-plan-reader·past (past-thm.met 𝓤 H 𝓜 𝓖 𝓡))
-    (cited 𝓤 H (Finish 𝓤 H (𝓖 .A) (𝓜 .mem) (𝓡 .run)) 𝓜 𝓡 code.env #plan-groups·finish finish-def.routine code.calls-plan-groups·finish (finish-thm.met 𝓤 H 𝓜 𝓖 𝓡)))
+    (cited 𝓤 H (Finish 𝓤 H (𝓖 .A) (𝓜 .mem) (𝓡 .run)) 𝓜 𝓡 code.env #plan-finish·finish finish-def.routine code.calls-plan-finish·finish (finish-thm.met 𝓤 H 𝓜 𝓖 𝓡)))

@@ -6,8 +6,8 @@ use native.Mathlib.Omega.{arith}
 use borrow.Author.Tests.{eq-eqb, ne-eqb}
 use lib.Dec.{eqb}
 use Rattle.message.specs.Message.{noneValue}
-use Rattle.level_counts_second.specs.declared.Graded.{Graded}
-use Rattle.level_counts_second.specs.Inner.{graded}
+use Rattle.level_counts_second_result.specs.declared.Graded.{Graded}
+use Rattle.level_counts_second_result.specs.Inner.{graded}
 use Rattle.level.specs.declared.Effect.the-variants.{Quiet}
 use Rattle.level.specs.Level.{senders, slot, withResult}
 use Rattle.level.specs.Counts.{weak, candidate, echoedBy, secondProposed, echoedValues}
