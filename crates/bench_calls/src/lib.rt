@@ -4,9 +4,6 @@ ghost use Rattle.bench_calls.specs.Room.{HasRoom};
 // The most boards of a vote.
 pub const BOARDS: usize = base::MAX_BOARDS as usize;
 
-// A record of a journal: its tag, a sender and a message; that of a start is no longer.
-const RECORD: usize = 2 + base::MESSAGE_SIZE;
-
 // The board, and its input or the message; the board is BOARDS where there is no call.
 pub struct Call {
     pub board: usize,
@@ -56,7 +53,7 @@ impl Call {
     ) -> board::Called
         ensures { λ r. ⌜ HasRoom (r .verdict) ⌝ }
     {
-        let mut journal = [0u8; RECORD];
+        let mut journal = [0u8; journal::RECORD_SIZE];
         if self.starts {
             return board::start(p, self.input, &mut journal, 0, out);
         }

@@ -10,12 +10,10 @@ ghost use Rattle.base.specs.Limits.{maxBoards};
 ghost use Rattle.costs.specs.Room.{messageLimit, journalSize, journalsSize, inputLimit};
 
 const BOARDS: usize = base::MAX_BOARDS as usize;
-// A record of a journal: its tag, a sender and a message.
-const RECORD: usize = 2 + base::MESSAGE_SIZE;
 // What sound boards send: at most seven messages a level each.
 const MESSAGES: usize = BOARDS * base::SENDING_LEVELS as usize * 7;
 // A board's journal: its start, and those messages.
-const JOURNAL: usize = RECORD * (1 + MESSAGES);
+const JOURNAL: usize = journal::RECORD_SIZE * (1 + MESSAGES);
 // The journals of all boards.
 const JOURNALS: usize = BOARDS * JOURNAL;
 // The vote's number.

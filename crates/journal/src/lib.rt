@@ -11,6 +11,9 @@ ghost use Rattle.message.specs.Reading.{messageAt};
 ghost use Rattle.journal.specs.Journal.{recordBytes};
 ghost use Rattle.journal.specs.Reading.{recordAt, withPosition, withAgreement, withMessage, withSender};
 
+// The most bytes of a record that a call writes: its tag, a sender and a message; that of a start is no longer.
+pub const RECORD_SIZE: usize = 2 + base::MESSAGE_SIZE;
+
 pub enum Record {
     Start {
         agreement: u32,
