@@ -2,9 +2,9 @@
 use mathlib.Core.Path.{_≡_, refl, sym, ap, _∙_, subst}
 use mathlib.Core.Bool.{Bool, true, false}
 use mathlib.Core.List.{List, [], _∷_, _++_}
-use Prim.Native.Nat.{ℕ, zero, suc, _+_, _-_, _*_, _/_, _%_, _<_, _≤_, _^_, max}
+use Prim.Native.Nat.{ℕ, zero, suc, _+_, _-_, _*_, _/_, _%_, _<_, _≤_, max}
 use native.Mathlib.Omega.{arith}
-use native.Mathlib.Nat.{not-suc-le-zero, zero-lt-suc, le-refl, pow-suc, mod-eq-of-lt}
+use native.Mathlib.Nat.{not-suc-le-zero, zero-lt-suc, le-refl}
 use native.Mathlib.Numerals.{sub-one}
 use native.Mathlib.Decide.{decLt}
 use lib.Dec.{ltb, eqb}
@@ -119,19 +119,9 @@ pieces-most (suc f) v = by-test (ltb v 128) (pieces-most f (v / 128))
     by-test true h = omega arith
     by-test false h = omega arith
 
--- f + 1 pieces are enough for a number below 128 ^ (f + 1): one more piece changes nothing
-pub pieces-enough : (f v : ℕ) → v < 128 ^ suc f → pieces (suc f) v ≡ pieces f v
-unfolding pieces
-pieces-enough zero v h = rw (lt-ltb v 128 h) (ap (λ (x : ℕ). x ∷ []) (sym (mod-eq-of-lt h)))
-pieces-enough (suc f) v h =
-    ap (λ (l : List ℕ). pick (ltb v 128) (v ∷ []) ((v % 128 + 128) ∷ l)) (pieces-enough f (v / 128) (omega (arith, rw (pow-suc 128 (suc f)) at h)))
-
--- the length of a varint, one piece after the other
+-- one byte below 128
 pub length-last : (v : ℕ) → v < 128 → varintLength v ≡ 1
 length-last v h = ap length (pieces-last 4 v (omega arith) h)
-
-pub length-more : (v : ℕ) → 128 ≤ v → v < 2 ^ 32 → varintLength v ≡ varintLength (v / 128) + 1
-length-more v h k = ap length (pieces-more 4 v (omega arith) h) ∙ omega (arith, ap length (pieces-enough 3 (v / 128) (omega arith)))
 
 -- a varint that is read as r, within limits
 pub read-as : (low high : ℕ) (s : List ℕ) (at : ℕ) {r x : VarintRead} → varintAt s at ≡ r → within low high r ≡ x → x ≡ varintWithin low high s at

@@ -1,7 +1,14 @@
--- Reading a varint finds what is written, and nothing else.
+-- Reading a varint finds what is written, and nothing else; the table gives how long that is.
+use mathlib.Core.Path.{sym, ap}
+use Prim.Native.Nat.{ℕ, _+_}
 use native.Mathlib.Omega.{arith}
-use Rattle.varint.specs.Statement.{Reads}
+use lib.Dec.{leb}
+use lib.ListN.{length}
+use Rattle.base.specs.Pick.{pick}
+use Rattle.varint.specs.declared.Written.the-variants.{Bytes, NoRoom}
+use Rattle.varint.specs.Statement.{Reads, Sizes}
 use Rattle.varint.proofs.RoundTrip.{varint-read, varint-was-written}
+use Rattle.varint.proofs.Lengths.{table-bytes}
 
 pub reads : Reads
 reads = record {
@@ -9,4 +16,10 @@ reads = record {
   only = λ s at v next h e.
       let w = varint-was-written s at v next h e in
       (omega (arith, w .0), (omega (arith, w .1), w .2, w .3));
+}
+
+pub sizes : Sizes
+sizes = record {
+  bytes = λ v h. table-bytes v (omega arith);
+  written = λ l at v h. sym (ap (λ (k : ℕ). pick (leb (at + k) (length l)) (Bytes k) NoRoom) (table-bytes v (omega arith)));
 }

@@ -1,4 +1,5 @@
 pub mod Varint
+pub mod Table
 pub mod Writing
 pub mod Reading
 pub mod Statement

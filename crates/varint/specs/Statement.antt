@@ -1,12 +1,17 @@
--- What reading a varint finds, in terms of what is written: `reads` (proofs/Theorem.antt) proves it of the definitions of reading.
+-- What reading a varint finds and how long it is, in terms of what is written: `reads` and `sizes` (proofs/Theorem.antt) prove it.
 use mathlib.Core.Path.{_≡_}
 use mathlib.Core.List.{List, _++_}
 use Prim.Native.Nat.{ℕ, _+_, _-_, _≤_}
+use lib.Dec.{leb}
 use lib.ListN.{length, take, drop}
+use Rattle.base.specs.Pick.{pick}
 use Rattle.base.specs.Limits.{maxNumber}
 use Rattle.varint.specs.declared.VarintRead.the-variants.{Value}
+use Rattle.varint.specs.declared.Written.the-variants.{Bytes, NoRoom}
 use Rattle.varint.specs.Varint.{AllBytes, varintBytes}
+use Rattle.varint.specs.Table.{tableLength}
 use Rattle.varint.specs.Reading.{varintAt}
+use Rattle.varint.specs.Writing.{writtenOf}
 
 -- the bytes of s from `at` up to `next` are bs
 abbrev pub BytesAt : List ℕ → ℕ → ℕ → List ℕ → Type 0
@@ -17,3 +22,11 @@ pub record Reads : Type 0 where
   pub written : (v : ℕ) (p q : List ℕ) → v ≤ maxNumber → varintAt (p ++ (varintBytes v ++ q)) (length p) ≡ Value v (length p + length (varintBytes v))
   -- only what was written is read, "in the fewest bytes, at most 4,294,967,295": "80 00 is refused"
   pub only : (s : List ℕ) (at v next : ℕ) → AllBytes s → varintAt s at ≡ Value v next → (v ≤ maxNumber) × BytesAt s at next (varintBytes v)
+
+-- document 02: "those five cases, shown for every value to be the number of bytes written"
+pub record Sizes : Type 0 where
+  -- of the bytes of every value that a varint can hold
+  pub bytes : (v : ℕ) → v ≤ maxNumber → tableLength v ≡ length (varintBytes v)
+  -- of what the public writer answers: it needs room for so many bytes, and says that it wrote so many
+  pub written : (l : List ℕ) (at v : ℕ) → v ≤ maxNumber
+      → writtenOf l at (varintBytes v) ≡ pick (leb (at + tableLength v) (length l)) (Bytes (tableLength v)) NoRoom

@@ -121,17 +121,23 @@ pub fn read_within(s: &[u8], at: usize, low: u32, high: u32) -> VarintRead
     }
 }
 
-// How many bytes the varint of v has.
+// How many bytes the varint of v has: document 02's printed table, case by case.
 pub fn size(v: u32) -> usize
     ensures { λ r. ⌜ r ≡ Rattle.varint.specs.Varint.varintLength v ⌝ }
 {
-    let mut rest = v;
-    let mut k: usize = 1;
-    while PIECE <= rest {
-        rest = rest / PIECE;
-        k += 1;
+    if v <= 127 {
+        return 1;
     }
-    k
+    if v <= 16383 {
+        return 2;
+    }
+    if v <= 2097151 {
+        return 3;
+    }
+    if v <= 268435455 {
+        return 4;
+    }
+    5
 }
 
 fn write_pieces(out: &mut [u8], v: u32, left: u32) -> usize

@@ -1,32 +1,25 @@
--- `varint::size` meets its contract.
-use mathlib.Core.Path.{_≡_}
-use Prim.Native.Nat.{_+_, _≤_}
+-- `varint::size` meets its contract: in each case of the table so many bytes are written.
+use mathlib.Core.Path.{refl}
+use mathlib.Core.Logic.{inl, inr}
 use native.Mathlib.Omega.{arith}
-use Rattle.varint.specs.Varint.{varintLength}
-use Rattle.varint.proofs.Laws.{length-last, length-more, pieces-most, pieces-pos}
+use Rattle.varint.proofs.Lengths.{length-exactly}
 use Rattle.varint.proofs.size.Statement.{statement}
 use Rattle.varint.proofs.size.Tie as tie
 
-abbrev Inv-loop : tie.InvT-loop
-Inv-loop v rest₀ k₀ rest k = (rest ≤ v) × (k + varintLength rest ≡ 1 + varintLength v)
+returns : tie.Need-returns
+returns c = omega (arith, length-exactly 0 (c .before .args .v) (omega arith) (inl refl) (omega arith))
 
-abbrev μ-loop : tie.MeasureT-loop
-μ-loop v rest₀ k₀ rest k = rest
+returns-2 : tie.Need-returns-2
+returns-2 c = omega (arith, length-exactly 1 (c .before .before .args .v) (omega arith) (inr (omega arith)) (omega arith))
 
-loop-holds : tie.Need-loop-holds Inv-loop μ-loop
-loop-holds c = omega arith
+returns-3 : tie.Need-returns-3
+returns-3 c = omega (arith, length-exactly 2 (c .before .before .before .args .v) (omega arith) (inr (omega arith)) (omega arith))
 
-add-k : tie.Need-add-k Inv-loop μ-loop
-add-k c = omega (arith, pieces-pos 4 (c .before .loop .rest), pieces-most 4 (c .before .before .args .v))
+returns-4 : tie.Need-returns-4
+returns-4 c = omega (arith, length-exactly 3 (c .before .before .before .before .args .v) (omega arith) (inr (omega arith)) (omega arith))
 
-loop-less : tie.Need-loop-less Inv-loop μ-loop
-loop-less c = omega arith
-
-loop-again : tie.Need-loop-again Inv-loop μ-loop
-loop-again c = omega (arith, length-more (c .before .loop .rest) (omega arith) (omega arith))
-
-returns : tie.Need-returns Inv-loop μ-loop
-returns c = omega (arith, length-last (c .before .loop .rest) (omega arith))
+returns-5 : tie.Need-returns-5
+returns-5 c = omega (arith, length-exactly 4 (c .before .before .before .before .args .v) (omega arith) (inr (omega arith)) (omega arith))
 
 pub size-spec : {M : Type 1} → statement M
-size-spec = tie.close (tie.spec Inv-loop μ-loop loop-holds add-k loop-less loop-again returns)
+size-spec = tie.close (tie.spec returns returns-2 returns-3 returns-4 returns-5)
