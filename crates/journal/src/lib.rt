@@ -116,6 +116,13 @@ pub fn read_at(s: &[u8], at: usize) -> RecordRead
     }
 }
 
+// How many bytes a record's tag and the number after it have.
+fn head_size(tag: u32, number: u32) -> usize
+    ensures { λ k. ⌜ k ≡ length (varintBytes tag ++ varintBytes number) ⌝ }
+{
+    varint::size(tag) + varint::size(number)
+}
+
 // How many bytes a record has.
 pub fn size(r: Record) -> usize
     ensures { λ k. ⌜ k ≡ length (recordBytes r) ⌝ }
@@ -124,8 +131,8 @@ pub fn size(r: Record) -> usize
         Record::Start {
             agreement,
             position: x,
-        } => 1 + varint::size(agreement) + varint::size(x),
-        Record::Taken { sender, message: m } => 1 + varint::size(sender as u32) + message::size(m),
+        } => head_size(1, agreement) + varint::size(x),
+        Record::Taken { sender, message: m } => head_size(2, sender as u32) + message::size(m),
     }
 }
 
