@@ -1,4 +1,4 @@
-// Runs sums of document 01 ("Sums to check by hand") through the code and prints what comes of them.
+// Runs sums of document 01 ("Sums to check by hand"), and document 02's table of lengths, through the code and prints what comes of them.
 use libc::STDOUT_FILENO;
 
 fn number(n: u64) {
@@ -50,6 +50,24 @@ fn message_of(m: message::Message) -> [u8; 8] {
     b
 }
 
+// A number, how many bytes its varint has, and how many the writer wrote.
+fn length_of(v: u32) {
+    number(v as u64);
+    number(varint::size(v) as u64);
+    let mut b = [0u8; 8];
+    match varint::write(&mut b, 0, v) {
+        varint::Written::Bytes(k) => number(k as u64),
+        varint::Written::NoRoom => number(0),
+    }
+}
+
+// A case of the table: its first number and its last.
+fn lengths(first: u32, last: u32) {
+    length_of(first);
+    length_of(last);
+    line();
+}
+
 fn main() {
     bytes(varint_of(300));
     verdict(plan_reader::read(&[128, 0]));
@@ -75,4 +93,9 @@ fn main() {
     verdict(plan_reader::read(&[1, 128, 2]));
     verdict(plan_reader::read(&[3]));
     verdict(plan_reader::read(&[1, 1, 0]));
+    lengths(0, 127);
+    lengths(128, 16383);
+    lengths(16384, 2097151);
+    lengths(2097152, 268435455);
+    lengths(268435456, 4294967295);
 }

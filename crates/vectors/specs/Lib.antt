@@ -1,4 +1,5 @@
 pub mod Sums
+pub mod Lengths
 pub mod Choices
 pub mod Orders
 pub mod Parties
