@@ -1,4 +1,4 @@
-// Document 01's cases at the limits: boards, faults, vertices and width, on both implementations.
+// Cases at the limits on both implementations: document 01's boards, faults, vertices and width, document 02's lengths of varints.
 use crate::calls;
 use random_report::end;
 use random_report::number;
@@ -8,6 +8,8 @@ use random_votes_judge::judge;
 use random_votes_state::call;
 use random_votes_state::state;
 use random_votes_state::state::State;
+use second_wire::group;
+use second_wire::num;
 
 // The number and place of a refusal, or that there was none.
 fn write_result(s: &State, area: usize) {
@@ -89,4 +91,32 @@ pub fn write_plans(s: &mut State) {
     path_case(s, 256);
     range_case(s, 65535);
     range_case(s, 65536);
+}
+
+// How many bytes a number has by the library and by the second implementation, and how many the second writes.
+fn length_case(v: u32) {
+    let mut room = num::empty_room();
+    let value = v as usize;
+    let written = group::write(&mut room, 0, value);
+    text(b"bytes of");
+    number(value);
+    text(b":");
+    number(varint::size(v));
+    text(b",");
+    number(group::size(value));
+    text(b", written");
+    number(written);
+    end();
+}
+
+// A line for each side of each border.
+pub fn write_lengths() {
+    length_case(127);
+    length_case(128);
+    length_case(16383);
+    length_case(16384);
+    length_case(2097151);
+    length_case(2097152);
+    length_case(268435455);
+    length_case(268435456);
 }

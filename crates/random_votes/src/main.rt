@@ -113,6 +113,7 @@ fn main() {
     let mut out = [0u8; 2 * random_buffers::OUTGOING];
     limits::write_settings(&mut s);
     limits::write_plans(&mut s);
+    limits::write_lengths();
     run_seed(&mut s, &mut journals, &mut out, SEED);
     run_seed(&mut s, &mut journals, &mut out, OTHER_SEED);
     report::write(&s);

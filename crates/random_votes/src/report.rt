@@ -39,6 +39,38 @@ fn write_calls(s: &State) {
     row(s, b"refused by question:", state::REFUSED, 1, 22);
 }
 
+// Lengths in bytes of positions and agreement numbers, and records at the border of question 17.
+fn write_lengths(s: &State) {
+    row(
+        s,
+        b"starts by bytes of the position:",
+        state::POSITION_LENGTHS,
+        1,
+        4,
+    );
+    row(
+        s,
+        b"votes by bytes of the agreement number:",
+        state::LENGTHS,
+        1,
+        6,
+    );
+    row(
+        s,
+        b"records that filled the journal, by the same:",
+        state::FILLED,
+        1,
+        6,
+    );
+    row(
+        s,
+        b"records a byte too long for it, by the same:",
+        state::BYTE_SHORT,
+        1,
+        6,
+    );
+}
+
 // What rules did in starts and takes.
 fn write_rules(s: &State) {
     row(s, b"rules applied by boards:", state::BOARD_RULES, 1, 15);
@@ -100,6 +132,7 @@ fn write_faults(s: &State) {
 pub fn write(s: &State) {
     write_votes(s);
     write_calls(s);
+    write_lengths(s);
     write_rules(s);
     write_messages(s);
     write_cuts(s);

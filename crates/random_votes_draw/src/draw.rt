@@ -4,6 +4,7 @@ use random_votes_state::call;
 use random_votes_state::random;
 use random_votes_state::state;
 use random_votes_state::state::State;
+use second_wire::group;
 use second_wire::num;
 
 // How many boards: four in most votes, seven, or any number.
@@ -67,9 +68,15 @@ fn positions(s: &mut State, class: usize, kind: usize) -> usize {
     random::between(s, 1, 60)
 }
 
-// Small numbers, those near the largest, and those of any length.
+// The first number of so many bytes, or the last before it.
+fn beside_border(s: &mut State, bytes: usize) -> usize {
+    let first = group::piece(1, num::less(bytes, 1));
+    num::less(first, random::below(s, 2))
+}
+
+// Small numbers, those near the largest, those of any length, and those at both sides of a border between lengths.
 fn number(s: &mut State) -> usize {
-    let how = random::below(s, 4);
+    let how = random::below(s, 5);
     if how == 0 {
         return random::between(s, 4294967290, 4294967295);
     }
@@ -79,24 +86,11 @@ fn number(s: &mut State) -> usize {
     if how == 2 {
         return random::below(s, 20000);
     }
+    if how == 3 {
+        let bytes = random::between(s, 2, 5);
+        return beside_border(s, bytes);
+    }
     random::below(s, 130)
-}
-
-// How many bytes the varint of x has.
-fn varint_length(x: usize) -> usize {
-    if x < 128 {
-        return 1;
-    }
-    if x < 16384 {
-        return 2;
-    }
-    if x < 2097152 {
-        return 3;
-    }
-    if x < 268435456 {
-        return 4;
-    }
-    5
 }
 
 // What was kept of the vote before, from one place to before another, is forgotten.
@@ -134,10 +128,12 @@ fn draw_boards(s: &mut State, class: usize) {
     let n = boards(s, class);
     let t = faults(s, n);
     let number = number(s);
+    let length = group::size(number);
     state::set(s, state::BOARDS, n);
     state::set(s, state::FAULTS, t);
     state::set(s, state::NUMBER, number);
-    state::set(s, state::NUMBER_LENGTH, varint_length(number));
+    state::set(s, state::NUMBER_LENGTH, length);
+    state::count(s, num::add(state::LENGTHS, length));
     forget(s, state::SOUND, state::FIRST);
     forget(s, state::TOLD, state::TOLD + 2048);
     forget(s, state::TAKEN, state::TAKEN + 32768);
@@ -156,9 +152,21 @@ fn kind(s: &mut State, class: usize) -> usize {
     random::between(s, 1, 2)
 }
 
+// A position; on larger ranges one at a border between lengths, if it is there.
+fn near(s: &mut State, class: usize, positions: usize) -> usize {
+    if class == 60 || class == 61 {
+        let bytes = random::between(s, 2, 3);
+        let border = beside_border(s, bytes);
+        if border < positions {
+            return border;
+        }
+    }
+    random::below(s, positions)
+}
+
 // Inputs lie near one of the positions; on the widest range near its end, where levels are most.
 fn draw_inputs(s: &mut State, class: usize, positions: usize) {
-    let near = random::below(s, positions);
+    let near = near(s, class, positions);
     let apart = random::between(s, 1, 6);
     state::set(s, state::NEAR, near);
     state::set(s, state::APART, apart);

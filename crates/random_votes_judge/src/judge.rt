@@ -1,5 +1,6 @@
 // What a call did is compared, and what it leaves is kept.
 use crate::demand;
+use crate::records;
 use random_buffers::OUTGOING;
 use random_buffers::Out;
 use random_votes_seats::cuts;
@@ -9,6 +10,7 @@ use random_votes_state::pool;
 use random_votes_state::random;
 use random_votes_state::state;
 use random_votes_state::state::State;
+use second_wire::group;
 use second_wire::num;
 
 // A call on which the implementations differ.
@@ -100,7 +102,8 @@ fn after_call(s: &mut State, out: &[u8], b: usize) {
 
 // What a start leaves.
 fn after_start(s: &mut State, out: &[u8], b: usize) {
-    let position = num::less(state::get(s, state::INPUT), state::get(s, state::LOW));
+    let position = records::position(s);
+    state::count(s, num::add(state::POSITION_LENGTHS, group::size(position)));
     state::put(s, state::STARTED, b, 1);
     state::put(s, state::POSITION, b, position);
     let end = state::of(s, state::FIRST, call::USED);
@@ -201,6 +204,7 @@ pub fn judge(s: &mut State, journals: &Journals, out: &Out) {
     }
     let b = state::get(s, state::SEAT);
     let number = state::of(s, state::FIRST, call::NUMBER);
+    records::count(s, b, number);
     if number == 0 {
         after_accepted(s, out, b);
     } else {

@@ -75,12 +75,12 @@ pub fn lend_out(s: &mut State) {
     }
 }
 
-// Now and then the journal is too small, or shorter than its used length.
+// Now and then the journal has room for 0 to 10 more bytes, and 10 are the longest record's, or is shorter than its used length.
 pub fn lend_journal(s: &mut State) {
     let how = random::below(s, 128);
     let used = state::get(s, state::CALL_USED);
     if how < 4 {
-        let room = num::add(used, random::below(s, 10));
+        let room = num::add(used, random::between(s, 0, 10));
         set_room(s, room);
     }
     if how == 4 {

@@ -207,6 +207,16 @@ pub const PATIENCE: usize = 2721;
 // Whether the vote's boards are divided: most are off, that is led to result none, the others to a side.
 pub const DIVIDED: usize = 2722;
 
+// Over the whole run: starts by the length in bytes of the position; by that of the agreement number votes, records that filled the lent journal, and
+// records for which it was a byte too short.
+pub const POSITION_LENGTHS: usize = 2724;
+
+pub const LENGTHS: usize = 2728;
+
+pub const FILLED: usize = 2736;
+
+pub const BYTE_SHORT: usize = 2744;
+
 pub const OFF: usize = 2752;
 
 // The plan's bytes, and those of a plan that may be damaged.

@@ -25,7 +25,7 @@ pub struct Group {
 }
 
 // The value of byte b's piece where `pieces` stand before it; above every limit for a sixth.
-fn piece(b: usize, pieces: usize) -> usize {
+pub fn piece(b: usize, pieces: usize) -> usize {
     let low = b % 128;
     match pieces {
         0 => low,
@@ -126,6 +126,23 @@ pub fn within(bytes: &[u8], at: usize, low: usize, high: usize) -> Group {
         }
     }
     ended(g, MALFORMED)
+}
+
+// How many bytes a group has, by document 02's printed table. Writing does not ask it.
+pub fn size(value: usize) -> usize {
+    if value <= 127 {
+        return 1;
+    }
+    if value <= 16383 {
+        return 2;
+    }
+    if value <= 2097151 {
+        return 3;
+    }
+    if value <= 268435455 {
+        return 4;
+    }
+    5
 }
 
 // Writes the group of `value` at `at` and gives the place after it.

@@ -5,7 +5,7 @@ use crate::num::Room;
 // Sorts of records.
 pub const START: usize = 1;
 
-const TAKEN: usize = 2;
+pub const TAKEN: usize = 2;
 
 // Kinds of messages.
 pub const FIRST_ECHO: usize = 1;
