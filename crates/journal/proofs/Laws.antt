@@ -1,36 +1,72 @@
 -- The definitions of journal records, case by case.
-use mathlib.Core.Path.{_≡_, sym, ap}
+use mathlib.Core.Path.{_≡_, sym, ap, _∙_}
 use mathlib.Core.List.{List, _++_}
 use Prim.Native.Nat.{ℕ, _+_, _≤_, _<_}
 use native.Mathlib.Omega.{arith}
+use lib.Dec.{eqb}
 use lib.ListN.{length, length-append}
 use borrow.Author.Tests.{eq-eqb, ne-eqb}
-use Rattle.base.specs.Limits.{maxSender}
+use Rattle.base.specs.Pick.{pick}
 use Rattle.base.specs.Put.{putAt}
 use Rattle.base.proofs.Puts.{then-put}
-use Rattle.varint.specs.declared.VarintRead.{VarintRead}
-use Rattle.varint.specs.declared.VarintRead.the-variants.{Value}
 use Rattle.varint.specs.Varint.{varintBytes}
-use Rattle.varint.specs.Reading.{varintAt, varintWithin}
 use Rattle.varint.proofs.Laws.{length-last, pieces-most}
+use Rattle.format.specs.declared.Fault.{Fault}
+use Rattle.format.specs.declared.FieldRead.{FieldRead}
+use Rattle.format.specs.Format.{Format, field}
+use Rattle.format.specs.Reading.{fieldAt, Read, readAt}
+use Rattle.format.proofs.Reading.{read-on, read-fails}
+use Rattle.format.proofs.Saying.{sayRead, saying-read}
 use Rattle.message.specs.declared.Message.{Message}
+use Rattle.message.specs.declared.MessageRead.{MessageRead}
 use Rattle.message.specs.Message.{kindOf, messageBytes}
+use Rattle.message.specs.Format.{messageFormat}
+use Rattle.message.specs.Reading.{messageAt}
 use Rattle.message.proofs.Laws.{message-length, value-most}
+use Rattle.message.proofs.RoundTrip.{found-whole}
+use Rattle.message.proofs.Broken.{found-failed}
+use Rattle.journal.specs.declared.Record.{Record}
 use Rattle.journal.specs.declared.Record.the-variants.{Start, Taken}
+use Rattle.journal.specs.declared.RecordRead.{RecordRead}
 use Rattle.journal.specs.Journal.{recordBytes}
-use Rattle.journal.specs.Reading.{withAgreement, withSender, withTag, recordAt}
+use Rattle.journal.specs.Format.{startFormat, fromSender, takenFormat, recordFormat}
+use Rattle.journal.specs.Reading.{failsAs, asRead, recordAt}
 
--- a record whose tag is read as r
-pub read-record : (s : List ℕ) (at : ℕ) {r : VarintRead} → varintWithin 1 2 s at ≡ r → withTag s r ≡ recordAt s at
-unfolding recordAt
-read-record s at e = ap (withTag s) (sym e)
+-- ---- reading
+
+-- a format whose first field is read, or fails
+module _ (low high : ℕ) (rest : ℕ → Format Record) (s : List ℕ) (at : ℕ) where
+  pub read-next : {v next : ℕ} → fieldAt low high s at ≡ FieldRead.Value v next → asRead (readAt (rest v) s next) ≡ asRead (readAt (field low high rest) s at)
+  read-next e = ap asRead (sym (read-on low high rest s at e))
+
+  pub read-broken : {fault : Fault} → fieldAt low high s at ≡ FieldRead.Failed fault → failsAs fault ≡ asRead (readAt (field low high rest) s at)
+  read-broken e = ap asRead (sym (read-fails low high rest s at e))
+
+-- a taken message that is read, or fails
+module _ (b : ℕ) (s : List ℕ) (at : ℕ) where
+  pub read-taken : {m : Message} {next : ℕ} → messageAt s at ≡ MessageRead.Read m next → RecordRead.Read (Taken b m) next ≡ asRead (readAt (fromSender b) s at)
+  unfolding messageAt
+  read-taken {m} {next} e = sym (ap asRead (saying-read (Taken b) messageFormat s at) ∙ ap (λ (x : Read Message). asRead (sayRead (Taken b) x)) (found-whole (readAt messageFormat s at) m next e))
+
+  pub taken-broken : {fault : Fault} {place : ℕ} → messageAt s at ≡ MessageRead.Failed fault place → failsAs fault ≡ asRead (readAt (fromSender b) s at)
+  unfolding messageAt
+  taken-broken {fault} {place} e = sym (ap asRead (saying-read (Taken b) messageFormat s at) ∙ ap (λ (x : Read Message). asRead (sayRead (Taken b) x)) (found-failed (readAt messageFormat s at) fault place e))
 
 -- tag 1 is a start, the other a taken message
-pub tag-start : (s : List ℕ) (k at : ℕ) → k ≡ 1 → withTag s (Value k at) ≡ withAgreement s (varintAt s at)
-tag-start s k at e = rw (eq-eqb k 1 e)
+abbrev pub afterTag : ℕ → Format Record
+afterTag tag = pick (eqb tag 1) startFormat takenFormat
 
-pub tag-taken : (s : List ℕ) (k at : ℕ) → (k ≡ 1 → ⊥) → withTag s (Value k at) ≡ withSender s (varintWithin 0 maxSender s at)
-tag-taken s k at d = rw (ne-eqb k 1 d)
+pub tag-start : (k : ℕ) → k ≡ 1 → afterTag k ≡ startFormat
+tag-start k e = rw (eq-eqb k 1 e)
+
+pub tag-taken : (k : ℕ) → (k ≡ 1 → ⊥) → afterTag k ≡ takenFormat
+tag-taken k d = rw (ne-eqb k 1 d)
+
+pub read-record : (s : List ℕ) (at : ℕ) {r : RecordRead} → r ≡ asRead (readAt recordFormat s at) → r ≡ recordAt s at
+unfolding recordAt
+read-record s at e = e
+
+-- ---- lengths
 
 -- how many bytes a record has
 pub start-length : (agreement x : ℕ) → length (recordBytes (Start agreement x)) ≡ 1 + length (varintBytes agreement) + length (varintBytes x)

@@ -1,5 +1,5 @@
 pub mod Laws
 pub mod RoundTrip
-pub mod Further
+pub mod Torn
 pub mod Records
 pub mod Theorem

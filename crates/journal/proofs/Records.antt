@@ -18,7 +18,7 @@ use Rattle.journal.specs.Records.{InLimits, AllInLimits, ProperBeginning
 use Rattle.journal.specs.Statement.{Begins}
 use Rattle.journal.proofs.Laws.{start-length, taken-length}
 use Rattle.journal.proofs.RoundTrip.{record-read, record-was-written}
-use Rattle.journal.proofs.Further.{record-at-end, torn-beginning}
+use Rattle.journal.proofs.Torn.{record-at-end, torn-beginning}
 
 -- ---- the definitions case by case
 

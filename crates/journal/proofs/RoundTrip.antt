@@ -1,78 +1,123 @@
--- Writing a record and reading it are inverse.
+-- Writing a record and reading it are inverse: its format is spelled by its bytes alone.
 use mathlib.Core.Path.{_≡_, refl, sym, ap, ap₂, _∙_, subst}
-use mathlib.Core.List.{List, _++_, append-assoc}
+use mathlib.Core.List.{List, [], _++_, append-assoc, append-nil}
 use Prim.Native.Nat.{ℕ, _+_, _-_, _<_, _≤_}
 use native.Mathlib.Omega.{arith}
 use native.Mathlib.Decide.{ℕ-discrete}
-use lib.ListN.{length, take, drop, length-append}
-use Rattle.base.specs.Limits.{maxPosition, maxSender}
-use Rattle.base.proofs.Parts.{part-join}
-use Rattle.varint.specs.declared.VarintRead.{VarintRead}
-use Rattle.varint.specs.declared.VarintRead.the-variants.{Value, Short, Malformed}
+use lib.ListN.{length, take, drop}
 use Rattle.varint.specs.Varint.{AllBytes, varintBytes}
-use Rattle.varint.specs.Reading.{varintAt, varintWithin}
-use Rattle.varint.proofs.Laws.{length-last, value-within}
-use Rattle.varint.proofs.RoundTrip.{varint-read-at, varint-within-read-at, varint-was-written}
-use Rattle.message.specs.declared.Message.{Message}
-use Rattle.message.specs.declared.MessageRead.{MessageRead}
+use Rattle.varint.proofs.RoundTrip.{value-place}
+use Rattle.format.specs.declared.Fault.{Fault}
+use Rattle.format.specs.Format.{Spells}
+use Rattle.format.specs.Reading.{Read, whole, failed, readAt}
+use Rattle.format.specs.Statement.{Sensible, Reads}
+use Rattle.format.proofs.Reading.{whole-first, whole-place}
+use Rattle.format.proofs.Saying.{saying-spells, saying-spelled, saying-sensible}
+use Rattle.format.proofs.Theorem as formats
 use Rattle.message.specs.Message.{messageBytes}
-use Rattle.message.specs.Reading.{messageAt}
-use Rattle.message.proofs.RoundTrip.{message-read, message-was-written}
+use Rattle.message.specs.Format.{messageFormat}
+use Rattle.message.proofs.RoundTrip as messages
 use Rattle.journal.specs.declared.Record.{Record}
 use Rattle.journal.specs.declared.Record.the-variants.{Start, Taken}
 use Rattle.journal.specs.declared.RecordRead.{RecordRead}
 use Rattle.journal.specs.Journal.{recordBytes}
-use Rattle.journal.specs.Reading.{withPosition, withAgreement, withMessage, withSender, withTag, recordAt}
+use Rattle.journal.specs.Format.{startFormat, takenFormat, recordFormat}
+use Rattle.journal.specs.Reading.{failsAs, asRead, recordAt}
 use Rattle.journal.specs.Records.{InLimits}
-use Rattle.journal.proofs.Laws.{read-record, tag-start, tag-taken, start-length, taken-length}
+use Rattle.journal.proofs.Laws.{afterTag, tag-start, tag-taken}
+
+-- ---- the format and the bytes
+
+-- a record in its limits is spelled by its bytes
+pub spells : (r : Record) → InLimits r → Spells recordFormat (recordBytes r) r
+unfolding recordBytes
+spells (Start a x) (ha, hx) =
+    let b : List ℕ = varintBytes x in (
+      1,
+      omega arith,
+      omega arith,
+      varintBytes a ++ b,
+      append-assoc (varintBytes 1) (varintBytes a) b,
+      (a, omega arith, ha, b, refl, (x, omega arith, hx, [], sym (append-nil b), (refl, refl))),
+    )
+spells (Taken s m) (hs, (ht, hn)) =
+    let b = messageBytes m in (
+      2,
+      omega arith,
+      omega arith,
+      varintBytes s ++ b,
+      append-assoc (varintBytes 2) (varintBytes s) b,
+      (s, omega arith, hs, b, refl, saying-spells (Taken s) messageFormat b m (messages.spells m ht hn)),
+    )
+
+-- what is spelled is a record in its limits, by its bytes
+pub spelled : (bs : List ℕ) (r : Record) → Spells recordFormat bs r → InLimits r × (bs ≡ recordBytes r)
+unfolding recordBytes
+spelled bs r (k, p, q, bs1, e, g) = go (ℕ-discrete k 1)
+  where
+    Is : Record → Type 0
+    Is x = InLimits x × (bs ≡ recordBytes x)
+
+    start : k ≡ 1 → Spells startFormat bs1 r → Is r
+    start z (a, _, ha, bs2, e2, (x, _, hx, bs3, e3, (e4, o))) =
+        subst Is o (
+          (ha, hx),
+          e
+              ∙ ap₂ (λ (y w : List ℕ). y ++ w) (ap varintBytes z) (e2 ∙ ap (λ (y : List ℕ). varintBytes a ++ y) (e3 ∙ ap (λ (y : List ℕ). varintBytes x ++ y) e4 ∙ append-nil (varintBytes x)))
+              ∙ sym (append-assoc (varintBytes 1) (varintBytes a) (varintBytes x)),
+        )
+
+    taken : k ≡ 2 → Spells takenFormat bs1 r → Is r
+    taken z (s, _, hs, bs2, e2, g2) =
+        let w = saying-spelled (Taken s) messageFormat bs2 r g2 in
+        let u = messages.spelled bs2 (w .0) (w .2) in
+        subst Is (w .1) (
+          (hs, (u .0, u .1)),
+          e ∙ ap₂ (λ (y w : List ℕ). y ++ w) (ap varintBytes z) (e2 ∙ ap (λ (y : List ℕ). varintBytes s ++ y) (u .2)) ∙ sym (append-assoc (varintBytes 2) (varintBytes s) (messageBytes (w .0))),
+        )
+
+    go : Dec (k ≡ 1) → Is r
+    go (yes z) = start z (subst (λ f. Spells f bs1 r) (tag-start k z) g)
+    go (no d) = taken (omega arith) (subst (λ f. Spells f bs1 r) (tag-taken k d) g)
+
+-- the limits of every field admit a value of one byte
+pub sensible : Sensible recordFormat
+sensible = (omega arith, omega arith, omega arith, λ k _ _. go k (ℕ-discrete k 1))
+  where
+    start : Sensible startFormat
+    start = (omega arith, omega arith, omega arith, λ a _ _. (omega arith, omega arith, omega arith, λ x _ _. tt))
+
+    taken : Sensible takenFormat
+    taken = (omega arith, omega arith, omega arith, λ s _ _. saying-sensible (Taken s) messageFormat messages.sensible)
+
+    go : (k : ℕ) → Dec (k ≡ 1) → Sensible (afterTag k)
+    go k (yes z) = subst (λ f. Sensible f) (sym (tag-start k z)) start
+    go k (no d) = subst (λ f. Sensible f) (sym (tag-taken k d)) taken
+
+pub by-format : Reads recordFormat
+by-format = formats.reads recordFormat sensible
 
 -- ---- what is written is read back
 
 pub record-read : (r : Record) (p q : List ℕ) → InLimits r → recordAt (p ++ (recordBytes r ++ q)) (length p) ≡ RecordRead.Read r (length p + length (recordBytes r))
-unfolding recordBytes
-record-read (Start agreement x) p q (ha, hx) =
-    let k : List ℕ = varintBytes 1 in
-    let b : List ℕ = varintBytes agreement in
-    let c : List ℕ = varintBytes x in
-    let s : List ℕ = p ++ (((k ++ b) ++ c) ++ q) in
-    let e1 : s ≡ p ++ (k ++ (b ++ (c ++ q))) = simp append-assoc in
-    let e2 : s ≡ (p ++ k) ++ (b ++ (c ++ q)) = simp append-assoc in
-    let e3 : s ≡ ((p ++ k) ++ b) ++ (c ++ q) = simp append-assoc in
-    let n1 : length (p ++ k) ≡ length p + length k = length-append p k in
-    let n2 : length ((p ++ k) ++ b) ≡ length (p ++ k) + length b = length-append (p ++ k) b in
-    let a1 : ℕ = length p + length k in
-    let a2 : ℕ = a1 + length b in
-    let r1 = varint-within-read-at 1 2 1 s p (b ++ (c ++ q)) (length p) (omega arith) (omega arith) (omega arith) e1 refl in
-    let r2 = varint-read-at agreement s (p ++ k) (c ++ q) a1 (omega arith) e2 (omega arith) in
-    let r3 = varint-within-read-at 0 maxPosition x s ((p ++ k) ++ b) q a2 (omega arith) hx (omega arith) e3 (omega arith) in
-    sym (read-record s (length p) r1)
-    ∙ tag-start s 1 a1 refl
-    ∙ ap (withAgreement s) r2
-    ∙ ap (withPosition agreement) r3
-    ∙ ap (RecordRead.Read (Start agreement x)) (omega (arith, start-length agreement x, length-last 1 (omega arith)))
-record-read (Taken sender m) p q (hs, (ht, hn)) =
-    let k : List ℕ = varintBytes 2 in
-    let b : List ℕ = varintBytes sender in
-    let c : List ℕ = messageBytes m in
-    let s : List ℕ = p ++ (((k ++ b) ++ c) ++ q) in
-    let e1 : s ≡ p ++ (k ++ (b ++ (c ++ q))) = simp append-assoc in
-    let e2 : s ≡ (p ++ k) ++ (b ++ (c ++ q)) = simp append-assoc in
-    let e3 : s ≡ ((p ++ k) ++ b) ++ (c ++ q) = simp append-assoc in
-    let n1 : length (p ++ k) ≡ length p + length k = length-append p k in
-    let n2 : length ((p ++ k) ++ b) ≡ length (p ++ k) + length b = length-append (p ++ k) b in
-    let a1 : ℕ = length p + length k in
-    let a2 : ℕ = a1 + length b in
-    let a3 : a2 ≡ length ((p ++ k) ++ b) = omega arith in
-    let r1 = varint-within-read-at 1 2 2 s p (b ++ (c ++ q)) (length p) (omega arith) (omega arith) (omega arith) e1 refl in
-    let r2 = varint-within-read-at 0 maxSender sender s (p ++ k) (c ++ q) a1 (omega arith) hs (omega arith) e2 (omega arith) in
-    let r3 = ap₂ messageAt e3 a3 ∙ message-read m ((p ++ k) ++ b) q ht (omega arith) in
-    sym (read-record s (length p) r1)
-    ∙ tag-taken s 2 a1 (λ z. omega arith)
-    ∙ ap (withSender s) r2
-    ∙ ap (withMessage sender) r3
-    ∙ ap (RecordRead.Read (Taken sender m)) (omega (arith, taken-length sender m, length-last 2 (omega arith)))
+unfolding recordAt
+record-read r p q h = ap asRead (by-format .written (recordBytes r) r p q (spells r h))
 
 -- ---- what is read was written
+
+fails-never : (fault : Fault) (r : Record) (next : ℕ) → failsAs fault ≡ RecordRead.Read r next → ⊥
+fails-never Fault.Cut r next e = let z : _≡_ {A = ℕ} 0 1 = cc in omega arith
+fails-never Fault.CutOutside r next e = let z : _≡_ {A = ℕ} 0 1 = cc in omega arith
+fails-never Fault.Malformed r next e = let z : _≡_ {A = ℕ} 0 1 = cc in omega arith
+fails-never Fault.Outside r next e = let z : _≡_ {A = ℕ} 0 1 = cc in omega arith
+fails-never Fault.Spare r next e = let z : _≡_ {A = ℕ} 0 1 = cc in omega arith
+
+found-whole : (x : Read Record) (r : Record) (next : ℕ) → asRead x ≡ RecordRead.Read r next → x ≡ whole r next
+found-whole (whole y n) r next e =
+    let ey : y ≡ r = cc in
+    let en : n ≡ next = cc in
+    ap₂ whole ey en
+found-whole (failed fault at) r next e = absurd (fails-never fault r next e)
 
 -- r, in its limits, stands from `at` to `next`
 pub record Written (s : List ℕ) (at : ℕ) (r : Record) (next : ℕ) : Type 0 where
@@ -81,76 +126,23 @@ pub record Written (s : List ℕ) (at : ℕ) (r : Record) (next : ℕ) : Type 0 
   pub inside : next ≤ length s
   pub bytes : take (next - at) (drop at s) ≡ recordBytes r
 
-module _ (s : List ℕ) (h : AllBytes s) (at a k : ℕ) (e : varintAt s at ≡ Value k a) where
-  start-written : (n b x c : ℕ) → k ≡ 1 → varintAt s a ≡ Value n b → varintWithin 0 maxPosition s b ≡ Value x c → Written s at (Start n x) c
-  unfolding recordBytes
-  start-written n b x c z f g =
-      let l = value-within 0 maxPosition s b x c g in
-      let u = varint-was-written s at k a h e in
-      let v = varint-was-written s a n b h f in
-      let w = varint-was-written s b x c h (l .2) in
-      record {
-        limits = (omega (arith, v .0), l .1);
-        longer = omega (arith, u .1, v .1, w .1);
-        inside = w .2;
-        bytes = part-join s at b c (omega (arith, u .1, v .1)) (omega (arith, w .1))
-            (part-join s at a b (omega (arith, u .1)) (omega (arith, v .1)) (u .3 ∙ ap varintBytes z) (v .3)) (w .3);
-      }
+module _ (s : List ℕ) (at : ℕ) (r : Record) (next : ℕ) where
+  by-reading : recordAt s at ≡ RecordRead.Read r next → readAt recordFormat s at ≡ whole r next
+  unfolding recordAt
+  by-reading e = found-whole (readAt recordFormat s at) r next e
 
-  taken-written : (b n : ℕ) (m : Message) (c : ℕ) → k ≡ 2 → varintWithin 0 maxSender s a ≡ Value b n → messageAt s n ≡ MessageRead.Read m c → Written s at (Taken b m) c
-  unfolding recordBytes
-  taken-written b n m c z f g =
-      let l = value-within 0 maxSender s a b n f in
-      let u = varint-was-written s at k a h e in
-      let v = varint-was-written s a b n h (l .2) in
-      let w = message-was-written s n m c h g in
-      record {
-        limits = (l .1, (w .0, omega (arith, w .1)));
-        longer = omega (arith, u .1, v .1, w .2);
-        inside = w .3;
-        bytes = part-join s at n c (omega (arith, u .1, v .1)) (omega (arith, w .2))
-            (part-join s at a n (omega (arith, u .1)) (omega (arith, v .1)) (u .3 ∙ ap varintBytes z) (v .3)) (w .4);
-      }
+  -- a record that is read ends past its first byte and within the bytes
+  pub record-place : recordAt s at ≡ RecordRead.Read r next → (at < next) × (next ≤ length s)
+  record-place e =
+      let w = whole-first 1 2 afterTag s at r next (by-reading e) in
+      let p = value-place 5 s at (w .0) (w .1) (w .4) in
+      let q = whole-place (afterTag (w .0)) s (w .1) r next (p .1) (w .5) in
+      (omega (arith, p .0, q .0), q .1)
 
--- what is read as r is the record r, in its limits
-pub record-was-written : (s : List ℕ) (at : ℕ) (r : Record) (next : ℕ) → AllBytes s → recordAt s at ≡ RecordRead.Read r next → Written s at r next
-record-was-written s at r next h e = by-tag (varintWithin 1 2 s at) refl (read-record s at refl ∙ e)
-  where
-    same : (x : Record) (n : ℕ) → RecordRead.Read x n ≡ RecordRead.Read r next → Written s at x n → Written s at r next
-    same x n f w =
-        let ex : x ≡ r = cc in
-        let en : n ≡ next = cc in
-        subst (λ (y : ℕ). Written s at r y) en (subst (λ (y : Record). Written s at y n) ex w)
-
-    by-position : (k a n b : ℕ) → varintAt s at ≡ Value k a → k ≡ 1 → varintAt s a ≡ Value n b
-        → (v : VarintRead) → varintWithin 0 maxPosition s b ≡ v → withPosition n v ≡ RecordRead.Read r next → Written s at r next
-    by-position k a n b f z g (Value x c) i j = same (Start n x) c j (start-written s h at a k f n b x c z g i)
-    by-position k a n b f z g (Short least) i j = let z : _≡_ {A = ℕ} 0 1 = cc in absurd (omega arith)
-    by-position k a n b f z g Malformed i j = let z : _≡_ {A = ℕ} 0 1 = cc in absurd (omega arith)
-
-    by-agreement : (k a : ℕ) → varintAt s at ≡ Value k a → k ≡ 1 → (v : VarintRead) → varintAt s a ≡ v → withAgreement s v ≡ RecordRead.Read r next → Written s at r next
-    by-agreement k a f z (Value n b) g i = by-position k a n b f z g (varintWithin 0 maxPosition s b) refl i
-    by-agreement k a f z (Short least) g i = let z : _≡_ {A = ℕ} 0 1 = cc in absurd (omega arith)
-    by-agreement k a f z Malformed g i = let z : _≡_ {A = ℕ} 0 1 = cc in absurd (omega arith)
-
-    by-message : (k a b n : ℕ) → varintAt s at ≡ Value k a → k ≡ 2 → varintWithin 0 maxSender s a ≡ Value b n
-        → (v : MessageRead) → messageAt s n ≡ v → withMessage b v ≡ RecordRead.Read r next → Written s at r next
-    by-message k a b n f z g (MessageRead.Read m c) i j = same (Taken b m) c j (taken-written s h at a k f b n m c z g i)
-    by-message k a b n f z g MessageRead.Short i j = let z : _≡_ {A = ℕ} 0 1 = cc in absurd (omega arith)
-    by-message k a b n f z g MessageRead.Bad i j = let z : _≡_ {A = ℕ} 0 1 = cc in absurd (omega arith)
-
-    by-sender : (k a : ℕ) → varintAt s at ≡ Value k a → k ≡ 2 → (v : VarintRead) → varintWithin 0 maxSender s a ≡ v → withSender s v ≡ RecordRead.Read r next → Written s at r next
-    by-sender k a f z (Value b n) g i = by-message k a b n f z g (messageAt s n) refl i
-    by-sender k a f z (Short least) g i = let z : _≡_ {A = ℕ} 0 1 = cc in absurd (omega arith)
-    by-sender k a f z Malformed g i = let z : _≡_ {A = ℕ} 0 1 = cc in absurd (omega arith)
-
-    by-tag : (v : VarintRead) → varintWithin 1 2 s at ≡ v → withTag s v ≡ RecordRead.Read r next → Written s at r next
-    by-tag (Value k a) f g = go (ℕ-discrete k 1)
-      where
-        go : Dec (k ≡ 1) → Written s at r next
-        go (yes z) = by-agreement k a (value-within 1 2 s at k a f .2) z (varintAt s a) refl (sym (tag-start s k a z) ∙ g)
-        go (no d) =
-            let w = value-within 1 2 s at k a f in
-            by-sender k a (w .2) (omega (arith, w .0, w .1)) (varintWithin 0 maxSender s a) refl (sym (tag-taken s k a d) ∙ g)
-    by-tag (Short least) f g = let z : _≡_ {A = ℕ} 0 1 = cc in absurd (omega arith)
-    by-tag Malformed f g = let z : _≡_ {A = ℕ} 0 1 = cc in absurd (omega arith)
+  -- what is read as r is the record r, in its limits
+  pub record-was-written : AllBytes s → recordAt s at ≡ RecordRead.Read r next → Written s at r next
+  record-was-written h e =
+      let p = record-place e in
+      let w = by-format .only s at r next h (omega (arith, p .0, p .1)) (by-reading e) in
+      let b = spelled (w .0) r (w .1) in
+      record { limits = b .0; longer = p .0; inside = p .1; bytes = w .2 .2 ∙ b .1 }

@@ -3,7 +3,7 @@ use mathlib.Core.Path.{refl}
 use native.Mathlib.Omega.{arith}
 use Rattle.journal.specs.Statement.{Reads}
 use Rattle.journal.proofs.RoundTrip.{record-read, record-was-written}
-use Rattle.journal.proofs.Further.{torn-beginning, torn-is-beginning}
+use Rattle.journal.proofs.Torn.{torn-beginning, torn-is-beginning}
 use Rattle.journal.proofs.Records.{journal-torn-read, bytes-begin}
 
 pub reads : Reads

@@ -1,4 +1,5 @@
 pub mod Journal
 pub mod Records
+pub mod Format
 pub mod Reading
 pub mod Statement

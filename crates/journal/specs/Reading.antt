@@ -1,45 +1,28 @@
--- Reading a record, left to right, and the records of given bytes. `Reads` (Statement.antt) says what is found, so that nobody needs to believe these definitions.
+-- Reading a record by its format, and the records of given bytes. `Reads` (Statement.antt) says what is found, so that nobody needs to believe these definitions.
 use mathlib.Core.List.{List, _∷_}
 use Prim.Native.Nat.{ℕ, zero, suc}
-use lib.Dec.{eqb}
-use Rattle.base.specs.Pick.{pick}
-use Rattle.base.specs.Limits.{maxPosition, maxSender}
-use Rattle.varint.specs.declared.VarintRead.{VarintRead}
-use Rattle.varint.specs.Reading.{varintAt, varintWithin}
-use Rattle.message.specs.declared.MessageRead.{MessageRead}
-use Rattle.message.specs.Reading.{messageAt}
+use Rattle.format.specs.declared.Fault.{Fault}
+use Rattle.format.specs.Reading.{Read, whole, failed, readAt}
 use Rattle.journal.specs.declared.Record.{Record}
-use Rattle.journal.specs.declared.Record.the-variants.{Start, Taken}
 use Rattle.journal.specs.declared.RecordRead.{RecordRead}
+use Rattle.journal.specs.Format.{recordFormat}
 
-abbrev pub withPosition : ℕ → VarintRead → RecordRead
-withPosition a (VarintRead.Value x next) = RecordRead.Read (Start a x) next
-withPosition a (VarintRead.Short least) = RecordRead.Torn
-withPosition a VarintRead.Malformed = RecordRead.Bad
+-- "A torn last record, one that only further bytes could make whole": the fault decides, and not a refusal's number
+abbrev pub failsAs : Fault → RecordRead
+failsAs Fault.Cut = RecordRead.Torn
+failsAs Fault.CutOutside = RecordRead.Bad
+failsAs Fault.Malformed = RecordRead.Bad
+failsAs Fault.Outside = RecordRead.Bad
+failsAs Fault.Spare = RecordRead.Bad
 
-abbrev pub withAgreement : List ℕ → VarintRead → RecordRead
-withAgreement s (VarintRead.Value a at) = withPosition a (varintWithin 0 maxPosition s at)
-withAgreement s (VarintRead.Short least) = RecordRead.Torn
-withAgreement s VarintRead.Malformed = RecordRead.Bad
-
-abbrev pub withMessage : ℕ → MessageRead → RecordRead
-withMessage b (MessageRead.Read m next) = RecordRead.Read (Taken b m) next
-withMessage b MessageRead.Short = RecordRead.Torn
-withMessage b MessageRead.Bad = RecordRead.Bad
-
-abbrev pub withSender : List ℕ → VarintRead → RecordRead
-withSender s (VarintRead.Value b at) = withMessage b (messageAt s at)
-withSender s (VarintRead.Short least) = RecordRead.Torn
-withSender s VarintRead.Malformed = RecordRead.Bad
-
-abbrev pub withTag : List ℕ → VarintRead → RecordRead
-withTag s (VarintRead.Value k at) = pick (eqb k 1) (withAgreement s (varintAt s at)) (withSender s (varintWithin 0 maxSender s at))
-withTag s (VarintRead.Short least) = RecordRead.Torn
-withTag s VarintRead.Malformed = RecordRead.Bad
+-- what the format finds, as the reader answers it
+abbrev pub asRead : Read Record → RecordRead
+asRead (whole r next) = RecordRead.Read r next
+asRead (failed fault at) = failsAs fault
 
 -- the record that stands at `at`
 unfoldable pub recordAt : List ℕ → ℕ → RecordRead
-recordAt s at = withTag s (varintWithin 1 2 s at)
+recordAt s at = asRead (readAt recordFormat s at)
 
 abbrev pub withRecord : RecordRead → List Record → (Record → ℕ → List Record) → List Record
 withRecord (RecordRead.Read r next) rs more = more r next

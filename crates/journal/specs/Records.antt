@@ -1,9 +1,8 @@
 -- Whole journals: the bytes of a list of records, and the limits of a record.
-use mathlib.Core.Path.{_≡_}
 use mathlib.Core.List.{List, [], _∷_, _++_}
-use Prim.Native.Nat.{ℕ, _<_, _≤_}
-use lib.ListN.{length}
+use Prim.Native.Nat.{ℕ, _≤_}
 use Rattle.base.specs.Limits.{maxNumber, maxPosition, maxSender}
+use Rattle.varint.specs.Statement.{Beginning}
 use Rattle.message.specs.Message.{InLimits as MessageInLimits}
 use Rattle.journal.specs.declared.Record.{Record}
 use Rattle.journal.specs.declared.Record.the-variants.{Start, Taken}
@@ -20,7 +19,7 @@ AllInLimits (r ∷ rs) = InLimits r × AllInLimits rs
 
 -- tail is a beginning of the record's bytes, perhaps empty, and not all of them
 abbrev pub ProperBeginning : Record → List ℕ → Type 0
-ProperBeginning r tail = (rest : List ℕ) × (0 < length rest) × (tail ++ rest ≡ recordBytes r)
+ProperBeginning r tail = Beginning (recordBytes r) tail
 
 -- the bytes of the records, the latest first in the list and last in the bytes
 unfoldable pub journalBytes : List Record → List ℕ

@@ -4,12 +4,11 @@ ghost use mathlib.Core.List.{_++_};
 ghost use Prim.Native.Nat.{_+_, _≤_};
 ghost use lib.ListN.{length};
 ghost use Rattle.base.specs.Put.{putAt};
-ghost use Rattle.base.specs.Limits.{maxPosition, maxSender};
 ghost use Rattle.varint.specs.Varint.{varintBytes};
-ghost use Rattle.varint.specs.Reading.{varintAt, varintWithin};
-ghost use Rattle.message.specs.Reading.{messageAt};
+ghost use Rattle.format.specs.Reading.{readAt};
 ghost use Rattle.journal.specs.Journal.{recordBytes};
-ghost use Rattle.journal.specs.Reading.{recordAt, withPosition, withAgreement, withMessage, withSender};
+ghost use Rattle.journal.specs.Format.{fromAgreement, startFormat, fromSender, takenFormat};
+ghost use Rattle.journal.specs.Reading.{failsAs, asRead, recordAt};
 
 // The most bytes of a record that a call writes: its tag, a sender and a message; that of a start is no longer.
 pub const RECORD_SIZE: usize = 2 + base::MESSAGE_SIZE;
@@ -32,12 +31,25 @@ pub enum RecordRead {
     Bad,
 }
 
+// A record that fails by this fault: torn where further bytes could make it whole.
+fn failing(fault: format::Fault) -> RecordRead
+    ensures { λ r. ⌜ r ≡ failsAs fault ⌝ }
+{
+    match fault {
+        format::Fault::Cut => RecordRead::Torn,
+        format::Fault::CutOutside => RecordRead::Bad,
+        format::Fault::Malformed => RecordRead::Bad,
+        format::Fault::Outside => RecordRead::Bad,
+        format::Fault::Spare => RecordRead::Bad,
+    }
+}
+
 // The position at `at` of a start's record with this agreement number.
 fn read_position(s: &[u8], at: usize, agreement: u32) -> RecordRead
-    ensures { λ r. ⌜ r ≡ withPosition agreement (varintWithin 0 maxPosition (now (s .entry)) at) ⌝ }
+    ensures { λ r. ⌜ r ≡ asRead (readAt (fromAgreement agreement) (now (s .entry)) at) ⌝ }
 {
-    match varint::read_within(s, at, 0, base::MAX_POSITION) {
-        varint::VarintRead::Value {
+    match format::read_field(s, at, 0, base::MAX_POSITION) {
+        format::FieldRead::Value {
             value: x,
             next: end,
         } => RecordRead::Read {
@@ -47,28 +59,26 @@ fn read_position(s: &[u8], at: usize, agreement: u32) -> RecordRead
             },
             next: end,
         },
-        varint::VarintRead::Short { least: _ } => RecordRead::Torn,
-        varint::VarintRead::Malformed => RecordRead::Bad,
+        format::FieldRead::Failed(fault) => failing(fault),
     }
 }
 
 // A start's record after its tag.
 fn read_start(s: &[u8], at: usize) -> RecordRead
-    ensures { λ r. ⌜ r ≡ withAgreement (now (s .entry)) (varintAt (now (s .entry)) at) ⌝ }
+    ensures { λ r. ⌜ r ≡ asRead (readAt startFormat (now (s .entry)) at) ⌝ }
 {
-    match varint::read(s, at) {
-        varint::VarintRead::Value {
+    match format::read_field(s, at, 0, base::MAX_NUMBER) {
+        format::FieldRead::Value {
             value: agreement,
             next,
         } => read_position(s, next, agreement),
-        varint::VarintRead::Short { least: _ } => RecordRead::Torn,
-        varint::VarintRead::Malformed => RecordRead::Bad,
+        format::FieldRead::Failed(fault) => failing(fault),
     }
 }
 
 // The message at `at` of a record with this sender.
 fn read_message(s: &[u8], at: usize, sender: u8) -> RecordRead
-    ensures { λ r. ⌜ r ≡ withMessage sender (messageAt (now (s .entry)) at) ⌝ }
+    ensures { λ r. ⌜ r ≡ asRead (readAt (fromSender sender) (now (s .entry)) at) ⌝ }
 {
     match message::read_at(s, at) {
         message::MessageRead::Read {
@@ -81,22 +91,20 @@ fn read_message(s: &[u8], at: usize, sender: u8) -> RecordRead
             },
             next: end,
         },
-        message::MessageRead::Short => RecordRead::Torn,
-        message::MessageRead::Bad => RecordRead::Bad,
+        message::MessageRead::Failed { fault, at: _ } => failing(fault),
     }
 }
 
 // The record of a taken message after its tag.
 fn read_taken(s: &[u8], at: usize) -> RecordRead
-    ensures { λ r. ⌜ r ≡ withSender (now (s .entry)) (varintWithin 0 maxSender (now (s .entry)) at) ⌝ }
+    ensures { λ r. ⌜ r ≡ asRead (readAt takenFormat (now (s .entry)) at) ⌝ }
 {
-    match varint::read_within(s, at, 0, base::MAX_SENDER) {
-        varint::VarintRead::Value {
+    match format::read_field(s, at, 0, base::MAX_SENDER) {
+        format::FieldRead::Value {
             value: sender,
             next,
         } => read_message(s, next, sender as u8),
-        varint::VarintRead::Short { least: _ } => RecordRead::Torn,
-        varint::VarintRead::Malformed => RecordRead::Bad,
+        format::FieldRead::Failed(fault) => failing(fault),
     }
 }
 
@@ -104,15 +112,14 @@ fn read_taken(s: &[u8], at: usize) -> RecordRead
 pub fn read_at(s: &[u8], at: usize) -> RecordRead
     ensures { λ r. ⌜ r ≡ recordAt (now (s .entry)) at ⌝ }
 {
-    match varint::read_within(s, at, 1, 2) {
-        varint::VarintRead::Value { value: k, next } => {
+    match format::read_field(s, at, 1, 2) {
+        format::FieldRead::Value { value: k, next } => {
             if k == 1 {
                 return read_start(s, next);
             }
             read_taken(s, next)
         }
-        varint::VarintRead::Short { least: _ } => RecordRead::Torn,
-        varint::VarintRead::Malformed => RecordRead::Bad,
+        format::FieldRead::Failed(fault) => failing(fault),
     }
 }
 

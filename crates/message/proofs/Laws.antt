@@ -9,20 +9,23 @@ use lib.ListN.{length, length-append}
 use borrow.Author.Tests.{lt-leb, le-leb, eq-eqb, ne-eqb}
 use Rattle.base.specs.Pick.{pick}
 use Rattle.base.specs.Put.{putAt}
-use Rattle.varint.specs.declared.VarintRead.{VarintRead}
 use Rattle.varint.specs.Varint.{varintBytes}
-use Rattle.varint.specs.Reading.{varintAt, varintWithin}
 use Rattle.varint.proofs.Laws.{pieces-most}
+use Rattle.format.specs.declared.Fault.{Fault}
+use Rattle.format.specs.declared.FieldRead.{FieldRead}
+use Rattle.format.specs.Format.{Format, says, field}
+use Rattle.format.specs.Reading.{fieldAt, readAt}
+use Rattle.format.proofs.Reading.{read-on, read-fails}
 use Rattle.message_values.specs.Values.{valueLow, valueHigh}
 use Rattle.message.specs.declared.Body.{Body}
 use Rattle.message.specs.declared.Body.the-variants.{FirstEcho, FirstProposal, SecondEcho, SecondProposal, Side, Centre}
 use Rattle.message.specs.declared.Message.{Message}
-use Rattle.message.specs.declared.BodyRead.{BodyRead}
 use Rattle.message.specs.declared.MessageRead.{MessageRead}
 use Rattle.message.specs.declared.Exactly.{Exactly}
 use Rattle.message.specs.declared.MessageWritten.{MessageWritten}
 use Rattle.message.specs.Message.{maxValue, noneValue, kindOf, valueBytes, bodyInTable, inTable, messageBytes}
-use Rattle.message.specs.Reading.{valueOf, bodyAt, withValue, messageAt, withNumber, exactly, exactMessage}
+use Rattle.message.specs.Format.{valueOf, bodyOf, fromKind, messageFormat}
+use Rattle.message.specs.Reading.{asRead, messageAt, exactly, exactMessage}
 use Rattle.message.specs.Writing.{writeAnswer, writeBuffer}
 
 -- ---- a body by its kind and value
@@ -69,18 +72,12 @@ table-rest b d h = table-with b d ∙ ap (λ (x : Bool). x && leb (valueOf b) (v
 
 -- ---- reading
 
-pub body-without : (s : List ℕ) (at k : ℕ) → k ≡ 6 → bodyAt s at k ≡ BodyRead.Read Centre at
-unfolding bodyAt
-body-without s at k e = rw (eq-eqb k 6 e)
+-- the value's field: none for a centre
+pub kind-without : (n l k : ℕ) → k ≡ 6 → fromKind n l k ≡ says (record { number = n; level = l; body = Centre })
+kind-without n l k e = rw (eq-eqb k 6 e)
 
-pub body-with : (s : List ℕ) (at k : ℕ) → (k ≡ 6 → ⊥) → bodyAt s at k ≡ withValue k (varintWithin (valueLow k) (valueHigh k) s at)
-unfolding bodyAt
-body-with s at k d = rw (ne-eqb k 6 d)
-
--- a value that is read as r within its kind's limits
-pub read-value : (s : List ℕ) (at k : ℕ) {low high : ℕ} {r : VarintRead} → (k ≡ 6 → ⊥) → low ≡ valueLow k → high ≡ valueHigh k → r ≡ varintWithin low high s at
-    → withValue k r ≡ bodyAt s at k
-read-value s at k d el eh e = ap (withValue k) (e ∙ ap₂ (λ (x y : ℕ). varintWithin x y s at) el eh) ∙ sym (body-with s at k d)
+pub kind-with : (n l k : ℕ) → (k ≡ 6 → ⊥) → fromKind n l k ≡ field (valueLow k) (valueHigh k) (λ v. says (record { number = n; level = l; body = bodyOf k v }))
+kind-with n l k d = rw (ne-eqb k 6 d)
 
 pub high-most : (k : ℕ) → valueHigh k ≤ noneValue
 high-most k = go (eqb k 2) (eqb k 5)
@@ -90,10 +87,46 @@ high-most k = go (eqb k 2) (eqb k 5)
     go false true = omega arith
     go false false = omega arith
 
--- a message that is read as r
-pub read-message : (s : List ℕ) (at : ℕ) {r : VarintRead} → varintAt s at ≡ r → withNumber s r ≡ messageAt s at
+pub low-high : (k : ℕ) → (valueLow k ≤ valueHigh k) × (valueLow k < 128)
+low-high k = go (eqb k 2) (eqb k 5)
+  where
+    go : (a b : Bool) → (pick b 1 0 ≤ pick a maxValue (pick b maxValue noneValue)) × (pick b 1 0 < 128)
+    go true true = (omega arith, omega arith)
+    go true false = (omega arith, omega arith)
+    go false true = (omega arith, omega arith)
+    go false false = (omega arith, omega arith)
+
+-- a format whose first field is read, or fails
+module _ (low high : ℕ) (rest : ℕ → Format Message) (s : List ℕ) (at : ℕ) where
+  pub read-next : {v next : ℕ} → fieldAt low high s at ≡ FieldRead.Value v next → asRead (readAt (rest v) s next) ≡ asRead (readAt (field low high rest) s at)
+  read-next e = ap asRead (sym (read-on low high rest s at e))
+
+  pub read-broken : {fault : Fault} → fieldAt low high s at ≡ FieldRead.Failed fault → MessageRead.Failed fault at ≡ asRead (readAt (field low high rest) s at)
+  read-broken e = ap asRead (sym (read-fails low high rest s at e))
+
+-- the same of a value, with its kind's limits
+module _ (n l k : ℕ) (s : List ℕ) (at : ℕ) {low high : ℕ} (d : k ≡ 6 → ⊥) (el : low ≡ valueLow k) (eh : high ≡ valueHigh k) where
+  limits : {r : FieldRead} → fieldAt low high s at ≡ r → fieldAt (valueLow k) (valueHigh k) s at ≡ r
+  limits e = ap₂ (λ (x y : ℕ). fieldAt x y s at) (sym el) (sym eh) ∙ e
+
+  pub value-next : {v next : ℕ} → fieldAt low high s at ≡ FieldRead.Value v next
+      → MessageRead.Read (record { number = n; level = l; body = bodyOf k v }) next ≡ asRead (readAt (fromKind n l k) s at)
+  value-next e =
+      read-next (valueLow k) (valueHigh k) (λ v. says (record { number = n; level = l; body = bodyOf k v })) s at (limits e)
+      ∙ ap (λ f. asRead (readAt f s at)) (sym (kind-with n l k d))
+
+  pub value-broken : {fault : Fault} → fieldAt low high s at ≡ FieldRead.Failed fault → MessageRead.Failed fault at ≡ asRead (readAt (fromKind n l k) s at)
+  value-broken e =
+      read-broken (valueLow k) (valueHigh k) (λ v. says (record { number = n; level = l; body = bodyOf k v })) s at (limits e)
+      ∙ ap (λ f. asRead (readAt f s at)) (sym (kind-with n l k d))
+
+-- a centre
+pub value-none : (n l k : ℕ) (s : List ℕ) (at : ℕ) → k ≡ 6 → MessageRead.Read (record { number = n; level = l; body = Centre }) at ≡ asRead (readAt (fromKind n l k) s at)
+value-none n l k s at e = ap (λ f. asRead (readAt f s at)) (sym (kind-without n l k e))
+
+pub read-message : (s : List ℕ) (at : ℕ) {r : MessageRead} → r ≡ asRead (readAt messageFormat s at) → r ≡ messageAt s at
 unfolding messageAt
-read-message s at e = ap (withNumber s) (sym e)
+read-message s at e = e
 
 pub read-exactly : (s : List ℕ) {r : MessageRead} → messageAt s 0 ≡ r → exactly s r ≡ exactMessage s
 unfolding exactMessage
@@ -102,7 +135,7 @@ read-exactly s e = ap (exactly s) (sym e)
 pub exactly-one : (s : List ℕ) (m : Message) (next : ℕ) → next ≡ length s → exactly s (MessageRead.Read m next) ≡ Exactly.One m
 exactly-one s m next e = rw (eq-eqb next (length s) e)
 
-pub exactly-more : (s : List ℕ) (m : Message) (next : ℕ) → (next ≡ length s → ⊥) → exactly s (MessageRead.Read m next) ≡ Exactly.Refused
+pub exactly-more : (s : List ℕ) (m : Message) (next : ℕ) → (next ≡ length s → ⊥) → exactly s (MessageRead.Read m next) ≡ Exactly.Broken Fault.Spare next
 exactly-more s m next d = rw (ne-eqb next (length s) d)
 
 -- ---- writing

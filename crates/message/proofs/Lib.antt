@@ -1,4 +1,4 @@
 pub mod Laws
 pub mod RoundTrip
-pub mod Further
+pub mod Broken
 pub mod Theorem

@@ -1,4 +1,4 @@
--- Writing a message and reading it are inverse.
+-- Writing a message and reading it are inverse: its format is spelled by its bytes alone.
 use mathlib.Core.Path.{_≡_, refl, sym, ap, ap₂, _∙_, subst}
 use mathlib.Core.Bool.{Bool, true, false, _&&_}
 use mathlib.Core.List.{List, [], _++_, append-assoc, append-nil}
@@ -6,27 +6,31 @@ use Prim.Native.Nat.{ℕ, zero, suc, _+_, _-_, _<_, _≤_, _^_}
 use native.Mathlib.Omega.{arith}
 use native.Mathlib.Decide.{ℕ-discrete}
 use lib.Dec.{T, leb, eqb, leb→le}
-use lib.ListN.{length, take, drop, length-append}
+use lib.ListN.{length, take, drop}
 use borrow.Author.Tests.{eqb-true, le-leb}
 use Rattle.base.specs.Pick.{pick}
+use Rattle.base.specs.Limits.{maxNumber}
 use Rattle.base.proofs.Bools.{T-left, T-right, T→true, true→T}
-use Rattle.base.proofs.Parts.{part-none, part-all, part-join}
-use Rattle.varint.specs.declared.VarintRead.{VarintRead}
-use Rattle.varint.specs.declared.VarintRead.the-variants.{Value, Short, Malformed}
+use Rattle.base.proofs.Parts.{part-all}
 use Rattle.varint.specs.Varint.{AllBytes, varintBytes}
-use Rattle.varint.specs.Reading.{varintAt, varintWithin}
-use Rattle.varint.proofs.Laws.{length-last, pieces-most, value-within}
-use Rattle.varint.proofs.RoundTrip.{varint-read-at, varint-within-read-at, varint-was-written, value-place}
+use Rattle.varint.proofs.Laws.{length-last, pieces-most}
+use Rattle.varint.proofs.RoundTrip.{value-place}
+use Rattle.format.specs.declared.Fault.{Fault}
+use Rattle.format.specs.Format.{Spells}
+use Rattle.format.specs.Reading.{Read, whole, failed, readAt}
+use Rattle.format.specs.Statement.{Sensible, Reads}
+use Rattle.format.proofs.Reading.{whole-spelled, whole-place, whole-first}
+use Rattle.format.proofs.Theorem as formats
 use Rattle.message_values.specs.Values.{valueLow, valueHigh}
 use Rattle.message.specs.declared.Body.{Body}
 use Rattle.message.specs.declared.Body.the-variants.{FirstEcho, FirstProposal, SecondEcho, SecondProposal, Side, Centre}
 use Rattle.message.specs.declared.Message.{Message}
-use Rattle.message.specs.declared.BodyRead.{BodyRead}
 use Rattle.message.specs.declared.MessageRead.{MessageRead}
 use Rattle.message.specs.declared.Exactly.{Exactly}
 use Rattle.message.specs.Message.{lastLevel, kindOf, valueBytes, bodyInTable, inTable, messageBytes}
-use Rattle.message.specs.Reading.{valueOf, bodyOf, bodyAt, withValue, withBody, withKind, withLevel, withNumber, messageAt, exactly, exactMessage}
-use Rattle.message.proofs.Laws.{bytes-with, bytes-without, table-with, body-with, body-without, high-most, read-message, read-exactly, exactly-one, message-length}
+use Rattle.message.specs.Format.{valueOf, bodyOf, fromKind, fromNumber, messageFormat}
+use Rattle.message.specs.Reading.{asRead, messageAt, exactly, exactMessage}
+use Rattle.message.proofs.Laws.{bytes-with, bytes-without, table-with, kind-without, kind-with, high-most, low-high, read-exactly, exactly-one, message-length}
 
 -- ---- the table
 
@@ -84,203 +88,166 @@ table-parts m e =
 pub parts-table : (m : Message) → m .level ≤ lastLevel → bodyInTable (m .body) ≡ true → inTable m ≡ true
 parts-table m l e = ap₂ (λ (x y : Bool). x && y) (le-leb (m .level) lastLevel l) e
 
--- ---- what is written is read back
+-- ---- the format and the bytes
 
-pub body-read : (b : Body) (s p q : List ℕ) (at : ℕ) → bodyInTable b ≡ true → s ≡ p ++ (valueBytes b ++ q) → at ≡ length p
-    → bodyAt s at (kindOf b) ≡ BodyRead.Read b (at + length (valueBytes b))
-body-read b s p q at t es ea = go (ℕ-discrete (kindOf b) 6)
+joined : (n l k v : List ℕ) → ((n ++ l) ++ k) ++ v ≡ n ++ (l ++ (k ++ v))
+joined n l k v = simp append-assoc
+
+-- a value that is spelled, after number n, level l and kind k
+record Said (n l k : ℕ) (bs : List ℕ) (m : Message) : Type 0 where
+  number : n ≡ m .number
+  level : l ≡ m .level
+  kind : k ≡ kindOf (m .body)
+  table : bodyInTable (m .body) ≡ true
+  bytes : bs ≡ valueBytes (m .body)
+
+value-said : (n l k : ℕ) → 1 ≤ k → k ≤ 6 → (bs : List ℕ) (m : Message) → Spells (fromKind n l k) bs m → Said n l k bs m
+value-said n l k p q bs m g = go (ℕ-discrete k 6)
   where
-    go : Dec (kindOf b ≡ 6) → bodyAt s at (kindOf b) ≡ BodyRead.Read b (at + length (valueBytes b))
-    go (yes e) = body-without s at (kindOf b) e ∙ ap₂ BodyRead.Read (sym (centre-only b e)) (omega (arith, ap length (bytes-without b e)))
+    go : Dec (k ≡ 6) → Said n l k bs m
+    go (yes z) =
+        let s = subst (λ f. Spells f bs m) (kind-without n l k z) g in
+        let e = s .1 in
+        let b : Centre ≡ m .body = ap (λ (x : Message). x .body) e in
+        record {
+          number = ap (λ (x : Message). x .number) e;
+          level = ap (λ (x : Message). x .level) e;
+          kind = z ∙ ap kindOf b;
+          table = ap bodyInTable (sym b);
+          bytes = s .0 ∙ ap valueBytes b;
+        }
     go (no d) =
-        let l = value-limits b d t in
-        let eb : valueBytes b ≡ varintBytes (valueOf b) = bytes-with b d in
-        body-with s at (kindOf b) d
-        ∙ ap (withValue (kindOf b)) (varint-within-read-at (valueLow (kindOf b)) (valueHigh (kindOf b)) (valueOf b) s p q at (l .0) (l .1) (omega (arith, l .1, high-most (kindOf b)))
-        (es ∙ ap (λ (x : List ℕ). p ++ (x ++ q)) eb) ea)
-        ∙ ap₂ BodyRead.Read (body-same b) (ap (λ (x : List ℕ). at + length x) (sym eb))
+        let s = subst (λ f. Spells f bs m) (kind-with n l k d) g in
+        let v : ℕ = s .0 in
+        let e = s .5 .1 in
+        let b : bodyOf k v ≡ m .body = ap (λ (x : Message). x .body) e in
+        let i = made-of k v p (omega arith) in
+        let ek : kindOf (m .body) ≡ k = ap kindOf (sym b) ∙ i .0 in
+        let ev : valueOf (m .body) ≡ v = ap valueOf (sym b) ∙ i .1 in
+        let c : kindOf (m .body) ≡ 6 → ⊥ = λ z. d (sym ek ∙ z) in
+        record {
+          number = ap (λ (x : Message). x .number) e;
+          level = ap (λ (x : Message). x .level) e;
+          kind = sym ek;
+          table = in-limits (m .body) c (omega (arith, ap valueLow ek, s .1, ev)) (omega (arith, ap valueHigh ek, s .2, ev));
+          bytes = s .4 ∙ ap (λ (x : List ℕ). varintBytes v ++ x) (s .5 .0) ∙ append-nil (varintBytes v) ∙ ap varintBytes (sym ev) ∙ sym (bytes-with (m .body) c);
+        }
 
-pub message-read : (m : Message) (p q : List ℕ) → inTable m ≡ true → m .number < 2 ^ 32
-    → messageAt (p ++ (messageBytes m ++ q)) (length p) ≡ MessageRead.Read m (length p + length (messageBytes m))
+-- what is spelled is a message of the table, by its bytes
+pub spelled : (bs : List ℕ) (m : Message) → Spells messageFormat bs m → (inTable m ≡ true) × (m .number ≤ maxNumber) × (bs ≡ messageBytes m)
 unfolding messageBytes
-message-read m p q t h =
+spelled bs m (n, p0, p1, bs1, e1, (l, q0, q1, bs2, e2, (k, r0, r1, bs3, e3, g))) =
+    let s = value-said n l k r0 r1 bs3 m g in (
+      parts-table m (omega (arith, s .level)) (s .table),
+      omega (arith, s .number),
+      e1
+          ∙ ap₂ (λ (x y : List ℕ). x ++ y) (ap varintBytes (s .number))
+          (e2 ∙ ap₂ (λ (x y : List ℕ). x ++ y) (ap varintBytes (s .level)) (e3 ∙ ap₂ (λ (x y : List ℕ). x ++ y) (ap varintBytes (s .kind)) (s .bytes)))
+          ∙ sym (joined (varintBytes (m .number)) (varintBytes (m .level)) (varintBytes (kindOf (m .body))) (valueBytes (m .body))),
+    )
+
+-- a message of the table is spelled by its bytes
+pub spells : (m : Message) → inTable m ≡ true → m .number ≤ maxNumber → Spells messageFormat (messageBytes m) m
+unfolding messageBytes
+spells m t h =
+    let w = table-parts m t in
+    let c = kind-limits (m .body) in
     let n : List ℕ = varintBytes (m .number) in
     let l : List ℕ = varintBytes (m .level) in
     let k : List ℕ = varintBytes (kindOf (m .body)) in
     let v : List ℕ = valueBytes (m .body) in
-    let s : List ℕ = p ++ ((((n ++ l) ++ k) ++ v) ++ q) in
-    let e1 : s ≡ p ++ (n ++ (l ++ (k ++ (v ++ q)))) = simp append-assoc in
-    let e2 : s ≡ (p ++ n) ++ (l ++ (k ++ (v ++ q))) = simp append-assoc in
-    let e3 : s ≡ ((p ++ n) ++ l) ++ (k ++ (v ++ q)) = simp append-assoc in
-    let e4 : s ≡ (((p ++ n) ++ l) ++ k) ++ (v ++ q) = simp append-assoc in
-    let n1 : length (p ++ n) ≡ length p + length n = length-append p n in
-    let n2 : length ((p ++ n) ++ l) ≡ length (p ++ n) + length l = length-append (p ++ n) l in
-    let n3 : length (((p ++ n) ++ l) ++ k) ≡ length ((p ++ n) ++ l) + length k = length-append ((p ++ n) ++ l) k in
-    let a1 : ℕ = length p + length n in
-    let a2 : ℕ = a1 + length l in
-    let a3 : ℕ = a2 + length k in
-    let w = table-parts m t in
-    let c = kind-limits (m .body) in
-    let r1 = varint-read-at (m .number) s p (l ++ (k ++ (v ++ q))) (length p) h e1 refl in
-    let r2 = varint-within-read-at 0 lastLevel (m .level) s (p ++ n) (k ++ (v ++ q)) a1 (omega arith) (w .0) (omega (arith, w .0)) e2 (omega arith) in
-    let r3 = varint-within-read-at 1 6 (kindOf (m .body)) s ((p ++ n) ++ l) (v ++ q) a2 (c .0) (c .1) (omega (arith, c .1)) e3 (omega arith) in
-    let r4 = body-read (m .body) s (((p ++ n) ++ l) ++ k) q a3 (w .1) e4 (omega arith) in
-    sym (read-message s (length p) r1)
-    ∙ ap (withLevel s (m .number)) r2
-    ∙ ap (withKind s (m .number) (m .level)) r3
-    ∙ ap (withBody (m .number) (m .level)) r4
-    ∙ ap (MessageRead.Read m) (omega (arith, message-length m))
+    (m .number, omega arith, h, l ++ (k ++ v), joined n l k v, (m .level, omega arith, w .0, k ++ v, refl, (kindOf (m .body), c .0, c .1, v, refl, value (m .body) (w .1) refl)))
+  where
+    value : (b : Body) → bodyInTable b ≡ true → b ≡ m .body → Spells (fromKind (m .number) (m .level) (kindOf b)) (valueBytes b) m
+    value b u e = go (ℕ-discrete (kindOf b) 6)
+      where
+        go : Dec (kindOf b ≡ 6) → Spells (fromKind (m .number) (m .level) (kindOf b)) (valueBytes b) m
+        go (yes z) =
+            let o : Centre ≡ m .body = sym (centre-only b z) ∙ e in
+            subst (λ f. Spells f (valueBytes b) m) (sym (kind-without (m .number) (m .level) (kindOf b) z))
+            (bytes-without b z, ap (λ (x : Body). record { number = m .number; level = m .level; body = x }) o)
+        go (no d) =
+            let i = value-limits b d u in
+            let o : bodyOf (kindOf b) (valueOf b) ≡ m .body = body-same b ∙ e in
+            subst (λ f. Spells f (valueBytes b) m) (sym (kind-with (m .number) (m .level) (kindOf b) d))
+            (valueOf b, i .0, i .1, [], bytes-with b d ∙ sym (append-nil (varintBytes (valueOf b))), (refl, ap (λ (x : Body). record { number = m .number; level = m .level; body = x }) o))
+
+-- the limits of every field admit a value of one byte
+pub sensible : Sensible messageFormat
+sensible = (
+  omega arith,
+  omega arith,
+  omega arith,
+  λ n _ _. (omega arith, omega arith, omega arith, λ l _ _. (omega arith, omega arith, omega arith, λ k _ _. value n l k (ℕ-discrete k 6))),
+)
+  where
+    value : (n l k : ℕ) → Dec (k ≡ 6) → Sensible (fromKind n l k)
+    value n l k (yes z) = subst (λ f. Sensible f) (sym (kind-without n l k z)) tt
+    value n l k (no d) = subst (λ f. Sensible f) (sym (kind-with n l k d)) (low-high k .1, low-high k .0, omega (arith, high-most k), λ v _ _. tt)
+
+pub by-format : Reads messageFormat
+by-format = formats.reads messageFormat sensible
+
+-- ---- what is written is read back
+
+pub message-read : (m : Message) (p q : List ℕ) → inTable m ≡ true → m .number < 2 ^ 32
+    → messageAt (p ++ (messageBytes m ++ q)) (length p) ≡ MessageRead.Read m (length p + length (messageBytes m))
+unfolding messageAt
+message-read m p q t h = ap asRead (by-format .written (messageBytes m) m p q (spells m t (omega arith)))
 
 -- ---- what is read was written
 
--- a body that is read: its kind, that it is in the table, and where its value stands
-pub record BodyParts (s : List ℕ) (at k : ℕ) (b : Body) (next : ℕ) : Type 0 where
-  pub kind : kindOf b ≡ k
-  pub table : bodyInTable b ≡ true
-  pub without : k ≡ 6 → next ≡ at
-  pub with-value : (k ≡ 6 → ⊥) → varintAt s at ≡ Value (valueOf b) next
+-- what the format finds where a message is read
+pub found-whole : (r : Read Message) (m : Message) (next : ℕ) → asRead r ≡ MessageRead.Read m next → r ≡ whole m next
+found-whole (whole x n) m next e =
+    let ex : x ≡ m = cc in
+    let en : n ≡ next = cc in
+    ap₂ whole ex en
+found-whole (failed fault at) m next e = let z : _≡_ {A = ℕ} 0 1 = cc in absurd (omega arith)
 
-pub body-parts : (s : List ℕ) (at k : ℕ) (b : Body) (next : ℕ) → 1 ≤ k → k ≤ 6 → bodyAt s at k ≡ BodyRead.Read b next → BodyParts s at k b next
-body-parts s at k b next p q e = go (ℕ-discrete k 6)
-  where
-    value : (k ≡ 6 → ⊥) → (r : VarintRead) → varintWithin (valueLow k) (valueHigh k) s at ≡ r → withValue k r ≡ BodyRead.Read b next → BodyParts s at k b next
-    value d (Value v n) f g =
-        let w = value-within (valueLow k) (valueHigh k) s at v n f in
-        let eb : bodyOf k v ≡ b = cc in
-        let en : n ≡ next = cc in
-        let i = made-of k v p (omega arith) in
-        let ek : kindOf b ≡ k = ap kindOf (sym eb) ∙ i .0 in
-        let ev : valueOf b ≡ v = ap valueOf (sym eb) ∙ i .1 in
-        record {
-          kind = ek;
-          table = in-limits b (λ z. d (sym ek ∙ z)) (omega (arith, ap valueLow ek, w .0, ev)) (omega (arith, ap valueHigh ek, w .1, ev));
-          without = λ z. absurd (d z);
-          with-value = λ z. w .2 ∙ ap₂ Value (sym ev) en;
-        }
-    value d (Short least) f g = let z : _≡_ {A = ℕ} 0 1 = cc in absurd (omega arith)
-    value d Malformed f g = let z : _≡_ {A = ℕ} 0 1 = cc in absurd (omega arith)
+module _ (s : List ℕ) (at : ℕ) (m : Message) (next : ℕ) (e : messageAt s at ≡ MessageRead.Read m next) where
+  by-reading : readAt messageFormat s at ≡ whole m next
+  unfolding messageAt
+  by-reading = found-whole (readAt messageFormat s at) m next e
 
-    go : Dec (k ≡ 6) → BodyParts s at k b next
-    go (yes z) =
-        let f : BodyRead.Read Centre at ≡ BodyRead.Read b next = sym (body-without s at k z) ∙ e in
-        let eb : Centre ≡ b = cc in
-        let en : at ≡ next = cc in
-        record { kind = ap kindOf (sym eb) ∙ sym z; table = ap bodyInTable (sym eb); without = λ _. sym en; with-value = λ d. absurd (d z) }
-    go (no d) = value d (varintWithin (valueLow k) (valueHigh k) s at) refl (sym (body-with s at k d) ∙ e)
+  -- it ends past its first byte and within the bytes
+  pub message-place : (at < next) × (next ≤ length s)
+  message-place =
+      let w = whole-first 0 maxNumber fromNumber s at m next by-reading in
+      let p = value-place 5 s at (w .0) (w .1) (w .4) in
+      let q = whole-place (fromNumber (w .0)) s (w .1) m next (p .1) (w .5) in
+      (omega (arith, p .0, q .0), q .1)
 
--- a message that is read: the places after its number, level and kind, and what stands before each
-pub record MessageParts (s : List ℕ) (at : ℕ) (m : Message) (next : ℕ) : Type 0 where
-  pub level-at : ℕ
-  pub kind-at : ℕ
-  pub body-at : ℕ
-  pub number-read : varintAt s at ≡ Value (m .number) level-at
-  pub level-read : varintWithin 0 lastLevel s level-at ≡ Value (m .level) kind-at
-  pub kind-read : varintWithin 1 6 s kind-at ≡ Value (kindOf (m .body)) body-at
-  pub body : BodyParts s body-at (kindOf (m .body)) (m .body) next
-
-pub message-parts : (s : List ℕ) (at : ℕ) (m : Message) (next : ℕ) → messageAt s at ≡ MessageRead.Read m next → MessageParts s at m next
-unfolding messageAt
-message-parts s at m next e = by-number (varintAt s at) refl e
-  where
-    by-body : (n l a b c k : ℕ) → varintAt s at ≡ Value n a → varintWithin 0 lastLevel s a ≡ Value l b → varintWithin 1 6 s b ≡ Value k c
-        → (r : BodyRead) → bodyAt s c k ≡ r → withBody n l r ≡ MessageRead.Read m next → MessageParts s at m next
-    by-body n l a b c k en el ek (BodyRead.Read x d) f g =
-        let i : n ≡ m .number = ap (λ (z : Message). z .number) (read-same g) in
-        let j : l ≡ m .level = ap (λ (z : Message). z .level) (read-same g) in
-        let o : x ≡ m .body = ap (λ (z : Message). z .body) (read-same g) in
-        let z : d ≡ next = cc in
-        let w = value-within 1 6 s b k c ek in
-        let u : BodyParts s c k (m .body) next = body-parts s c k (m .body) next (w .0) (w .1) (f ∙ ap₂ BodyRead.Read o z) in
-        record {
-          level-at = a;
-          kind-at = b;
-          body-at = c;
-          number-read = en ∙ ap (λ (y : ℕ). Value y a) i;
-          level-read = el ∙ ap (λ (y : ℕ). Value y b) j;
-          kind-read = ek ∙ ap (λ (y : ℕ). Value y c) (sym (u .kind));
-          body = subst (λ (y : ℕ). BodyParts s c y (m .body) next) (sym (u .kind)) u;
-        }
-      where
-        read-same : {x y : Message} {d n : ℕ} → MessageRead.Read x d ≡ MessageRead.Read y n → x ≡ y
-        read-same g = cc
-    by-body n l a b c k en el ek BodyRead.Short f g = let z : _≡_ {A = ℕ} 0 1 = cc in absurd (omega arith)
-    by-body n l a b c k en el ek BodyRead.Bad f g = let z : _≡_ {A = ℕ} 0 1 = cc in absurd (omega arith)
-
-    by-kind : (n l a b : ℕ) → varintAt s at ≡ Value n a → varintWithin 0 lastLevel s a ≡ Value l b
-        → (r : VarintRead) → varintWithin 1 6 s b ≡ r → withKind s n l r ≡ MessageRead.Read m next → MessageParts s at m next
-    by-kind n l a b en el (Value k c) f g = by-body n l a b c k en el f (bodyAt s c k) refl g
-    by-kind n l a b en el (Short least) f g = let z : _≡_ {A = ℕ} 0 1 = cc in absurd (omega arith)
-    by-kind n l a b en el Malformed f g = let z : _≡_ {A = ℕ} 0 1 = cc in absurd (omega arith)
-
-    by-level : (n a : ℕ) → varintAt s at ≡ Value n a → (r : VarintRead) → varintWithin 0 lastLevel s a ≡ r → withLevel s n r ≡ MessageRead.Read m next → MessageParts s at m next
-    by-level n a en (Value l b) f g = by-kind n l a b en f (varintWithin 1 6 s b) refl g
-    by-level n a en (Short least) f g = let z : _≡_ {A = ℕ} 0 1 = cc in absurd (omega arith)
-    by-level n a en Malformed f g = let z : _≡_ {A = ℕ} 0 1 = cc in absurd (omega arith)
-
-    by-number : (r : VarintRead) → varintAt s at ≡ r → withNumber s r ≡ MessageRead.Read m next → MessageParts s at m next
-    by-number (Value n a) f g = by-level n a f (varintWithin 0 lastLevel s a) refl g
-    by-number (Short least) f g = let z : _≡_ {A = ℕ} 0 1 = cc in absurd (omega arith)
-    by-number Malformed f g = let z : _≡_ {A = ℕ} 0 1 = cc in absurd (omega arith)
-
-module _ {s : List ℕ} {at : ℕ} {m : Message} {next : ℕ} (r : MessageParts s at m next) where
-  -- its places follow each other, within the bytes
-  pub message-places : (at < r .level-at) × (r .level-at < r .kind-at) × (r .kind-at < r .body-at) × (r .body-at ≤ next) × (next ≤ length s)
-  message-places =
-      let n = value-place 5 s at (m .number) (r .level-at) (r .number-read) in
-      let l = value-place 5 s (r .level-at) (m .level) (r .kind-at) (value-within 0 lastLevel s (r .level-at) (m .level) (r .kind-at) (r .level-read) .2) in
-      let k = value-place 5 s (r .kind-at) (kindOf (m .body)) (r .body-at) (value-within 1 6 s (r .kind-at) (kindOf (m .body)) (r .body-at) (r .kind-read) .2) in
-      let b = go (ℕ-discrete (kindOf (m .body)) 6) in
-      (n .0, l .0, k .0, b .0, b .1 (k .1))
-    where
-      go : Dec (kindOf (m .body) ≡ 6) → (r .body-at ≤ next) × (r .body-at ≤ length s → next ≤ length s)
-      go (yes e) = let f : next ≡ r .body-at = r .body .without e in (omega arith, λ h. omega arith)
-      go (no d) =
-          let v = value-place 5 s (r .body-at) (valueOf (m .body)) next (r .body .with-value d) in
-          (omega (arith, v .0), λ h. v .1)
-
+  -- it is in the table
   pub message-table : inTable m ≡ true
-  message-table = parts-table m (value-within 0 lastLevel s (r .level-at) (m .level) (r .kind-at) (r .level-read) .1) (r .body .table)
+  message-table = let w = whole-spelled messageFormat s at m next by-reading in spelled (w .0) m (w .1) .0
 
-  -- its bytes
-  pub message-bytes-read : AllBytes s → (m .number < 2 ^ 32) × (take (next - at) (drop at s) ≡ messageBytes m)
-  unfolding messageBytes
-  message-bytes-read h =
-      let p = message-places in
-      let n = varint-was-written s at (m .number) (r .level-at) h (r .number-read) in
-      let l = varint-was-written s (r .level-at) (m .level) (r .kind-at) h (value-within 0 lastLevel s (r .level-at) (m .level) (r .kind-at) (r .level-read) .2) in
-      let k = varint-was-written s (r .kind-at) (kindOf (m .body)) (r .body-at) h (value-within 1 6 s (r .kind-at) (kindOf (m .body)) (r .body-at) (r .kind-read) .2) in
-      let nl = part-join s at (r .level-at) (r .kind-at) (omega (arith, p .0)) (omega (arith, p .1)) (n .3) (l .3) in
-      let nlk = part-join s at (r .kind-at) (r .body-at) (omega (arith, p .0, p .1)) (omega (arith, p .2)) nl (k .3) in
-      (n .0, part-join s at (r .body-at) next (omega (arith, p .0, p .1, p .2)) (p .3) nlk (value h (ℕ-discrete (kindOf (m .body)) 6)))
-    where
-      value : AllBytes s → Dec (kindOf (m .body) ≡ 6) → take (next - r .body-at) (drop (r .body-at) s) ≡ valueBytes (m .body)
-      value h (yes e) = ap (λ (x : ℕ). take (x - r .body-at) (drop (r .body-at) s)) (r .body .without e) ∙ part-none s (r .body-at) ∙ sym (bytes-without (m .body) e)
-      value h (no d) = varint-was-written s (r .body-at) (valueOf (m .body)) next h (r .body .with-value d) .3 ∙ sym (bytes-with (m .body) d)
-
--- what is read as m is the message m, which is in the table
-pub message-was-written : (s : List ℕ) (at : ℕ) (m : Message) (next : ℕ) → AllBytes s → messageAt s at ≡ MessageRead.Read m next
-    → (inTable m ≡ true) × (m .number < 2 ^ 32) × (at < next) × (next ≤ length s) × (take (next - at) (drop at s) ≡ messageBytes m)
-message-was-written s at m next h e =
-    let r = message-parts s at m next e in
-    let b = message-bytes-read r h in
-    let p = message-places r in
-    (message-table r, b .0, omega (arith, p .0, p .1, p .2, p .3), p .4, b .1)
+  -- what is read as m is the message m, which is in the table
+  pub message-was-written : AllBytes s → (inTable m ≡ true) × (m .number < 2 ^ 32) × (at < next) × (next ≤ length s) × (take (next - at) (drop at s) ≡ messageBytes m)
+  message-was-written h =
+      let p = message-place in
+      let w = by-format .only s at m next h (omega (arith, p .0, p .1)) by-reading in
+      let b = spelled (w .0) m (w .1) in
+      (b .0, omega (arith, b .1), p .0, p .1, w .2 .2 ∙ b .2)
 
 -- ---- bytes that are exactly one message
 
 exactly-inverse : (s : List ℕ) (r : MessageRead) (m : Message) → exactly s r ≡ Exactly.One m → r ≡ MessageRead.Read m (length s)
 exactly-inverse s (MessageRead.Read x next) m e = go (eqb next (length s)) refl e
   where
-    go : (b : Bool) → eqb next (length s) ≡ b → pick b (Exactly.One x) Exactly.Refused ≡ Exactly.One m → MessageRead.Read x next ≡ MessageRead.Read m (length s)
+    go : (b : Bool) → eqb next (length s) ≡ b → pick b (Exactly.One x) (Exactly.Broken Fault.Spare next) ≡ Exactly.One m → MessageRead.Read x next ≡ MessageRead.Read m (length s)
     go true p e = let f : x ≡ m = cc in ap₂ MessageRead.Read f (eqb-true next (length s) p)
     go false p e = let z : _≡_ {A = ℕ} 0 1 = cc in absurd (omega arith)
-exactly-inverse s MessageRead.Short m e = let z : _≡_ {A = ℕ} 0 1 = cc in absurd (omega arith)
-exactly-inverse s MessageRead.Bad m e = let z : _≡_ {A = ℕ} 0 1 = cc in absurd (omega arith)
+exactly-inverse s (MessageRead.Failed fault at) m e = let z : _≡_ {A = ℕ} 0 1 = cc in absurd (omega arith)
+
+-- it is read from the first byte on
+pub exact-message-at : (s : List ℕ) (m : Message) → exactMessage s ≡ Exactly.One m → messageAt s 0 ≡ MessageRead.Read m (length s)
+unfolding exactMessage
+exact-message-at s m e = exactly-inverse s (messageAt s 0) m e
 
 pub exact-message-written : (s : List ℕ) (m : Message) → AllBytes s → exactMessage s ≡ Exactly.One m → (inTable m ≡ true) × (m .number < 2 ^ 32) × (s ≡ messageBytes m)
-unfolding exactMessage
 exact-message-written s m h e =
-    let r = message-was-written s 0 m (length s) h (exactly-inverse s (messageAt s 0) m e) in
+    let r = message-was-written s 0 m (length s) (exact-message-at s m e) h in
     (r .0, r .1, sym (part-all s) ∙ r .4)
 
 pub exact-message-read : (m : Message) → inTable m ≡ true → m .number < 2 ^ 32 → exactMessage (messageBytes m) ≡ Exactly.One m

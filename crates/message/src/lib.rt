@@ -5,9 +5,11 @@ ghost use Prim.Native.Nat.{_+_, _≤_, _<_};
 ghost use mathlib.Core.Bool.{Bool, true, false};
 ghost use lib.ListN.{length};
 ghost use Rattle.base.specs.Put.{putAt};
-ghost use Rattle.varint.specs.Reading.{varintWithin};
-ghost use Rattle.message.specs.Message.{lastLevel, kindOf, valueBytes, messageBytes, inTable, bodyInTable};
-ghost use Rattle.message.specs.Reading.{bodyOf, bodyAt, withBody, withKind, withLevel, messageAt, exactMessage, valueOf};
+ghost use Rattle.format.specs.Reading.{readAt};
+ghost use Rattle.message.specs.Message.{kindOf, valueBytes, messageBytes, inTable, bodyInTable};
+ghost use Rattle.message.specs.Format.{bodyOf, valueOf, fromKind, fromLevel, fromNumber};
+ghost use Rattle.message.specs.Reading.{asRead, messageAt, exactMessage};
+ghost use Rattle.message.specs.Refusals.{refusalNumber};
 ghost use Rattle.message.specs.Writing.{writeAnswer, writeBuffer};
 
 // The value that stands for none.
@@ -28,23 +30,16 @@ pub struct Message {
     pub body: Body,
 }
 
-// What reading a body, or a message, finds: it and the place past it; that only further bytes could make it whole; or neither.
-pub enum BodyRead {
-    Read { body: Body, next: usize },
-    Short,
-    Bad,
-}
-
+// What reading a message finds: it and the place past it, or what is wrong and the first byte of the field that fails.
 pub enum MessageRead {
     Read { message: Message, next: usize },
-    Short,
-    Bad,
+    Failed { fault: format::Fault, at: usize },
 }
 
-// Bytes that are exactly one message, or not.
+// Bytes that are exactly one message, or what is wrong with them, and where.
 pub enum Exactly {
     One(Message),
-    Refused,
+    Broken { fault: format::Fault, at: usize },
 }
 
 // What writing a message did.
@@ -98,69 +93,53 @@ fn body_of(kind: u32, v: u8) -> Body
     }
 }
 
-// The body that stands at `at`, after its kind.
-fn read_body(s: &[u8], at: usize, kind: u32) -> BodyRead
-    ensures { λ r. ⌜ r ≡ bodyAt (now (s .entry)) at kind ⌝ }
+// The rest of a message, from its value at `at` on: none for a centre.
+fn read_value(s: &[u8], at: usize, number: u32, level: u8, kind: u32) -> MessageRead
+    ensures { λ r. ⌜ r ≡ asRead (readAt (fromKind number level kind) (now (s .entry)) at) ⌝ }
 {
     if kind == 6 {
-        return BodyRead::Read {
+        let m = Message {
+            number: number,
+            level: level,
             body: Body::Centre,
+        };
+        return MessageRead::Read {
+            message: m,
             next: at,
         };
     }
     let low = message_values::value_low(kind);
     let high = message_values::value_high(kind);
-    match varint::read_within(s, at, low, high) {
-        varint::VarintRead::Value { value: v, next } => BodyRead::Read {
-            body: body_of(kind, v as u8),
-            next,
-        },
-        varint::VarintRead::Short { least: _ } => BodyRead::Short,
-        varint::VarintRead::Malformed => BodyRead::Bad,
-    }
-}
-
-// A message of this number and level with the body that was read.
-fn with_body(number: u32, level: u8, b: BodyRead) -> MessageRead
-    ensures { λ r. ⌜ r ≡ withBody number level b ⌝ }
-{
-    match b {
-        BodyRead::Read { body, next } => {
+    match format::read_field(s, at, low, high) {
+        format::FieldRead::Value { value: v, next } => {
             let m = Message {
                 number: number,
                 level: level,
-                body: body,
+                body: body_of(kind, v as u8),
             };
             MessageRead::Read { message: m, next }
         }
-        BodyRead::Short => MessageRead::Short,
-        BodyRead::Bad => MessageRead::Bad,
+        format::FieldRead::Failed(fault) => MessageRead::Failed { fault, at },
     }
 }
 
 // The rest of a message, from its kind at `at` on.
 fn read_kind(s: &[u8], at: usize, number: u32, level: u8) -> MessageRead
-    ensures { λ r. ⌜ r ≡ withKind (now (s .entry)) number level (varintWithin 1 6 (now (s .entry)) at) ⌝ }
+    ensures { λ r. ⌜ r ≡ asRead (readAt (fromLevel number level) (now (s .entry)) at) ⌝ }
 {
-    match varint::read_within(s, at, 1, 6) {
-        varint::VarintRead::Value { value: kind, next } => with_body(
-            number,
-            level,
-            read_body(s, next, kind),
-        ),
-        varint::VarintRead::Short { least: _ } => MessageRead::Short,
-        varint::VarintRead::Malformed => MessageRead::Bad,
+    match format::read_field(s, at, 1, 6) {
+        format::FieldRead::Value { value: kind, next } => read_value(s, next, number, level, kind),
+        format::FieldRead::Failed(fault) => MessageRead::Failed { fault, at },
     }
 }
 
-// The rest of a message, from its level at `at` on.
-fn read_level(s: &[u8], at: usize, number: u32) -> MessageRead
-    ensures { λ r. ⌜ r ≡ withLevel (now (s .entry)) number (varintWithin 0 lastLevel (now (s .entry)) at) ⌝ }
+// The rest of a message, from its level at `from` on.
+fn read_level(s: &[u8], from: usize, number: u32) -> MessageRead
+    ensures { λ r. ⌜ r ≡ asRead (readAt (fromNumber number) (now (s .entry)) from) ⌝ }
 {
-    match varint::read_within(s, at, 0, base::LAST_LEVEL) {
-        varint::VarintRead::Value { value: level, next } => read_kind(s, next, number, level as u8),
-        varint::VarintRead::Short { least: _ } => MessageRead::Short,
-        varint::VarintRead::Malformed => MessageRead::Bad,
+    match format::read_field(s, from, 0, base::LAST_LEVEL) {
+        format::FieldRead::Value { value: level, next } => read_kind(s, next, number, level as u8),
+        format::FieldRead::Failed(fault) => MessageRead::Failed { fault, at: from },
     }
 }
 
@@ -168,13 +147,12 @@ fn read_level(s: &[u8], at: usize, number: u32) -> MessageRead
 pub fn read_at(s: &[u8], at: usize) -> MessageRead
     ensures { λ r. ⌜ r ≡ messageAt (now (s .entry)) at ⌝ }
 {
-    match varint::read(s, at) {
-        varint::VarintRead::Value {
+    match format::read_field(s, at, 0, base::MAX_NUMBER) {
+        format::FieldRead::Value {
             value: number,
             next,
         } => read_level(s, next, number),
-        varint::VarintRead::Short { least: _ } => MessageRead::Short,
-        varint::VarintRead::Malformed => MessageRead::Bad,
+        format::FieldRead::Failed(fault) => MessageRead::Failed { fault, at },
     }
 }
 
@@ -187,10 +165,25 @@ pub fn read(s: &[u8]) -> Exactly
             if next == s.len() {
                 return Exactly::One(m);
             }
-            Exactly::Refused
+            Exactly::Broken {
+                fault: format::Fault::Spare,
+                at: next,
+            }
         }
-        MessageRead::Short => Exactly::Refused,
-        MessageRead::Bad => Exactly::Refused,
+        MessageRead::Failed { fault, at } => Exactly::Broken { fault, at },
+    }
+}
+
+// The refusal of bytes with this fault: document 02's numbers.
+pub fn refusal_number(fault: format::Fault) -> u8
+    ensures { λ r. ⌜ r ≡ refusalNumber fault ⌝ }
+{
+    match fault {
+        format::Fault::Cut => 15,
+        format::Fault::CutOutside => 15,
+        format::Fault::Malformed => 22,
+        format::Fault::Outside => 23,
+        format::Fault::Spare => 24,
     }
 }
 

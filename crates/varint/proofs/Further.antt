@@ -1,6 +1,5 @@
 -- Reading with further bytes: what was read stays, and what was short can be made whole.
 use mathlib.Core.Path.{_≡_, refl, sym, ap, ap₂, _∙_, subst, subst₂}
-use mathlib.Core.Logic.{_⊎_, inl, inr}
 use mathlib.Core.List.{List, [], _∷_, _++_}
 use Prim.Native.Nat.{ℕ, zero, suc, _+_, _-_, _*_, _<_, _≤_, max}
 use native.Mathlib.Omega.{arith}
@@ -12,9 +11,8 @@ use lib.Seq.{getD-at}
 use Rattle.varint.specs.declared.VarintRead.{VarintRead}
 use Rattle.varint.specs.declared.VarintRead.the-variants.{Value, Short, Malformed}
 use Rattle.varint.specs.Varint.{AllBytes}
-use Rattle.varint.specs.Reading.{piecesAt, prefixed, within, varintAt, varintWithin}
-use Rattle.varint.proofs.RoundTrip.{value-place}
-use Rattle.varint.proofs.Laws.{at-none, at-end, at-last, at-more, prefixed-none, prefixed-large, prefixed-value, prefixed-short, prefixed-short-large, prefixed-short-inverse, within-short-inverse, within-below, within-above, within-value, within-short, within-short-above, Stands, ended, last, more, stands}
+use Rattle.varint.specs.Reading.{piecesAt, prefixed, varintAt}
+use Rattle.varint.proofs.Laws.{at-none, at-end, at-last, at-more, prefixed-none, prefixed-large, prefixed-value, prefixed-short, prefixed-short-large, prefixed-short-inverse, Stands, ended, last, more, stands}
 
 -- ---- what further bytes can change
 
@@ -61,29 +59,6 @@ prefixed-extends b (Short l) (Value v next) h = go (decLt 33554431 (max 1 l)) (�
     go (no p) (no q) (no o) =
         alike {x = Short (b - 128 + 128 * max 1 l)} {x2 = Value (b - 128 + 128 * v) next} (prefixed-short b l (omega arith)) (prefixed-value b v next (omega arith) (omega arith)) (omega arith)
 
-within-extends : (low high : ℕ) (r r2 : VarintRead) → Extends r r2 → Extends (within low high r) (within low high r2)
-within-extends low high (Value v next) r2 e = unchanged (within low high (Value v next)) (within low high r2) (ap (within low high) e)
-within-extends low high Malformed r2 e = ap (within low high) e
-within-extends low high (Short l) Malformed h = go (decLt high l)
-  where
-    go : Dec (high < l) → Extends (within low high (Short l)) Malformed
-    go (yes p) = alike (within-short-above low high l p) refl refl
-    go (no p) = alike {x = Short l} (within-short low high l (omega arith)) refl tt
-within-extends low high (Short l) (Short k) h = go (decLt high l) (decLt high k)
-  where
-    go : Dec (high < l) → Dec (high < k) → Extends (within low high (Short l)) (within low high (Short k))
-    go (yes p) d = alike (within-short-above low high l p) (within-short-above low high k (omega arith)) refl
-    go (no p) (yes q) = alike {x = Short l} {x2 = Malformed} (within-short low high l (omega arith)) (within-short-above low high k q) tt
-    go (no p) (no q) = alike {x = Short l} {x2 = Short k} (within-short low high l (omega arith)) (within-short low high k (omega arith)) h
-within-extends low high (Short l) (Value v next) h = go (decLt high l) (decLt v low) (decLt high v)
-  where
-    go : Dec (high < l) → Dec (v < low) → Dec (high < v) → Extends (within low high (Short l)) (within low high (Value v next))
-    go (yes p) (yes q) o = alike (within-short-above low high l p) (within-below low high v next q) refl
-    go (yes p) (no q) o = alike (within-short-above low high l p) (within-above low high v next (omega arith) (omega arith)) refl
-    go (no p) (yes q) o = alike {x = Short l} {x2 = Malformed} (within-short low high l (omega arith)) (within-below low high v next q) tt
-    go (no p) (no q) (yes o) = alike {x = Short l} {x2 = Malformed} (within-short low high l (omega arith)) (within-above low high v next (omega arith) o) tt
-    go (no p) (no q) (no o) = alike {x = Short l} {x2 = Value v next} (within-short low high l (omega arith)) (within-value low high v next (omega arith) (omega arith)) h
-
 -- short of everything extends to everything
 short-zero : (r : VarintRead) → Extends (Short 0) r
 short-zero (Value v next) = omega arith
@@ -117,10 +92,6 @@ pieces-extend (suc f) s t at = go (stands s at) (pieces-extend f s t (at + 1))
 pub varint-extends : (s t : List ℕ) (at : ℕ) → Extends (varintAt s at) (varintAt (s ++ t) at)
 varint-extends s t at = pieces-extend 5 s t at
 
-pub varint-within-extends : (low high : ℕ) (s t : List ℕ) (at : ℕ) → Extends (varintWithin low high s at) (varintWithin low high (s ++ t) at)
-unfolding varintWithin
-varint-within-extends low high s t at = within-extends low high (varintAt s at) (varintAt (s ++ t) at) (varint-extends s t at)
-
 -- ---- a value and what is malformed stay, and no value is below the least
 
 module _ {r r2 : VarintRead} (x : Extends r r2) where
@@ -132,12 +103,6 @@ module _ {r r2 : VarintRead} (x : Extends r r2) where
 
   pub least-holds : {least v next : ℕ} → r ≡ Short least → r2 ≡ Value v next → least ≤ v
   least-holds e f = subst₂ Extends e f x
-
--- what is not short stays
-pub stays : (r r2 : VarintRead) → Extends r r2 → (r2 ≡ r) ⊎ ((least : ℕ) × (r ≡ Short least))
-stays (Value v next) r2 x = inl x
-stays (Short least) r2 x = inr (least, refl)
-stays Malformed r2 x = inl x
 
 pub varint-value-stays : (s t : List ℕ) (at v next : ℕ) → varintAt s at ≡ Value v next → varintAt (s ++ t) at ≡ Value v next
 varint-value-stays s t at v next e = value-stays (varint-extends s t at) e
@@ -191,27 +156,3 @@ complete (suc f) s at low least h l e = go (stands s at) (λ k. complete f s (at
               ∙ prefixed-value b (max 1 k) (length (s ++ t)) (omega arith) small
               ∙ ap (λ (x : ℕ). Value x (length (s ++ t))) (omega arith),
         )
-
-pub varint-complete : (s : List ℕ) (at least : ℕ) → at ≤ length s → varintAt s at ≡ Short least
-    → (t : List ℕ) × AllBytes t × (varintAt (s ++ t) at ≡ Value least (length (s ++ t)))
-varint-complete s at least l e =
-    let r = complete 5 s at 0 least (omega arith) l e in
-    (r .0, r .1, r .2 ∙ ap (λ (x : ℕ). Value x (length (s ++ r .0))) (omega arith))
-
--- The same within limits: further bytes make the least value, or any value w of one byte within the limits if that is above it.
-pub varint-within-complete : (low high : ℕ) (s : List ℕ) (at w least : ℕ) → low ≤ w → w ≤ high → w < 128 → at ≤ length s → varintWithin low high s at ≡ Short least
-    → (t : List ℕ) × AllBytes t × (varintWithin low high (s ++ t) at ≡ Value (max w least) (length (s ++ t)))
-unfolding varintWithin
-varint-within-complete low high s at w least p q h l e =
-    let i = within-short-inverse low high (varintAt s at) least e in
-    let m : least ≤ high = i .0 in
-    let r = complete 5 s at w least h l (i .1) in
-    (r .0, r .1, ap (within low high) (r .2) ∙ within-value low high (max w least) (length (s ++ r .0)) (omega arith) (omega arith))
-
--- what ends past the bytes of s is short in s
-pub varint-short : (s t : List ℕ) (at v next : ℕ) → varintAt (s ++ t) at ≡ Value v next → length s < next → (least : ℕ) × (varintAt s at ≡ Short least)
-varint-short s t at v next e l = go (stays (varintAt s at) (varintAt (s ++ t) at) (varint-extends s t at))
-  where
-    go : (varintAt (s ++ t) at ≡ varintAt s at) ⊎ ((least : ℕ) × (varintAt s at ≡ Short least)) → (least : ℕ) × (varintAt s at ≡ Short least)
-    go (inl f) = absurd (omega (arith, value-place 5 s at v next (sym f ∙ e) .1))
-    go (inr r) = r

@@ -1,5 +1,5 @@
 -- The definitions of varints, case by case.
-use mathlib.Core.Path.{_≡_, refl, sym, ap, _∙_, subst}
+use mathlib.Core.Path.{_≡_, refl, sym, ap, subst}
 use mathlib.Core.Bool.{Bool, true, false}
 use mathlib.Core.List.{List, [], _∷_, _++_}
 use Prim.Native.Nat.{ℕ, zero, suc, _+_, _-_, _*_, _/_, _%_, _<_, _≤_, max}
@@ -17,7 +17,7 @@ use Rattle.varint.specs.declared.Written.the-variants.{Bytes, NoRoom}
 use Rattle.varint.specs.declared.VarintRead.{VarintRead}
 use Rattle.varint.specs.declared.VarintRead.the-variants.{Value, Short, Malformed}
 use Rattle.varint.specs.Varint.{AllBytes, pieces, varintLength}
-use Rattle.varint.specs.Reading.{piecesAt, prefixed, within, varintAt, varintWithin}
+use Rattle.varint.specs.Reading.{piecesAt, prefixed, varintAt}
 use Rattle.varint.specs.Writing.{writtenOf, bufferOf}
 
 -- piecesAt, case by case
@@ -91,23 +91,6 @@ module _ (b : ℕ) where
   pub prefixed-short : (least : ℕ) → max 1 least ≤ 33554431 → prefixed b (Short least) ≡ Short (b - 128 + 128 * max 1 least)
   prefixed-short least h = simp (le-ltb 33554431 (max 1 least) h)
 
--- within, case by case
-module _ (low high : ℕ) where
-  pub within-below : (v next : ℕ) → v < low → within low high (Value v next) ≡ Malformed
-  within-below v next h = simp (lt-ltb v low h)
-
-  pub within-above : (v next : ℕ) → low ≤ v → high < v → within low high (Value v next) ≡ Malformed
-  within-above v next h k = simp (le-ltb v low h, lt-ltb high v k)
-
-  pub within-value : (v next : ℕ) → low ≤ v → v ≤ high → within low high (Value v next) ≡ Value v next
-  within-value v next h k = simp (le-ltb v low h, le-ltb high v k)
-
-  pub within-short-above : (least : ℕ) → high < least → within low high (Short least) ≡ Malformed
-  within-short-above least h = simp (lt-ltb high least h)
-
-  pub within-short : (least : ℕ) → least ≤ high → within low high (Short least) ≡ Short least
-  within-short least h = simp (le-ltb high least h)
-
 -- ---- lengths
 
 pub pieces-most : (f v : ℕ) → length (pieces f v) ≤ suc f
@@ -123,11 +106,6 @@ pieces-most (suc f) v = by-test (ltb v 128) (pieces-most f (v / 128))
 pub length-last : (v : ℕ) → v < 128 → varintLength v ≡ 1
 length-last v h = ap length (pieces-last 4 v (omega arith) h)
 
--- a varint that is read as r, within limits
-pub read-as : (low high : ℕ) (s : List ℕ) (at : ℕ) {r x : VarintRead} → varintAt s at ≡ r → within low high r ≡ x → x ≡ varintWithin low high s at
-unfolding varintWithin
-read-as low high s at e f = sym (ap (within low high) e ∙ f)
-
 -- writing, by whether the bytes fit
 module _ (l : List ℕ) (at : ℕ) (bs : List ℕ) where
   pub no-room : length l < at + length bs → (NoRoom ≡ writtenOf l at bs) × (l ≡ bufferOf l at bs)
@@ -135,27 +113,6 @@ module _ (l : List ℕ) (at : ℕ) (bs : List ℕ) where
 
   pub room : at + length bs ≤ length l → (Bytes (length bs) ≡ writtenOf l at bs) × (putAt l at bs ≡ bufferOf l at bs)
   room h = rw (le-leb (at + length bs) (length l) h) (refl, refl)
-
--- a value that is read within limits lies within them
-pub within-limits : (low high : ℕ) (r : VarintRead) (v next : ℕ) → within low high r ≡ Value v next → (low ≤ v) × (v ≤ high) × (r ≡ Value v next)
-within-limits low high (Value u n) v next e = go (ltb u low) (ltb high u) refl refl e
-  where
-    go : (b d : Bool) → ltb u low ≡ b → ltb high u ≡ d → pick b Malformed (pick d Malformed (Value u n)) ≡ Value v next
-        → (low ≤ v) × (v ≤ high) × (Value u n ≡ Value v next)
-    go true d p q e = let z : _≡_ {A = ℕ} 0 1 = cc in absurd (omega arith)
-    go false true p q e = let z : _≡_ {A = ℕ} 0 1 = cc in absurd (omega arith)
-    go false false p q e = let f : u ≡ v = cc in (omega (arith, ltb-false u low p), omega (arith, ltb-false high u q), e)
-within-limits low high (Short least) v next e = go (ltb high least) e
-  where
-    go : (b : Bool) → pick b Malformed (Short least) ≡ Value v next → (low ≤ v) × (v ≤ high) × (Short least ≡ Value v next)
-    go true e = let z : _≡_ {A = ℕ} 0 1 = cc in absurd (omega arith)
-    go false e = let z : _≡_ {A = ℕ} 0 1 = cc in absurd (omega arith)
-within-limits low high Malformed v next e = let z : _≡_ {A = ℕ} 0 1 = cc in absurd (omega arith)
-
--- the same of what stands in s
-pub value-within : (low high : ℕ) (s : List ℕ) (at v next : ℕ) → varintWithin low high s at ≡ Value v next → (low ≤ v) × (v ≤ high) × (varintAt s at ≡ Value v next)
-unfolding varintWithin
-value-within low high s at v next e = within-limits low high (varintAt s at) v next e
 
 -- ---- what stands at a place
 
@@ -211,31 +168,9 @@ prefixed-short-inverse b (Short k) least e = go (ltb 33554431 (max 1 k)) refl e
     go false p e = (k, refl, ltb-false 33554431 (max 1 k) p, (cc))
 prefixed-short-inverse b Malformed least e = let z : _≡_ {A = ℕ} 0 1 = cc in absurd (omega arith)
 
--- a short reading within limits
-pub within-short-inverse : (low high : ℕ) (r : VarintRead) (least : ℕ) → within low high r ≡ Short least → (least ≤ high) × (r ≡ Short least)
-within-short-inverse low high (Value u n) least e = go (ltb u low) (ltb high u) e
-  where
-    go : (b d : Bool) → pick b Malformed (pick d Malformed (Value u n)) ≡ Short least → (least ≤ high) × (Value u n ≡ Short least)
-    go true d e = let z : _≡_ {A = ℕ} 0 1 = cc in absurd (omega arith)
-    go false true e = let z : _≡_ {A = ℕ} 0 1 = cc in absurd (omega arith)
-    go false false e = let z : _≡_ {A = ℕ} 0 1 = cc in absurd (omega arith)
-within-short-inverse low high (Short l) least e = go (ltb high l) refl e
-  where
-    go : (b : Bool) → ltb high l ≡ b → pick b Malformed (Short l) ≡ Short least → (least ≤ high) × (Short l ≡ Short least)
-    go true p e = let z : _≡_ {A = ℕ} 0 1 = cc in absurd (omega arith)
-    go false p e = let f : l ≡ least = cc in (omega (arith, ltb-false high l p), e)
-within-short-inverse low high Malformed least e = let z : _≡_ {A = ℕ} 0 1 = cc in absurd (omega arith)
-
-pub short-within : (low high : ℕ) (s : List ℕ) (at least : ℕ) → varintWithin low high s at ≡ Short least → (least ≤ high) × (varintAt s at ≡ Short least)
-unfolding varintWithin
-short-within low high s at least e = within-short-inverse low high (varintAt s at) least e
-
 -- nothing stands past the last byte
 pub varint-at-end : (s : List ℕ) → varintAt s (length s) ≡ Short 0
 varint-at-end s = sym (at-end 5 s (length s) (omega arith) (le-refl (length s)))
-
-pub varint-within-at-end : (low high : ℕ) (s : List ℕ) → varintWithin low high s (length s) ≡ Short 0
-varint-within-at-end low high s = sym (read-as low high s (length s) (varint-at-end s) (within-short low high 0 (omega arith)))
 
 pub all-bytes-append : (a b : List ℕ) → AllBytes a → AllBytes b → AllBytes (a ++ b)
 all-bytes-append a b h k i = go (decLt i (length a))

@@ -11,8 +11,8 @@ use lib.Seq.{getD-append-seam}
 use Rattle.base.proofs.Parts.{part-first}
 use Rattle.varint.specs.declared.VarintRead.the-variants.{Value, Malformed}
 use Rattle.varint.specs.Varint.{AllBytes, pieces, varintBytes}
-use Rattle.varint.specs.Reading.{piecesAt, prefixed, varintAt, varintWithin}
-use Rattle.varint.proofs.Laws.{at-none, at-end, at-last, at-more, pieces-none, pieces-last, pieces-more, prefixed-value, prefixed-inverse, within-value, read-as, Stands, ended, last, more, stands}
+use Rattle.varint.specs.Reading.{piecesAt, prefixed, varintAt}
+use Rattle.varint.proofs.Laws.{at-none, at-end, at-last, at-more, pieces-none, pieces-last, pieces-more, prefixed-value, prefixed-inverse, Stands, ended, last, more, stands}
 
 -- ---- what is written is read back
 
@@ -55,10 +55,6 @@ varint-read v p q h = pieces-read 4 v p q (omega arith) h
 -- the same of bytes that are known to hold it
 pub varint-read-at : (v : ℕ) (s p q : List ℕ) (at : ℕ) → v < 2 ^ 32 → s ≡ p ++ (varintBytes v ++ q) → at ≡ length p → varintAt s at ≡ Value v (at + length (varintBytes v))
 varint-read-at v s p q at h es ea = ap₂ varintAt es ea ∙ varint-read v p q h ∙ ap (λ (n : ℕ). Value v (n + length (varintBytes v))) (sym ea)
-
-pub varint-within-read-at : (low high v : ℕ) (s p q : List ℕ) (at : ℕ) → low ≤ v → v ≤ high → v < 2 ^ 32 → s ≡ p ++ (varintBytes v ++ q) → at ≡ length p
-    → varintWithin low high s at ≡ Value v (at + length (varintBytes v))
-varint-within-read-at low high v s p q at l k h es ea = sym (read-as low high s at (varint-read-at v s p q at h es ea) (within-value low high v (at + length (varintBytes v)) l k))
 
 -- ---- what is read was written
 

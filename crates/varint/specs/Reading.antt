@@ -1,4 +1,4 @@
--- Reading a varint. `Reads` (Statement.antt) says which values it finds; the calls and demand 3 need no more.
+-- Reading a varint. `Reads` (Statement.antt) says what it finds, and what it says where it finds no value; the calls and demand 3 need no more.
 use mathlib.Core.List.{List}
 use Prim.Native.Nat.{ℕ, zero, suc, _+_, _-_, _*_, _/_, max}
 use lib.Dec.{ltb, eqb}
@@ -29,12 +29,3 @@ piecesAt (suc f) s at =
 
 abbrev pub varintAt : List ℕ → ℕ → VarintRead
 varintAt s at = piecesAt maxPieces s at
-
--- the same with limits on the value: what lies outside them is malformed, also what further bytes could only bring above them
-abbrev pub within : ℕ → ℕ → VarintRead → VarintRead
-within low high (Value v next) = pick (ltb v low) Malformed (pick (ltb high v) Malformed (Value v next))
-within low high (Short least) = pick (ltb high least) Malformed (Short least)
-within low high Malformed = Malformed
-
-unfoldable pub varintWithin : ℕ → ℕ → List ℕ → ℕ → VarintRead
-varintWithin low high s at = within low high (varintAt s at)

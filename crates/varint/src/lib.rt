@@ -4,7 +4,7 @@ ghost use Prim.Native.Nat.{_+_, _≤_, _<_};
 ghost use lib.ListN.{length};
 ghost use Rattle.base.specs.Put.{putAt};
 ghost use Rattle.varint.specs.Varint.{pieceSize, pieces, varintBytes};
-ghost use Rattle.varint.specs.Reading.{piecesAt, varintAt, varintWithin, prefixed};
+ghost use Rattle.varint.specs.Reading.{piecesAt, varintAt, prefixed};
 ghost use Rattle.varint.specs.Writing.{writtenOf, bufferOf};
 
 // A piece is a number below this; a byte that is not the last has this bit set besides.
@@ -24,7 +24,7 @@ pub enum VarintRead {
     Value { value: u32, next: usize },
     // The bytes end inside it: the least value that further bytes could make of it.
     Short { least: u32 },
-    // No further bytes could make it whole, in the fewest bytes and within its limits.
+    // No further bytes could make it whole, in the fewest bytes and at most 2^32 - 1.
     Malformed,
 }
 
@@ -93,32 +93,6 @@ pub fn read(s: &[u8], at: usize) -> VarintRead
     ensures { λ r. ⌜ r ≡ varintAt (now (s .entry)) at ⌝ }
 {
     read_pieces(s, at, MAX_PIECES)
-}
-
-// The varint at `at`, malformed where its value is not from `low` to `high`. Where the bytes end inside it, it is malformed if the least value that
-// further bytes could make of it is above `high`, and else short: `low` is not asked.
-pub fn read_within(s: &[u8], at: usize, low: u32, high: u32) -> VarintRead
-    ensures { λ r. ⌜ r ≡ varintWithin low high (now (s .entry)) at ⌝ }
-{
-    let found = read(s, at);
-    match found {
-        VarintRead::Value { value: v, next: _ } => {
-            if v < low {
-                return VarintRead::Malformed;
-            }
-            if high < v {
-                return VarintRead::Malformed;
-            }
-            found
-        }
-        VarintRead::Short { least } => {
-            if high < least {
-                return VarintRead::Malformed;
-            }
-            found
-        }
-        VarintRead::Malformed => VarintRead::Malformed,
-    }
 }
 
 // How many bytes the varint of v has: document 02's printed table, case by case.

@@ -1,32 +1,43 @@
 -- `journal::read_position` meets its contract.
-use mathlib.Core.Path.{sym, ap, _∙_}
-use Rattle.journal.specs.Reading.{withPosition}
+use mathlib.Core.Path.{sym, _∙_}
+use denote.Ref.{now}
+use Rattle.base.specs.Limits.{maxPosition}
+use Rattle.format.specs.Format.{says}
+use Rattle.journal.specs.declared.Record.the-variants.{Start}
+use Rattle.journal.proofs.Laws.{read-next, read-broken}
 use borrow.Author.Needs.{needs}
 use Rattle.journal.proofs.read_position.Statement.{statement}
 use Rattle.journal.proofs.read_position.Tie as tie
 
-read-within-requires : tie.Need-read-within-requires
-read-within-requires c κs = search needs
+read-field-requires : tie.Need-read-field-requires
+read-field-requires c κs = search needs
 
 enum-known-x : tie.Need-enum-known-x
 enum-known-x c = search needs
 
-enum-told : tie.Need-enum-told
-enum-told c = search needs
+enum-known-fault : tie.Need-enum-known-fault
+enum-known-fault c = search needs
 
-enum-told-2 : tie.Need-enum-told-2
-enum-told-2 c = search needs
+failing-requires : tie.Need-failing-requires
+failing-requires c κs = search needs
 
 returns : tie.Need-returns
-returns c = ap (withPosition _) (sym (c .before .x .given .1) ∙ c .before .before .before .read-within .ensures)
+returns c =
+    let a = c .before .before .before .before .before .args in
+    read-next 0 maxPosition (λ x. says (Start (a .agreement) x)) (now (a .s)) (a .at) (sym (c .before .before .before .read-field .ensures) ∙ c .before .x .given .1)
 
 returns-2 : tie.Need-returns-2
-returns-2 c = ap (withPosition _) (sym (c .enum-told .given .1) ∙ c .before .before .read-within .ensures)
-
-returns-3 : tie.Need-returns-3
-returns-3 c = ap (withPosition _) (sym (c .enum-told2 .given .1) ∙ c .before .before .read-within .ensures)
+returns-2 c =
+    let a = c .before .before .before .before .before .before .args in
+    c .failing .ensures ∙ read-broken 0 maxPosition (λ x. says (Start (a .agreement) x)) (now (a .s)) (a .at) (sym (c .before .before .before .before .read-field .ensures) ∙ c .before .before .fault .given .1)
 
 pub read-position-spec : {M : Type 1} → statement M
 read-position-spec =
     tie.close
-    (tie.spec read-within-requires enum-known-x enum-told enum-told-2 returns returns-2 returns-3)
+    (tie.spec
+    read-field-requires
+    enum-known-x
+    enum-known-fault
+    failing-requires
+    returns
+    returns-2)

@@ -1,54 +1,55 @@
 -- `journal::read_taken` meets its contract.
-use mathlib.Core.Path.{sym, ap, _∙_}
+use mathlib.Core.Path.{sym, _∙_}
 use native.Mathlib.Omega.{arith}
 use denote.Ref.{now}
-use Rattle.varint.proofs.Laws.{value-within}
-use Rattle.journal.specs.Reading.{withSender}
+use Rattle.base.specs.Limits.{maxSender}
+use Rattle.format.proofs.Fields.{field-value}
+use Rattle.journal.specs.Format.{fromSender}
+use Rattle.journal.proofs.Laws.{read-next, read-broken}
 use borrow.Author.Needs.{needs}
 use Rattle.journal.proofs.read_taken.Statement.{statement}
 use Rattle.journal.proofs.read_taken.Tie as tie
 
-read-within-requires : tie.Need-read-within-requires
-read-within-requires c κs = search needs
+read-field-requires : tie.Need-read-field-requires
+read-field-requires c κs = search needs
 
 enum-known-sender : tie.Need-enum-known-sender
 enum-known-sender c = search needs
 
 cast-read-message : tie.Need-cast-read-message
 cast-read-message c =
-    let w = value-within _ _ _ _ _ _ (sym (c .before .before .before .read-within .ensures) ∙ c .before .sender .given .1) in
+    let w = field-value _ _ _ _ _ _ (sym (c .before .before .before .read-field .ensures) ∙ c .before .sender .given .1) in
     omega (arith, w .1)
 
 read-message-requires : tie.Need-read-message-requires
 read-message-requires c κs = search needs
 
-enum-told : tie.Need-enum-told
-enum-told c = search needs
+enum-known-fault : tie.Need-enum-known-fault
+enum-known-fault c = search needs
 
-enum-told-2 : tie.Need-enum-told-2
-enum-told-2 c = search needs
+failing-requires : tie.Need-failing-requires
+failing-requires c κs = search needs
 
 returns : tie.Need-returns
 returns c =
+    let a = c .before .before .before .before .before .before .args in
     c .read-message .ensures
-    ∙ ap (withSender _) (sym (c .before .before .sender .given .1) ∙ c .before .before .before .before .read-within .ensures)
+    ∙ read-next 0 maxSender fromSender (now (a .s)) (a .at) (sym (c .before .before .before .before .read-field .ensures) ∙ c .before .before .sender .given .1)
 
 returns-2 : tie.Need-returns-2
-returns-2 c = ap (withSender (now (c .before .before .before .before .args .s))) (sym (c .enum-told .given .1) ∙ c .before .before .read-within .ensures)
-
-returns-3 : tie.Need-returns-3
-returns-3 c = ap (withSender (now (c .before .before .before .before .args .s))) (sym (c .enum-told2 .given .1) ∙ c .before .before .read-within .ensures)
+returns-2 c =
+    let a = c .before .before .before .before .before .before .args in
+    c .failing .ensures ∙ read-broken 0 maxSender fromSender (now (a .s)) (a .at) (sym (c .before .before .before .before .read-field .ensures) ∙ c .before .before .fault .given .1)
 
 pub read-taken-spec : {M : Type 1} → statement M
 read-taken-spec =
     tie.close
     (tie.spec
-    read-within-requires
+    read-field-requires
     enum-known-sender
     cast-read-message
     read-message-requires
-    enum-told
-    enum-told-2
+    enum-known-fault
+    failing-requires
     returns
-    returns-2
-    returns-3)
+    returns-2)

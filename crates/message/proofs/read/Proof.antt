@@ -20,11 +20,8 @@ returns c =
     let s : List ℕ = now (c .before .before .before .before .before .before .args .s) in
     sym (exactly-one s _ (c .before .before .m .given .0 .1 .0) (omega arith)) ∙ read-exactly s (sym (c .before .before .before .before .read-at .ensures) ∙ c .before .before .m .given .1)
 
-enum-told : tie.Need-enum-told
-enum-told c = search needs
-
-enum-told-2 : tie.Need-enum-told-2
-enum-told-2 c = search needs
+enum-known-fault : tie.Need-enum-known-fault
+enum-known-fault c = search needs
 
 returns-2 : tie.Need-returns-2
 returns-2 c =
@@ -32,10 +29,7 @@ returns-2 c =
     sym (exactly-more s (c .before .before .m .given .0 .0) (c .before .before .m .given .0 .1 .0) (λ e. omega arith)) ∙ read-exactly s (sym (c .before .before .before .before .read-at .ensures) ∙ c .before .before .m .given .1)
 
 returns-3 : tie.Need-returns-3
-returns-3 c = read-exactly _ (sym (c .before .before .read-at .ensures) ∙ c .enum-told .given .1)
-
-returns-4 : tie.Need-returns-4
-returns-4 c = read-exactly _ (sym (c .before .before .read-at .ensures) ∙ c .enum-told2 .given .1)
+returns-3 c = read-exactly _ (sym (c .before .before .before .read-at .ensures) ∙ c .before .fault .given .1)
 
 pub read-spec : {M : Type 1} → statement M
 read-spec =
@@ -44,8 +38,6 @@ read-spec =
     read-at-requires
     enum-known-m
     returns
-    enum-told
-    enum-told-2
+    enum-known-fault
     returns-2
-    returns-3
-    returns-4)
+    returns-3)

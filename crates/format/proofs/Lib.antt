@@ -1,0 +1,5 @@
+pub mod Fields
+pub mod Reading
+pub mod Saying
+pub mod Faults
+pub mod Theorem
