@@ -15,11 +15,10 @@ use Rattle.base.specs.Found.{Found, found, ask}
 use Rattle.plan.specs.Plan.{Plan}
 use Rattle.plan.proofs.Listed.{asked}
 use Rattle.message.specs.declared.Message.{Message}
-use Rattle.message.specs.declared.MessageRead.{MessageRead}
 use Rattle.message.specs.declared.Exactly.{Exactly}
 use Rattle.message.specs.Message.{inTable}
-use Rattle.message.specs.Reading.{messageAt, exactly, exactMessage}
-use Rattle.message.proofs.RoundTrip.{message-parts, message-table}
+use Rattle.message.specs.Reading.{exactMessage}
+use Rattle.message.proofs.RoundTrip.{message-table, exact-message-at}
 use Rattle.level.specs.Level.{noOutput}
 use Rattle.journal.specs.declared.Record.{Record}
 use Rattle.journal.specs.declared.Record.the-variants.{Start, Taken}
@@ -62,19 +61,9 @@ module _ (p : Plan) where
 
 -- ---- messages
 
-exactly-read : (s : List ℕ) (r : MessageRead) (m : Message) → exactly s r ≡ Exactly.One m → (next : ℕ) × (r ≡ MessageRead.Read m next)
-exactly-read s (MessageRead.Read x next) m e = go (eqb next (length s)) e
-  where
-    go : (b : Bool) → pick b (Exactly.One x) Exactly.Refused ≡ Exactly.One m → (n : ℕ) × (MessageRead.Read x next ≡ MessageRead.Read m n)
-    go true e = let f : x ≡ m = cc in (next, ap (λ (y : Message). MessageRead.Read y next) f)
-    go false e = let z : _≡_ {A = ℕ} 0 1 = cc in absurd (omega arith)
-exactly-read s MessageRead.Short m e = let z : _≡_ {A = ℕ} 0 1 = cc in absurd (omega arith)
-exactly-read s MessageRead.Bad m e = let z : _≡_ {A = ℕ} 0 1 = cc in absurd (omega arith)
-
 -- what is read as one message is in the table
 pub exact-table : (s : List ℕ) (m : Message) → exactMessage s ≡ Exactly.One m → inTable m ≡ true
-unfolding exactMessage
-exact-table s m e = let r = exactly-read s (messageAt s 0) m e in message-table (message-parts s 0 m (r .0) (r .1))
+exact-table s m e = message-table s 0 m (length s) (exact-message-at s m e)
 
 -- ---- accepted calls
 
@@ -163,7 +152,7 @@ take-recorded p s bytes room used out r ran e = go (exactMessage bytes) refl (fo
             does = w .2;
           }),
         )
-    go Exactly.Refused i f = let z : _≡_ {A = ℕ} 0 1 = cc in absurd (omega arith)
+    go (Exactly.Broken fault at) i f = let z : _≡_ {A = ℕ} 0 1 = cc in absurd (omega arith)
 
 -- the record of an accepted call is within its limits
 pub fits-limits : (p : Party) → p .agreement ≤ maxNumber → p .n ≤ maxBoards → p .plan .count ≤ maxWidth + 1 → (r : Record) → Fits p r → InLimits r

@@ -95,7 +95,7 @@ held-heard p s bytes room used out e = go (exactMessage bytes) refl (asked (ltb 
                 (before m (heldBy p s m) (sixteen .1));
           },
         )
-    go Exactly.Refused g k = let o : _≡_ {A = ℕ} 0 1 = cc in absurd (omega arith)
+    go (Exactly.Broken fault at) g k = let o : _≡_ {A = ℕ} 0 1 = cc in absurd (omega arith)
 
 module _ (v : Instance) (plan : Plan) (bad : Set) (f : Shared v plan) where
   -- a board's calls beside its records

@@ -139,7 +139,7 @@ module _ (v : Instance) (plan : Plan) (bad : Set) (f : Shared v plan) where
 
     hand-idle : (x : Exactly) → T (not (acting (handTale x)))
     hand-idle (Exactly.One m) = tt
-    hand-idle Exactly.Refused = tt
+    hand-idle (Exactly.Broken fault at) = tt
 
     cut-idle : (s : Stage) (n : ℕ) → T (not (acting (cutTale s n)))
     cut-idle waiting n = tt

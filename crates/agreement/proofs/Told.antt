@@ -62,7 +62,7 @@ callTale (restore n t own agreement plan lent) = restoreTale (restoreFinds n t o
 -- the message that the bytes are
 abbrev pub handTale : Exactly → Tale
 handTale (Exactly.One m) = gives m
-handTale Exactly.Refused = nothing
+handTale (Exactly.Broken fault at) = nothing
 
 -- how many whole records the bytes begin with
 abbrev pub wholeRecords : List ℕ → ℕ

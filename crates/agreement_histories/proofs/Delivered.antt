@@ -77,7 +77,7 @@ isTaken→ : (j : ℕ) (m : Message) (a : Act) → T (isTaken j m a) → a ≡ a
 isTaken→ j m (a-start x z) h = absurd h
 isTaken→ j m (a-take s (Exactly.One y)) h =
     sym (ap₂ (λ (k : ℕ) (n : Message). a-take k (Exactly.One n)) (eqb→eq j s (T-left (eqb j s) (same m y) h)) (same→ m y (T-right (eqb j s) (same m y) h)))
-isTaken→ j m (a-take s Exactly.Refused) h = absurd h
+isTaken→ j m (a-take s (Exactly.Broken fault at)) h = absurd h
 
 hasTaken→ : (j : ℕ) (m : Message) (cs : List Counted) → T (hasTaken j m cs) → (c : Counted) × List·Memᴰ c cs × (c .act ≡ a-take j (Exactly.One m))
 unfolding hasTaken

@@ -34,7 +34,7 @@ hasStart cs = ltb 0 (length (startsIn cs))
 abbrev pub isTaken : ℕ → Message → Act → Bool
 isTaken j m (a-start x z) = false
 isTaken j m (a-take s (Exactly.One y)) = eqb j s && same m y
-isTaken j m (a-take s Exactly.Refused) = false
+isTaken j m (a-take s (Exactly.Broken fault at)) = false
 
 unfoldable pub hasTaken : ℕ → Message → List Counted → Bool
 hasTaken j m [] = false

@@ -13,7 +13,7 @@ use Rattle.base.specs.Found.{Found, found, refused}
 use Rattle.message.specs.declared.Body.{Body}
 use Rattle.message.specs.declared.Message.{Message}
 use Rattle.message.specs.Message.{kindOf}
-use Rattle.message.specs.Reading.{valueOf, bodyOf}
+use Rattle.message.specs.Format.{valueOf, bodyOf}
 use Rattle.message.proofs.RoundTrip.{body-same}
 use Rattle.journal.specs.declared.RecordRead.{RecordRead}
 use Rattle.journal.specs.Reading.{recordAt}

@@ -9,7 +9,7 @@ use Rattle.base.specs.declared.Verdict.{Verdict}
 use Rattle.base.specs.Found.{Found, found, refused}
 use Rattle.message.specs.declared.Message.{Message}
 use Rattle.message.specs.Message.{kindOf}
-use Rattle.message.specs.Reading.{valueOf}
+use Rattle.message.specs.Format.{valueOf}
 use Rattle.journal.specs.declared.RecordRead.{RecordRead}
 use Rattle.journal.specs.Reading.{recordAt}
 use Rattle.journal.specs.Records.{journalBytes}

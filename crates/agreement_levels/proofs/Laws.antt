@@ -10,7 +10,7 @@ use Rattle.base.specs.Sets.{count}
 use Rattle.base.specs.Limits.{offsetZero, lastLevel, levelCount, maxWidth, maxNumber}
 use Rattle.base.specs.Found.{found}
 use Rattle.varint.specs.Varint.{pieces}
-use Rattle.varint.specs.Reading.{piecesAt, varintWithin}
+use Rattle.varint.specs.Reading.{piecesAt}
 use Rattle.plan.specs.Plan.{Plan}
 use Rattle.plan.specs.Positions.{rangePlan}
 use Rattle.plan.specs.Reading.{planFrom, planOf}
@@ -59,7 +59,7 @@ range-uses a bytes plan f range L most big =
     smaller i k = let z : 0 < 2 = omega arith in omega (arith, pow-le-pow-right {n = 2} z {i = i} {j = L} k)
 
 reads-widest : planOf widest ≡ found (rangePlan offsetZero maxWidth)
-unfolding planFrom pieces piecesAt varintWithin
+unfolding planFrom pieces piecesAt
 reads-widest = refl
 
 -- "65,536 positions need all 15": on the widest range it makes one at each of the levels 0 to 14.

@@ -17,11 +17,13 @@ use Rattle.varint.proofs.Laws.{pieces-most, length-last}
 use Rattle.varint.proofs.Lengths.{length-at-most}
 use Rattle.plan_laws.proofs.Shape.{shape}
 use Rattle.message.specs.declared.Message.{Message}
+use Rattle.format.specs.declared.Fault.{Fault}
+use Rattle.message.specs.Refusals.{refusalNumber}
 use Rattle.message.specs.declared.MessageRead.{MessageRead}
 use Rattle.message.specs.declared.Exactly.{Exactly}
 use Rattle.message.specs.Message.{inTable}
 use Rattle.message.specs.Reading.{messageAt, exactly, exactMessage}
-use Rattle.message.proofs.RoundTrip.{message-parts, message-table, message-length-most}
+use Rattle.message.proofs.RoundTrip.{message-table, message-length-most}
 use Rattle.level.specs.Level.{noOutput}
 use Rattle.journal.specs.declared.Record.{Record}
 use Rattle.journal.specs.declared.Record.the-variants.{Start, Taken}
@@ -30,7 +32,7 @@ use Rattle.journal.proofs.Laws.{start-length, taken-length}
 use Rattle.party.specs.Party.{Party, started, heldBy}
 use Rattle.party.specs.Run.{Ran, taking}
 use Rattle.party.specs.Valid.{partyValid}
-use Rattle.party_laws.proofs.Valid.{Valid, valid→}
+use Rattle.party_laws.proofs.Valid.{valid→}
 use Rattle.board_calls.specs.Answers.{positionOf}
 use Rattle.board_calls.specs.Calls.{Entry, again, fresh, atDoor, fitting, startQuestions, takeMessage, takeQuestions, Called, calledOf}
 use Rattle.board_calls.specs.Results.{CallGives}
@@ -93,14 +95,20 @@ module _ (p : Party) (room used out : ℕ) (enough : used + recordMost ≤ room)
       new l m t true = tt
       new l m t false = short (Taken s m) (taking p s m) (taken-most s m l t)
 
-      one : s < 128 → (m : Message) → inTable m ≡ true → (b : Bool) → Roomy (takeMessage p s room used (pick b (Exactly.One m) Exactly.Refused))
-      one l m t true = asking (eqb (m .number) (p .agreement)) 16 _ (λ e. omega arith) (λ i. new l m t (heldBy p s m))
-      one l m t false = λ e. omega arith
+      one : s < 128 → (m : Message) (next : ℕ) → inTable m ≡ true → (b : Bool) → Roomy (takeMessage p s room used (pick b (Exactly.One m) (Exactly.Broken Fault.Spare next)))
+      one l m next t true = asking (eqb (m .number) (p .agreement)) 16 _ (λ e. omega arith) (λ i. new l m t (heldBy p s m))
+      one l m next t false = λ e. omega arith
+
+      broken : (fault : Fault) (at : ℕ) → Roomy (refused (refusalNumber fault) at)
+      broken Fault.Cut at = λ i. omega arith
+      broken Fault.CutOutside at = λ i. omega arith
+      broken Fault.Malformed at = λ i. omega arith
+      broken Fault.Outside at = λ i. omega arith
+      broken Fault.Spare at = λ i. omega arith
 
       read : s < 128 → (r : MessageRead) → messageAt bytes 0 ≡ r → Roomy (takeMessage p s room used (exactly bytes r))
-      read l (MessageRead.Read m next) e = one l m (message-table (message-parts bytes 0 m next e)) (eqb next (length bytes))
-      read l MessageRead.Short e = λ i. omega arith
-      read l MessageRead.Bad e = λ i. omega arith
+      read l (MessageRead.Read m next) e = one l m next (message-table bytes 0 m next e) (eqb next (length bytes))
+      read l (MessageRead.Failed fault at) e = broken fault at
 
 -- ---- what the call gives
 

@@ -7,9 +7,9 @@ use lib.ListN.{length}
 use Rattle.message.specs.declared.Message.{Message}
 use Rattle.message.specs.declared.MessageRead.{MessageRead}
 use Rattle.message.specs.Reading.{messageAt}
-use Rattle.message.proofs.RoundTrip.{message-parts, message-places}
+use Rattle.message.proofs.RoundTrip.{message-place}
 
 pub message-within : (s : List ℕ) (at : ℕ) (m : Message) (next : ℕ) → messageAt s at ≡ MessageRead.Read m next → (at ≤ next) × (next ≤ length s)
 message-within s at m next e =
-    let p = message-places (message-parts s at m next e) in
+    let p = message-place s at m next e in
     (omega arith, omega arith)

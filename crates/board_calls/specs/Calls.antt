@@ -15,6 +15,7 @@ use Rattle.plan.specs.Positions.{noPlan}
 use Rattle.plan.specs.Reading.{settledPlan}
 use Rattle.message.specs.declared.Exactly.{Exactly}
 use Rattle.message.specs.Reading.{exactMessage}
+use Rattle.message.specs.Refusals.{refusalNumber}
 use Rattle.level.specs.Level.{noOutput}
 use Rattle.journal.specs.declared.Record.{Record}
 use Rattle.journal.specs.declared.Record.the-variants.{Start, Taken}
@@ -69,12 +70,13 @@ startQuestions p input room used out =
     (ask (not (eqb (positionOf (p .plan) input) noOutput)) 12 0
     (fitting room used (Start (p .agreement) (positionOf (p .plan) input)) (starting p (positionOf (p .plan) input)))))
 
--- "Take: Sender below n? 14. Bytes exactly one message? 15. Our agreement number? 16. Held already, or record fits? 17."
+-- "Take: Sender below n? 14. Bytes exactly one message? 15. Our agreement number? 16. Held already, or record fits? 17." Document 02, Q-2: 15, 22, 23 and 24
+-- "are asked at 15's place, left to right", with the place that was found.
 abbrev pub takeMessage : Party → ℕ → ℕ → ℕ → Exactly → Found Entry
 takeMessage p s room used (Exactly.One m) =
     ask (eqb (m .number) (p .agreement)) 16 0
     (pick (heldBy p s m) (found again) (fitting room used (Taken s m) (taking p s m)))
-takeMessage p s room used Exactly.Refused = refused 15 0
+takeMessage p s room used (Exactly.Broken fault at) = refused (refusalNumber fault) at
 
 unfoldable pub takeQuestions : Party → ℕ → List ℕ → ℕ → ℕ → ℕ → Found Entry
 takeQuestions p s bytes room used out =

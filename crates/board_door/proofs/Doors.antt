@@ -48,8 +48,8 @@ carried-asks {p} {chart} {ports} {room} {used} {out} e h =
     (record { valid = f .0; rows = h .charted (f .0) .0; charts = h .charted (f .0) .1; room = f .1 }, f .2, f .3)
 
 module _ {p : Party} {used : ℕ} {j out : List ℕ} {a : Asked} where
-  pub refusal-carried : {number : ℕ} → a ≡ Asked.Refused number
-      → CallGives (foundBy p a) p used j out (record { verdict = Verdict.Refused number 0; party = p; used = used; sent = 0; rules = 0 }) j out
+  pub refusal-carried : {number place : ℕ} → a ≡ Asked.Refused number place
+      → CallGives (foundBy p a) p used j out (record { verdict = Verdict.Refused number place; party = p; used = used; sent = 0; rules = 0 }) j out
   refusal-carried e = record {
     result = ap (λ (a : Asked). calledOf p used (foundBy p a)) (sym e);
     journal = ap (λ (a : Asked). journalAfter j used (foundBy p a)) (sym e);

@@ -40,8 +40,8 @@ fn carry_out(
     ensures { λ g. ⌜ CallGives (foundBy (partyIn v (shaped shape (now (ps .entry)) (now (cs .entry))) levels (now (sets .entry))) a) (partyIn v (shaped shape (now (ps .entry)) (now (cs .entry))) levels (now (sets .entry))) used (now (journal .entry)) (now (out .entry)) (carriedBy v (shaped shape (now (ps .entry)) (now (cs .entry))) (now (sets .exit)) g) (now (journal .exit)) (now (out .exit)) ⌝ }
 {
     match a {
-        Asked::Refused(number) => {
-            let verdict = base::Verdict::Refused { number, place: 0 };
+        Asked::Refused { number, place } => {
+            let verdict = base::Verdict::Refused { number, place };
             Carried {
                 verdict: verdict,
                 levels: levels,

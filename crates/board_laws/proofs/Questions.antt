@@ -14,7 +14,9 @@ use Rattle.base.specs.Found.{Found, found, refused, ask}
 use Rattle.plan.proofs.Listed.{ask-yes}
 use Rattle.plan.proofs.Answers.{ask-no}
 use Rattle.message.specs.declared.Message.{Message}
+use Rattle.format.specs.declared.Fault.{Fault}
 use Rattle.message.specs.declared.Exactly.{Exactly}
+use Rattle.message.specs.Refusals.{refusalNumber}
 use Rattle.message.specs.Reading.{exactMessage}
 use Rattle.level.specs.Level.{noOutput}
 use Rattle.journal.specs.declared.Record.{Record}
@@ -104,8 +106,8 @@ module _ (p : Party) (s : ℕ) (bytes : List ℕ) (room used out : ℕ) where
       from-board : takeQuestions p s bytes room used out ≡ takeMessage p s room used (exactMessage bytes)
       from-board = taken-inside ∙ rw (lt-ltb s (p .n) h)
 
-      pub take-no-message : exactMessage bytes ≡ Exactly.Refused → takeQuestions p s bytes room used out ≡ refused 15 0
-      take-no-message e = from-board ∙ ap (takeMessage p s room used) e
+      pub take-broken : (fault : Fault) (at : ℕ) → exactMessage bytes ≡ Exactly.Broken fault at → takeQuestions p s bytes room used out ≡ refused (refusalNumber fault) at
+      take-broken fault at e = from-board ∙ ap (takeMessage p s room used) e
 
       module _ (m : Message) (e : exactMessage bytes ≡ Exactly.One m) where
         one-message : takeQuestions p s bytes room used out ≡ takeMessage p s room used (Exactly.One m)

@@ -93,4 +93,4 @@ module _ (p : Party) (room used out : ℕ) (r : Record) (ran : Ran) where
       one v l (Exactly.One m) i e =
           let c = asked (eqb (m .number) (p .agreement)) 16 0 _ (fresh r ran) e in
           new v l m (true→T (exact-message-written bytes m all i .0)) (eqb→eq (m .number) (p .agreement) (c .0)) (heldBy p s m) (c .1)
-      one v l Exactly.Refused i e = let z : _≡_ {A = ℕ} 0 1 = cc in absurd (omega arith)
+      one v l (Exactly.Broken fault at) i e = let z : _≡_ {A = ℕ} 0 1 = cc in absurd (omega arith)

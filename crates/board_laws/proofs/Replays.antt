@@ -17,7 +17,7 @@ use Rattle.journal.specs.declared.Record.{Record}
 use Rattle.journal.specs.declared.Record.the-variants.{Start, Taken}
 use Rattle.journal.specs.declared.RecordRead.{RecordRead}
 use Rattle.journal.specs.Reading.{recordAt}
-use Rattle.journal.proofs.Further.{record-place}
+use Rattle.journal.proofs.RoundTrip.{record-place}
 use Rattle.party.specs.Party.{Party, newParty, levelAt, contextOf, started, entered, hearing}
 use Rattle.party.specs.Run.{Ran, resting, openAt, stepAt}
 use Rattle.party_life.specs.Life.{replayed, following, lived, faultOf, fault, Fits, Life}

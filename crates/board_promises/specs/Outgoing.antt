@@ -1,6 +1,5 @@
 -- "An accepted call writes its messages from the outgoing buffer's first byte": the messages that bytes are, read one after the other.
 use mathlib.Core.Path.{_≡_}
-use mathlib.Core.Bool.{true}
 use mathlib.Core.List.{List, [], _∷_, List·Memᴰ}
 use mathlib.Core.Option.{Option, none, some}
 use Prim.Native.Nat.{ℕ, zero, suc, _≤_, _<_}
@@ -23,8 +22,7 @@ withRest m (some ms) = some (m ∷ ms)
 -- what is read first, and then what stands after it
 abbrev pub withNext : MessageRead → (ℕ → Option (List Message)) → Option (List Message)
 withNext (MessageRead.Read m next) more = withRest m (more next)
-withNext MessageRead.Short more = none
-withNext MessageRead.Bad more = none
+withNext (MessageRead.Failed fault at) more = none
 
 -- the messages from `at` to the last byte of s, at most f; none if something else stands there
 unfoldable pub messagesFrom : ℕ → List ℕ → ℕ → Option (List Message)

@@ -6,7 +6,6 @@ use Prim.Native.Nat.{ℕ, _+_, _-_, _*_, _≤_, _<_}
 use native.Mathlib.Decide.{decLe}
 use native.Mathlib.Omega.{arith}
 use lib.Dec.{T}
-use lib.IntN.{ℤ}
 use lib.ListN.{length, getD}
 use borrow.Author.Tests.{le-leb, lt-leb, not-true, not-false}
 use Rattle.base.specs.Limits.{levelCount, outgoingSize}
@@ -14,7 +13,9 @@ use Rattle.base.specs.Found.{Found, refused}
 use Rattle.base.proofs.Bools.{true→T, false→not-T}
 use Rattle.senders.specs.Senders.{isIn}
 use Rattle.message.specs.declared.Message.{Message}
+use Rattle.format.specs.declared.Fault.{Fault}
 use Rattle.message.specs.declared.Exactly.{Exactly}
+use Rattle.message.specs.Refusals.{refusalNumber}
 use Rattle.message.specs.Message.{inTable}
 use Rattle.message.specs.Reading.{exactMessage}
 use Rattle.message.proofs.RoundTrip.{table-parts}
@@ -34,10 +35,9 @@ use Rattle.party.specs.Inner.{setCount}
 use Rattle.party.proofs.Ties.{level-in, held-in}
 use Rattle.party_life.specs.Life.{replayed, Fits}
 use Rattle.party_life.proofs.Fits.{fitting-start, fitting-taken}
-use Rattle.board_calls.specs.Answers.{positionOf}
 use Rattle.board_calls.specs.Calls.{Entry, fitting}
 use Rattle.board_laws.proofs.Inputs.{position-on}
-use Rattle.board_laws.proofs.Questions.{shut-19, shut-18, shut-20, full, fitted as has-room, start-door, start-again, start-off, start-left, take-door, take-sender, take-no-message, take-number, take-held, take-left}
+use Rattle.board_laws.proofs.Questions.{shut-19, shut-18, shut-20, full, fitted as has-room, start-door, start-again, start-off, start-left, take-door, take-sender, take-broken, take-number, take-held, take-left}
 use Rattle.board_questions.specs.declared.Asked.{Asked}
 use Rattle.board_questions.specs.Inner.{AtDoor, fitted, Asks, AsksStart, AsksTake}
 
@@ -61,7 +61,7 @@ module _ (valid : Bool) (room used out : ℕ) where
 
 -- what is left behind the used bytes takes a record where the whole has room for it
 module _ {room used size : ℕ} (r : Record) (u : used ≤ room) (e : size ≡ length (recordBytes r)) where
-  pub fit-not : room - used < size → Asked.Refused 17 ≡ fitted room used r
+  pub fit-not : room - used < size → Asked.Refused 17 0 ≡ fitted room used r
   fit-not h = rw (lt-leb (used + length (recordBytes r)) room (omega arith))
 
   pub fit-well : size ≤ room - used → Asked.Fresh r ≡ fitted room used r
@@ -70,7 +70,7 @@ module _ {room used size : ℕ} (r : Record) (u : used ≤ room) (e : size ≡ l
 -- ---- what the questions find
 
 module _ {p : Party} {room used out : ℕ} {q : Found Entry} where
-  refused-asks : {number : ℕ} → q ≡ refused number 0 → Asks p room used out q (Asked.Refused number)
+  refused-asks : {number place : ℕ} → q ≡ refused number place → Asks p room used out q (Asked.Refused number place)
   refused-asks e = record { finds = e; fits = tt }
 
   -- all questions but 17 pass
@@ -84,7 +84,7 @@ module _ {p : Party} {room used out : ℕ} {q : Found Entry} where
           subst (Asks p room used out q) j (record { finds = e ∙ has-room room used r (replayed p r) h; fits = (v, o, f, h) })
       go (no h) =
           let k : room < used + length (recordBytes r) = omega arith in
-          let j : Asked.Refused 17 ≡ a = sym (i ∙ rw (lt-leb (used + length (recordBytes r)) room k)) in
+          let j : Asked.Refused 17 0 ≡ a = sym (i ∙ rw (lt-leb (used + length (recordBytes r)) room k)) in
           subst (Asks p room used out q) j (record { finds = e ∙ full room used r (replayed p r) k; fits = tt })
 
 module _ {valid : Bool} {room used out number : ℕ} (d : AtDoor valid room used out number) where
@@ -94,21 +94,21 @@ module _ {valid : Bool} {room used out number : ℕ} (d : AtDoor valid room used
 
   -- of a start
   module _ (v : Vote) (levels : List CodeLevel.Level) (x : ℕ) where
-    pub start-shut : (number ≡ 0 → ⊥) → AsksStart valid v levels x room used out (Asked.Refused number)
+    pub start-shut : (number ≡ 0 → ⊥) → AsksStart valid v levels x room used out (Asked.Refused number 0)
     start-shut n = record { asks = λ plan sets z at e. refused-asks (start-door (partyIn v plan levels sets) z room used out number (d .fails n _ e)) }
 
     module _ (n : number ≡ 0) (i : 0 < length levels) where
       begun : {b : Bool} → getD levels 0 noCodeLevel .entered ≡ b → (plan : Plan) (sets : List ℕ) → started (partyIn v plan levels sets) ≡ b
       begun h plan sets = ap (λ (l : Level). l .entered) (level-in v plan levels sets 0 i) ∙ h
 
-      pub start-13 : getD levels 0 noCodeLevel .entered ≡ true → AsksStart valid v levels x room used out (Asked.Refused 13)
+      pub start-13 : getD levels 0 noCodeLevel .entered ≡ true → AsksStart valid v levels x room used out (Asked.Refused 13 0)
       start-13 h = record {
         asks = λ plan sets z at e.
             refused-asks (start-again (partyIn v plan levels sets) z room used out (opened n (partyIn v plan levels sets) e) (d .passes n .1) (d .passes n .2) (begun h plan sets));
       }
 
       module _ (h : getD levels 0 noCodeLevel .entered ≡ false) where
-        pub start-12 : x ≡ noOutput → AsksStart valid v levels x room used out (Asked.Refused 12)
+        pub start-12 : x ≡ noOutput → AsksStart valid v levels x room used out (Asked.Refused 12 0)
         start-12 k = record {
           asks = λ plan sets z at e.
               refused-asks (start-off (partyIn v plan levels sets) z room used out (opened n (partyIn v plan levels sets) e) (d .passes n .1) (d .passes n .2) (begun h plan sets) x at k);
@@ -126,24 +126,27 @@ module _ {valid : Bool} {room used out number : ℕ} (d : AtDoor valid room used
 
   -- of a take
   module _ (v : Vote) (sets : List ℕ) (s : ℕ) (bytes : List ℕ) where
-    pub take-shut : (number ≡ 0 → ⊥) → AsksTake valid v sets s bytes room used out (Asked.Refused number)
+    pub take-shut : (number ≡ 0 → ⊥) → AsksTake valid v sets s bytes room used out (Asked.Refused number 0)
     take-shut n = record { asks = λ plan ls w e. refused-asks (take-door (partyIn v plan ls sets) s bytes room used out number (d .fails n _ e)) }
 
     module _ (n : number ≡ 0) where
-      pub take-14 : v .n ≤ s → AsksTake valid v sets s bytes room used out (Asked.Refused 14)
+      pub take-14 : v .n ≤ s → AsksTake valid v sets s bytes room used out (Asked.Refused 14 0)
       take-14 h = record {
         asks = λ plan ls w e. refused-asks (take-sender (partyIn v plan ls sets) s bytes room used out (opened n (partyIn v plan ls sets) e) (d .passes n .1) (d .passes n .2) h);
       }
 
       module _ (h : s < v .n) where
-        pub take-15 : exactMessage bytes ≡ Exactly.Refused → AsksTake valid v sets s bytes room used out (Asked.Refused 15)
-        take-15 i = record {
+        pub take-told : {fault : Fault} {number at : ℕ} → number ≡ refusalNumber fault → exactMessage bytes ≡ Exactly.Broken fault at
+            → AsksTake valid v sets s bytes room used out (Asked.Refused number at)
+        take-told {fault} {number} {at} k i = record {
           asks = λ plan ls w e.
-              refused-asks (take-no-message (partyIn v plan ls sets) s bytes room used out (opened n (partyIn v plan ls sets) e) (d .passes n .1) (d .passes n .2) h i);
+              refused-asks
+              (take-broken (partyIn v plan ls sets) s bytes room used out (opened n (partyIn v plan ls sets) e) (d .passes n .1) (d .passes n .2) h fault at i
+              ∙ ap (λ (x : ℕ). refused x at) (sym k));
         }
 
         module _ (m : Message) (i : exactMessage bytes ≡ Exactly.One m) where
-          pub take-16 : (m .number ≡ v .agreement → ⊥) → AsksTake valid v sets s bytes room used out (Asked.Refused 16)
+          pub take-16 : (m .number ≡ v .agreement → ⊥) → AsksTake valid v sets s bytes room used out (Asked.Refused 16 0)
           take-16 k = record {
             asks = λ plan ls w e.
                 refused-asks (take-number (partyIn v plan ls sets) s bytes room used out (opened n (partyIn v plan ls sets) e) (d .passes n .1) (d .passes n .2) h m i k);

@@ -29,17 +29,17 @@ pub record AtDoor (valid : Bool) (room used out number : ℕ) : Type 0 where
 
 -- question 17
 abbrev pub fitted : ℕ → ℕ → Record → Asked
-fitted room used r = pick (leb (used + length (recordBytes r)) room) (Asked.Fresh r) (Asked.Refused 17)
+fitted room used r = pick (leb (used + length (recordBytes r)) room) (Asked.Fresh r) (Asked.Refused 17 0)
 
 -- what the code found, in the definitions' words
 abbrev pub foundBy : Party → Asked → Found Entry
-foundBy p (Asked.Refused number) = refused number 0
+foundBy p (Asked.Refused number place) = refused number place
 foundBy p Asked.Again = found again
 foundBy p (Asked.Fresh r) = found (fresh r (replayed p r))
 
 -- where that is a record, its call can be made
 abbrev pub Recordable : Party → ℕ → ℕ → ℕ → Asked → Type 0
-Recordable p room used out (Asked.Refused number) = Unit {0}
+Recordable p room used out (Asked.Refused number place) = Unit {0}
 Recordable p room used out Asked.Again = Unit {0}
 Recordable p room used out (Asked.Fresh r) = T (partyValid p) × (outgoingSize ≤ out) × Fits p r × (used + length (recordBytes r) ≤ room)
 

@@ -5,9 +5,9 @@ ghost use Prim.Native.Nat.{_≤_};
 ghost use Rattle.base.specs.Limits.{maxBoards};
 ghost use Rattle.board_questions.specs.Inner.{AtDoor, fitted, AsksStart, AsksTake};
 
-// What the questions of a start or take find: the number of the first that fails, a message that is held already, or the record to write.
+// What the questions of a start or take find: the number of the first that fails and its place, a message that is held already, or the record to write.
 pub enum Asked {
-    Refused(u8),
+    Refused { number: u8, place: usize },
     Again,
     Fresh(journal::Record),
 }
@@ -35,7 +35,10 @@ fn fit(r: journal::Record, room: usize, used: usize) -> Asked
     ensures { λ a. ⌜ a ≡ fitted room used r ⌝ }
 {
     if room - used < journal::size(r) {
-        return Asked::Refused(17);
+        return Asked::Refused {
+            number: 17,
+            place: 0,
+        };
     }
     Asked::Fresh(r)
 }
@@ -54,14 +57,20 @@ pub fn ask_start(
 {
     let number = at_door(valid, room, used, out);
     if number != 0 {
-        return Asked::Refused(number);
+        return Asked::Refused { number, place: 0 };
     }
     let l = levels[0];
     if l.entered {
-        return Asked::Refused(13);
+        return Asked::Refused {
+            number: 13,
+            place: 0,
+        };
     }
     if x == level::NO_OUTPUT {
-        return Asked::Refused(12);
+        return Asked::Refused {
+            number: 12,
+            place: 0,
+        };
     }
     let record = journal::Record::Start {
         agreement: v.agreement,
@@ -70,7 +79,8 @@ pub fn ask_start(
     fit(record, room, used)
 }
 
-// "Take: Sender below n? 14. Bytes exactly one message? 15. Our agreement number? 16. Held already, or record fits? 17.", after those at the door.
+// "Take: Sender below n? 14. Bytes exactly one message? 15. Our agreement number? 16. Held already, or record fits? 17.", after those at the door; in the
+// place of 15 document 02's four: 15, 22, 23 and 24.
 // A vote that passes 19 has at most 16 boards, so the sender fits a byte.
 pub fn ask_take(
     valid: bool,
@@ -87,25 +97,36 @@ pub fn ask_take(
 {
     let number = at_door(valid, room, used, out);
     if number != 0 {
-        return Asked::Refused(number);
+        return Asked::Refused { number, place: 0 };
     }
     if v.n <= sender {
-        return Asked::Refused(14);
+        return Asked::Refused {
+            number: 14,
+            place: 0,
+        };
     }
-    let message::Exactly::One(m) = message::read(bytes) else {
-        return Asked::Refused(15);
-    };
-    if m.number != v.agreement {
-        return Asked::Refused(16);
+    match message::read(bytes) {
+        message::Exactly::One(m) => {
+            if m.number != v.agreement {
+                return Asked::Refused {
+                    number: 16,
+                    place: 0,
+                };
+            }
+            let s = sender as u8;
+            let k = party::place(m);
+            if senders::contains(sets[k], s) {
+                return Asked::Again;
+            }
+            let record = journal::Record::Taken {
+                sender: s,
+                message: m,
+            };
+            fit(record, room, used)
+        }
+        message::Exactly::Broken { fault, at } => Asked::Refused {
+            number: message::refusal_number(fault),
+            place: at,
+        },
     }
-    let s = sender as u8;
-    let k = party::place(m);
-    if senders::contains(sets[k], s) {
-        return Asked::Again;
-    }
-    let record = journal::Record::Taken {
-        sender: s,
-        message: m,
-    };
-    fit(record, room, used)
 }

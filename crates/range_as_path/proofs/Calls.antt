@@ -92,7 +92,7 @@ module _ (p p′ : Party) (w : TwinParties p p′) (room used : ℕ) where
       go : (c : Bool) → TwinFound TwinEntry (pick c (found again) (fitting room used (Taken s m) (taking p s m))) (pick c (found again) (fitting room used (Taken s m) (taking p′ s m)))
       go true = both held
       go false = twin-fitting (Taken s m) (taking p s m) (taking p′ s m) (twin-taking p p′ w s m)
-  twin-message s Exactly.Refused = neither
+  twin-message s (Exactly.Broken fault at) = neither
 
   pub twin-take : (s : ℕ) (bytes : List ℕ) (out : ℕ) → TwinFound TwinEntry (takeQuestions p s bytes room used out) (takeQuestions p′ s bytes room used out)
   unfolding takeQuestions

@@ -23,6 +23,9 @@ read-at-requires c κs = search needs
 enum-known-m : tie.Need-enum-known-m Inv-loop μ-loop
 enum-known-m c = search needs
 
+enum-told : tie.Need-enum-told Inv-loop μ-loop
+enum-told c = search needs
+
 returns-2 : tie.Need-returns-2 Inv-loop μ-loop
 returns-2 c = search needs
 
@@ -51,6 +54,7 @@ keep-all-spec =
     returns
     read-at-requires
     enum-known-m
+    enum-told
     returns-2
     keep-requires
     add-count

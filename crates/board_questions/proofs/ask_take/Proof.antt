@@ -10,7 +10,7 @@ use Rattle.message.specs.declared.Exactly.{Exactly}
 use Rattle.message.specs.Message.{inTable}
 use Rattle.message.specs.Reading.{exactMessage}
 use Rattle.message.proofs.RoundTrip.{exact-message-written}
-use Rattle.board_questions.proofs.Asking.{take-shut, take-14, take-15, take-16, take-again, take-fit, place-below}
+use Rattle.board_questions.proofs.Asking.{take-shut, take-14, take-told, take-16, take-again, take-fit, place-below}
 use borrow.Author.Needs.{needs}
 use Rattle.board_questions.proofs.ask_take.Statement.{statement}
 use Rattle.board_questions.proofs.ask_take.Tie as tie
@@ -29,14 +29,6 @@ read-requires c κs = search needs
 
 enum-known-m : tie.Need-enum-known-m
 enum-known-m c = search needs
-
-enum-told : tie.Need-enum-told
-enum-told c = search needs
-
-returns-3 : tie.Need-returns-3
-returns-3 c =
-    let b = c .before .before .before in
-    take-15 (b .before .before .before .at-door .ensures) _ _ _ _ (b .before .before .if1 .left) (b .if2 .left) (sym (c .before .before .read .ensures) ∙ c .enum-told .given .1)
 
 -- a message
 module _ (c : tie.After-m) where
@@ -57,8 +49,8 @@ module _ (c : tie.After-m) where
       let d = c .before .before .before .before .before in
       omega (arith, c .before .before .before .if2 .left, s .pre (d .before .at-door .ensures .passes (d .if1 .left) .0))
 
-returns-4 : tie.Need-returns-4
-returns-4 c =
+returns-3 : tie.Need-returns-3
+returns-3 c =
     let b = c .before .before .before .before .before .before .before in
     take-16 (b .before .before .before .at-door .ensures) _ _ _ _ (b .before .before .if1 .left) (b .if2 .left) _ (one (c .before .before .before .before)) (c .if3 .taken)
 
@@ -83,8 +75,8 @@ element-copy-out-contains c = omega (arith, below c)
 contains-requires : tie.Need-contains-requires
 contains-requires c κs = omega (arith, known (c .before .before .before .before .before .before))
 
-returns-5 : tie.Need-returns-5
-returns-5 c =
+returns-4 : tie.Need-returns-4
+returns-4 c =
     let k = c .before .before .before .before .before .before .before .before in
     let b = k .before .before .before in
     take-again (b .before .before .before .at-door .ensures) _ _ _ _ (b .before .before .if1 .left) (b .if2 .left) _ (one k) (c .before .before .before .before .if3 .left) (table k) (c .before .before .before .place .ensures) (c .before .contains .ensures) (c .if4 .taken)
@@ -94,11 +86,23 @@ fit-requires c κs =
     let b = c .before .before .before .before .before .before .before .before .before .before .before .before .before in
     b .before .at-door .ensures .passes (b .if1 .left) .2
 
-returns-6 : tie.Need-returns-6
-returns-6 c =
+returns-5 : tie.Need-returns-5
+returns-5 c =
     let k = c .before .before .before .before .before .before .before .before .before in
     let b = k .before .before .before in
     take-fit (b .before .before .before .at-door .ensures) _ _ _ _ (b .before .before .if1 .left) (b .if2 .left) _ (one k) (c .before .before .before .before .before .if3 .left) (table k) (c .before .before .before .before .place .ensures) (c .before .before .contains .ensures) (c .before .if4 .left) (c .fit .ensures)
+
+-- no message
+enum-known-fault : tie.Need-enum-known-fault
+enum-known-fault c = search needs
+
+refusal-number-requires : tie.Need-refusal-number-requires
+refusal-number-requires c κs = search needs
+
+returns-6 : tie.Need-returns-6
+returns-6 c =
+    let b = c .before .before .before .before .before in
+    take-told (b .before .before .before .at-door .ensures) _ _ _ _ (b .before .before .if1 .left) (b .if2 .left) (c .refusal-number .ensures) (sym (c .before .before .before .before .read .ensures) ∙ c .before .before .fault .given .1)
 
 pub ask-take-spec : {M : Type 1} → statement M
 ask-take-spec =
@@ -109,14 +113,15 @@ ask-take-spec =
     returns-2
     read-requires
     enum-known-m
-    enum-told
     returns-3
-    returns-4
     cast-s
     place-requires
     mul-contains
     element-copy-out-contains
     contains-requires
-    returns-5
+    returns-4
     fit-requires
+    enum-known-fault
+    refusal-number-requires
+    returns-5
     returns-6)

@@ -2,7 +2,7 @@
 use mathlib.Core.Path.{sym, _∙_, subst}
 use Prim.Native.Nat.{_-_}
 use native.Mathlib.Omega.{arith}
-use Rattle.journal.proofs.Further.{record-place}
+use Rattle.journal.proofs.RoundTrip.{record-place}
 use Rattle.plan.specs.Tie.{shaped}
 use Rattle.party.specs.Tie.{partyIn}
 use Rattle.board_restore.proofs.Restores.{NoRecord, Replaying, replaying-start, replaying-read, replaying-asks, replaying-sum, replaying-next, replaying-end}

@@ -3,7 +3,7 @@ use mathlib.Core.Path.{sym, _∙_}
 use Prim.Native.Nat.{_-_}
 use native.Mathlib.Omega.{arith}
 use lib.ListN.{length}
-use Rattle.journal.proofs.Further.{record-place}
+use Rattle.journal.proofs.RoundTrip.{record-place}
 use Rattle.party.specs.Party.{Party}
 use Rattle.board_laws.specs.Inner.{New}
 use Rattle.board_restore.specs.Inner.{OfVote}
