@@ -1,4 +1,4 @@
-// Runs sums of document 01 ("Sums to check by hand"), and document 02's table of lengths, through the code and prints what comes of them.
+// Runs sums of document 01 ("Sums to check by hand"), and document 02's table of lengths and broken messages, through the code and prints what comes of them.
 use libc::STDOUT_FILENO;
 
 fn number(n: u64) {
@@ -68,6 +68,34 @@ fn lengths(first: u32, last: u32) {
     line();
 }
 
+// What is told of bytes that should be one message: the refusal's number and place, or 0.
+fn told(s: &[u8]) {
+    match message::read(s) {
+        message::Exactly::One(_) => number(0),
+        message::Exactly::Broken { fault, at } => {
+            number(message::refusal_number(fault) as u64);
+            number(at as u64);
+        }
+    }
+    line();
+}
+
+// A side's message, cut, with each group wrong, and with a byte behind it: README, "For the wire tester".
+fn tellings() {
+    told(&[172, 2, 3, 5, 2]);
+    told(&[]);
+    told(&[172, 2, 3]);
+    told(&[172, 2, 142]);
+    told(&[172, 130, 0, 3, 5, 2]);
+    told(&[172, 2, 131, 0, 5, 2]);
+    told(&[172, 2, 128, 128, 128, 128, 128]);
+    told(&[172, 2, 15, 5, 2]);
+    told(&[172, 2, 3, 7, 2]);
+    told(&[172, 2, 3, 5, 16]);
+    told(&[172, 2, 3, 5, 16, 0]);
+    told(&[172, 2, 3, 5, 2, 0]);
+}
+
 fn main() {
     bytes(varint_of(300));
     verdict(plan_reader::read(&[128, 0]));
@@ -98,4 +126,5 @@ fn main() {
     lengths(16384, 2097151);
     lengths(2097152, 268435455);
     lengths(268435456, 4294967295);
+    tellings();
 }

@@ -166,7 +166,7 @@ table =
     ∷ accepts (start fresh (pos 2) 5 2 2640) 5
     -- started, on the plan, no room
     ∷ refuses (start begun (pos 2) 2 2 2640) 13 0
-    -- ---- take: 19, 18, 20, 14, 15, 16, 17
+    -- ---- take: 19, 18, 20, 14, then 15, 22, 23 or 24, 16, 17
     -- a damaged record, sender 4 of 4, a first echo of agreement 2 without its value, 3 used bytes of 2, an outgoing buffer of 2,639
     ∷ refuses (take (damaged fresh) 4 (0x02 ∷ 0x00 ∷ 0x01 ∷ []) 2 3 2639) 19 0
     -- not damaged
@@ -176,7 +176,7 @@ table =
     -- 2 used bytes of 2
     ∷ refuses (take fresh 4 (0x02 ∷ 0x00 ∷ 0x01 ∷ []) 2 2 2640) 14 0
     -- sender 3
-    ∷ refuses (take fresh 3 (0x02 ∷ 0x00 ∷ 0x01 ∷ []) 2 2 2640) 15 0
+    ∷ refuses (take fresh 3 (0x02 ∷ 0x00 ∷ 0x01 ∷ []) 2 2 2640) 15 3
     -- with its value
     ∷ refuses (take fresh 3 (0x02 ∷ 0x00 ∷ 0x01 ∷ 0x02 ∷ []) 2 2 2640) 16 0
     -- of agreement 1
@@ -187,8 +187,12 @@ table =
     ∷ refuses (take fresh 4 (0x02 ∷ 0x00 ∷ 0x01 ∷ 0x02 ∷ []) 8 2 2640) 14 0
     -- sender 4, no room
     ∷ refuses (take fresh 4 (0x01 ∷ 0x00 ∷ 0x01 ∷ 0x02 ∷ []) 2 2 2640) 14 0
-    -- a spare byte after a message of agreement 2
-    ∷ refuses (take fresh 3 (0x02 ∷ 0x00 ∷ 0x01 ∷ 0x02 ∷ 0x00 ∷ []) 8 2 2640) 15 0
+    -- sender 4, level 15
+    ∷ refuses (take fresh 4 (0x02 ∷ 0x0F ∷ 0x01 ∷ 0x02 ∷ []) 2 2 2640) 14 0
+    -- of agreement 2, no room: its number not in the fewest bytes; of level 15; with a spare byte: 22, 23 and 24 before 16 and 17
+    ∷ refuses (take fresh 3 (0x82 ∷ 0x00 ∷ 0x00 ∷ 0x01 ∷ 0x02 ∷ []) 2 2 2640) 22 0
+    ∷ refuses (take fresh 3 (0x02 ∷ 0x0F ∷ 0x01 ∷ 0x02 ∷ []) 2 2 2640) 23 1
+    ∷ refuses (take fresh 3 (0x02 ∷ 0x00 ∷ 0x01 ∷ 0x02 ∷ 0x00 ∷ []) 2 2 2640) 24 4
     -- "Held already, or record fits?": held already, no room; accepted with no record
     ∷ accepts (take holding 3 (0x01 ∷ 0x00 ∷ 0x01 ∷ 0x02 ∷ []) 2 2 2640) 2
     -- the same of agreement 2
@@ -220,6 +224,11 @@ table =
     ∷ refuses (replay (startRecord ++ (0x02 ∷ 0x04 ∷ 0x01 ∷ 0x00 ∷ 0x01 ∷ 0x02 ∷ []))) 14 3
     -- sender 3
     ∷ accepts (replay (startRecord ++ echoRecord)) 9
+    -- cut inside a level: 8E could only become a level outside the table, so the record is not torn; cut before the level it is
+    ∷ refuses (replay (startRecord ++ (0x02 ∷ 0x03 ∷ 0x01 ∷ 0x8E ∷ []))) 21 3
+    ∷ accepts (replay (startRecord ++ (0x02 ∷ 0x03 ∷ 0x01 ∷ []))) 3
+    -- agreement number 1 in two bytes
+    ∷ refuses (replay (startRecord ++ (0x02 ∷ 0x03 ∷ 0x81 ∷ 0x00 ∷ []))) 21 3
     -- ---- a start's record, after another: 21, 16, 13, 12
     -- agreement 2, position 65,536
     ∷ refuses (replay (startRecord ++ (0x01 ∷ 0x02 ∷ 0x80 ∷ 0x80 ∷ 0x04 ∷ []))) 21 3
