@@ -1,16 +1,19 @@
-// Questions at the door. Each function gives the number of the first that is answered no, or 0.
+// Questions at the door. Each function gives the number of the first that is answered no, or 0; of
+// a message its place too.
+use second_plan::plans;
+use second_plan::plans::Verdict;
 use second_plan::table;
 use second_plan::table::Table;
 use second_wire::group;
 use second_wire::num;
 use second_wire::wire;
 
-// The first of two numbers that is not 0.
-pub fn first(a: u32, b: u32) -> u32 {
-    if a == 0 {
-        return b;
+// A refusal by this number, or where it is 0 what is asked after.
+pub fn then(number: u32, after: Verdict) -> Verdict {
+    if number == 0 {
+        return after;
     }
-    a
+    plans::decided(number, 0)
 }
 
 // Questions 1 to 3; t above 5 is refused first, so that 3t is small.
@@ -58,21 +61,31 @@ pub fn start(table: &Table, position: usize) -> u32 {
     0
 }
 
-// Questions 14 to 16 of a message of so many bytes.
-pub fn message(table: &Table, sender: usize, record: wire::Record, length: usize) -> u32 {
+// What is wrong with a message's group of this state: the bytes end inside it, it is too long or
+// too large, or it is outside the table.
+fn broken(state: usize) -> u32 {
+    match state {
+        group::MALFORMED => 22,
+        group::OUTSIDE => 23,
+        _ => 15,
+    }
+}
+
+// Question 14 of a message of so many bytes; 15, 22, 23 and 24, the leftmost first; and 16.
+pub fn message(table: &Table, sender: usize, record: wire::Record, length: usize) -> Verdict {
     if table::at(table, table::VOTE, table::BOARDS) <= sender {
-        return 14;
+        return plans::decided(14, 0);
     }
     if record.state != group::WHOLE {
-        return 15;
+        return plans::decided(broken(record.state), record.next);
     }
-    if record.next != length {
-        return 15;
+    if record.next < length {
+        return plans::decided(24, record.next);
     }
     if record.number != table::long(table, table::NUMBER) {
-        return 16;
+        return plans::decided(16, 0);
     }
-    0
+    plans::decided(0, 0)
 }
 
 // Whether the record is one of a message held already; a start has no kind and never is.
@@ -100,7 +113,8 @@ pub fn fits(table: &Table, record: wire::Record, journal: &[u8], after: usize) -
 // Not a question's number: the torn last record.
 pub const TORN: u32 = 99;
 
-// Questions 21, 16, 14, 13 and 12 of a record.
+// Questions 21, 16, 14, 13 and 12 of a record. It is torn only where further bytes could make it
+// whole.
 pub fn record(table: &Table, record: wire::Record) -> u32 {
     if record.state == group::CUT {
         return TORN;

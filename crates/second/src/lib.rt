@@ -1,6 +1,6 @@
-// The vote written a second time from document 01's sentences, with plain tables and loops over all
-// boards, values, positions and edges. It is compared with the first implementation byte for byte;
-// of itself it is proved only that it is safe and ends.
+// The vote written a second time from the sentences of documents 01 and 02, with plain tables and
+// loops over all boards, values, positions and edges. It is compared with the first implementation
+// byte for byte; of itself it is proved only that it is safe and ends.
 pub mod ask;
 pub mod reading;
 pub mod record;
@@ -78,15 +78,15 @@ pub fn start(
     out: &mut [u8],
 ) -> Done {
     let position = reading::above(table::long(table, table::BASE), input);
-    let number = ask::first(
+    let verdict = ask::then(
         ask::call(table, journal, used, out),
-        ask::start(table, position),
+        plans::decided(ask::start(table, position), 0),
     );
     let record = wire::start_of(table::long(table, table::NUMBER), position, 0);
-    record::commit(number, table, record, journal, used, out)
+    record::commit(verdict, table, record, journal, used, out)
 }
 
-// Take: questions 19, 18, 20, 14, 15, 16 and 17.
+// Take: questions 19, 18, 20, 14, then 15, 22, 23 and 24, then 16 and 17.
 pub fn take(
     table: &mut Table,
     sender: u32,
@@ -96,11 +96,11 @@ pub fn take(
     out: &mut [u8],
 ) -> Done {
     let record = wire::read_message(bytes, 0, sender as usize);
-    let number = ask::first(
+    let verdict = ask::then(
         ask::call(table, journal, used, out),
         ask::message(table, sender as usize, record, bytes.len()),
     );
-    record::commit(number, table, record, journal, used, out)
+    record::commit(verdict, table, record, journal, used, out)
 }
 
 // Replays the journal over a table that was not refused.

@@ -1,5 +1,6 @@
 // Records: what a start or a taken message does, and how a journal does it again.
 use crate::ask;
+use second_plan::plans::Verdict;
 use second_plan::table;
 use second_plan::table::Table;
 use second_rules::levels;
@@ -73,22 +74,25 @@ fn send(
     }
 }
 
-// Writes the record from the used length on and acts on it, unless it is refused by the number
-// asked before or by 17, or is one of a message held.
+// Writes the record from the used length on and acts on it, unless it is refused by what was asked
+// before or by 17, or is one of a message held.
 pub fn commit(
-    number: u32,
+    verdict: Verdict,
     table: &mut Table,
     record: wire::Record,
     journal: &mut [u8],
     used: usize,
     out: &mut [u8],
 ) -> Done {
+    if verdict.number != 0 {
+        return idle(verdict.number, verdict.place, used);
+    }
     let mut room = num::empty_room();
     let length = wire::write_record(&mut room, record);
     let after = num::add(used, length);
-    let asked = ask::first(number, ask::fits(table, record, journal, after));
-    if asked != 0 {
-        return idle(asked, 0, used);
+    let number = ask::fits(table, record, journal, after);
+    if number != 0 {
+        return idle(number, 0, used);
     }
     if ask::is_held(table, record) {
         return idle(0, 0, used);

@@ -3,15 +3,21 @@
 use crate::num;
 use crate::num::Room;
 
-// What reading found: more bytes wanted, a whole group, a malformed one, or the end of the bytes
-// inside one.
+// What reading found: more bytes wanted; a whole group; one too long or too large, whatever bytes
+// follow; or the end of the bytes inside one.
 const OPEN: usize = 0;
 
 pub const WHOLE: usize = 1;
 
-const MALFORMED: usize = 2;
+pub const MALFORMED: usize = 2;
 
 pub const CUT: usize = 3;
+
+// What limits make of it: a whole group outside them, or one cut short that can only come to lie
+// above them.
+pub const OUTSIDE: usize = 4;
+
+pub const CUT_ABOVE: usize = 5;
 
 // The largest value of a group.
 pub const LARGEST: usize = 4294967295;
@@ -74,16 +80,17 @@ fn with_byte(g: Group, b: usize) -> Group {
     }
 }
 
-// The group with the byte after it, if it is open.
+// The group with the byte after it, if it is open. After five bytes none is asked for: it is too
+// long even where the bytes end there.
 fn step(bytes: &[u8], g: Group) -> Group {
     if g.state != OPEN {
         return g;
     }
-    if bytes.len() <= g.next {
-        return ended(g, CUT);
-    }
     if 4 < g.pieces {
         return ended(g, MALFORMED);
+    }
+    if bytes.len() <= g.next {
+        return ended(g, CUT);
     }
     with_byte(g, num::byte_at(bytes, g.next))
 }
@@ -110,22 +117,28 @@ fn least(g: Group) -> usize {
     num::add(g.value, piece(1, g.pieces))
 }
 
-// The group at `at`, malformed too where no value from `low` to `high` can come of it.
-pub fn within(bytes: &[u8], at: usize, low: usize, high: usize) -> Group {
-    let g = read(bytes, at);
+// The state of a group that is to be from `low` to `high`.
+fn limited(g: Group, low: usize, high: usize) -> usize {
     if g.state == CUT {
-        if least(g) <= high {
-            return g;
+        if high < least(g) {
+            return CUT_ABOVE;
         }
     }
     if g.state == WHOLE {
-        if low <= g.value {
-            if g.value <= high {
-                return g;
-            }
+        if g.value < low {
+            return OUTSIDE;
+        }
+        if high < g.value {
+            return OUTSIDE;
         }
     }
-    ended(g, MALFORMED)
+    g.state
+}
+
+// The group at `at`, which is to be from `low` to `high`.
+pub fn within(bytes: &[u8], at: usize, low: usize, high: usize) -> Group {
+    let g = read(bytes, at);
+    ended(g, limited(g, low, high))
 }
 
 // How many bytes a group has, by document 02's printed table. Writing does not ask it.

@@ -32,8 +32,8 @@ pub const SENDERS: usize = 16;
 // Positions are 0 to 65,535.
 pub const LAST_POSITION: usize = 65535;
 
-// A start at a position, or a message of a sender, and the place after it. The state is a group's:
-// whole, malformed or cut short.
+// A start at a position, or a message of a sender, and the place after it. The state is that of the
+// first group that is not whole within its limits, and the place then its first byte's.
 pub struct Record {
     pub state: usize,
     pub sort: usize,
@@ -46,8 +46,8 @@ pub struct Record {
     pub next: usize,
 }
 
-// A record that is not whole.
-fn broken(state: usize) -> Record {
+// A record whose group at `at` has this state.
+fn broken(state: usize, at: usize) -> Record {
     Record {
         state,
         sort: 0,
@@ -57,7 +57,7 @@ fn broken(state: usize) -> Record {
         level: 0,
         kind: 0,
         value: 0,
-        next: 0,
+        next: at,
     }
 }
 
@@ -121,14 +121,14 @@ fn highest(kind: usize) -> usize {
 fn read_body(bytes: &[u8], at: usize, sender: usize, number: usize, level: usize) -> Record {
     let kind = group::within(bytes, at, FIRST_ECHO, CENTRE);
     if kind.state != group::WHOLE {
-        return broken(kind.state);
+        return broken(kind.state, at);
     }
     if kind.value == CENTRE {
         return message_of(sender, number, level, CENTRE, 0, kind.next);
     }
     let value = group::within(bytes, kind.next, lowest(kind.value), highest(kind.value));
     if value.state != group::WHOLE {
-        return broken(value.state);
+        return broken(value.state, kind.next);
     }
     message_of(sender, number, level, kind.value, value.value, value.next)
 }
@@ -137,11 +137,11 @@ fn read_body(bytes: &[u8], at: usize, sender: usize, number: usize, level: usize
 pub fn read_message(bytes: &[u8], at: usize, sender: usize) -> Record {
     let number = group::within(bytes, at, 0, group::LARGEST);
     if number.state != group::WHOLE {
-        return broken(number.state);
+        return broken(number.state, at);
     }
     let level = group::within(bytes, number.next, 0, SENDING - 1);
     if level.state != group::WHOLE {
-        return broken(level.state);
+        return broken(level.state, number.next);
     }
     read_body(bytes, level.next, sender, number.value, level.value)
 }
@@ -150,11 +150,11 @@ pub fn read_message(bytes: &[u8], at: usize, sender: usize) -> Record {
 fn read_start(bytes: &[u8], at: usize) -> Record {
     let number = group::within(bytes, at, 0, group::LARGEST);
     if number.state != group::WHOLE {
-        return broken(number.state);
+        return broken(number.state, at);
     }
     let position = group::within(bytes, number.next, 0, LAST_POSITION);
     if position.state != group::WHOLE {
-        return broken(position.state);
+        return broken(position.state, number.next);
     }
     start_of(number.value, position.value, position.next)
 }
@@ -163,7 +163,7 @@ fn read_start(bytes: &[u8], at: usize) -> Record {
 fn read_taken(bytes: &[u8], at: usize) -> Record {
     let sender = group::within(bytes, at, 0, SENDERS - 1);
     if sender.state != group::WHOLE {
-        return broken(sender.state);
+        return broken(sender.state, at);
     }
     read_message(bytes, sender.next, sender.value)
 }
@@ -172,7 +172,7 @@ fn read_taken(bytes: &[u8], at: usize) -> Record {
 pub fn read_record(bytes: &[u8], at: usize) -> Record {
     let sort = group::within(bytes, at, START, TAKEN);
     if sort.state != group::WHOLE {
-        return broken(sort.state);
+        return broken(sort.state, at);
     }
     if sort.value == START {
         return read_start(bytes, sort.next);
