@@ -104,7 +104,7 @@ fn write_calls(s: &State) {
         b"accepted or refused by question:",
         state::REFUSED,
         0,
-        21,
+        25,
     );
 }
 

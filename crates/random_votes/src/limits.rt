@@ -93,7 +93,7 @@ pub fn write_plans(s: &mut State) {
     range_case(s, 65536);
 }
 
-// How many bytes a number has by the library and by the second implementation, and how many the second writes.
+// How many bytes a number has by the library's table and by that of the random votes, and how many the second implementation writes.
 fn length_case(v: u32) {
     let mut room = num::empty_room();
     let value = v as usize;

@@ -36,7 +36,56 @@ fn write_calls(s: &State) {
         1,
         6,
     );
-    row(s, b"refused by question:", state::REFUSED, 1, 22);
+    row(s, b"refused by question:", state::REFUSED, 1, 25);
+}
+
+// Messages refused by 15 and 22, by the field at the place.
+fn write_broken(s: &State) {
+    row(
+        s,
+        b"refused by 15 at agreement number, level, kind, value:",
+        state::CUT_AT,
+        1,
+        5,
+    );
+    row(
+        s,
+        b"of these with no byte of it there:",
+        state::CUT_BEFORE,
+        1,
+        5,
+    );
+    row(s, b"refused by 22 at the same:", state::MALFORMED_AT, 1, 5);
+    row(
+        s,
+        b"of these with its last byte not there:",
+        state::MALFORMED_CUT,
+        1,
+        5,
+    );
+}
+
+// Messages refused by 23 and 24, by the field at the place or before it; journals that end inside a field.
+fn write_outside(s: &State) {
+    row(
+        s,
+        b"refused by 23 at level, kind, value:",
+        state::OUTSIDE_AT,
+        2,
+        5,
+    );
+    row(
+        s,
+        b"refused by 24 after kind, value:",
+        state::SPARE_AFTER,
+        3,
+        5,
+    );
+    line(
+        s,
+        b"journals refused by 21 for a number cut short that is above its limit",
+        state::JOURNALS_ABOVE,
+    );
 }
 
 // Lengths in bytes of positions and agreement numbers, and records at the border of question 17.
@@ -132,6 +181,8 @@ fn write_faults(s: &State) {
 pub fn write(s: &State) {
     write_votes(s);
     write_calls(s);
+    write_broken(s);
+    write_outside(s);
     write_lengths(s);
     write_rules(s);
     write_messages(s);

@@ -1,4 +1,5 @@
 // What a call did is compared, and what it leaves is kept.
+use crate::broken;
 use crate::demand;
 use crate::records;
 use random_buffers::OUTGOING;
@@ -208,6 +209,6 @@ pub fn judge(s: &mut State, journals: &Journals, out: &Out) {
     if number == 0 {
         after_accepted(s, out, b);
     } else {
-        state::grow(s, num::add(state::REFUSED, number % 32), 1);
+        broken::count(s, journals, number);
     }
 }

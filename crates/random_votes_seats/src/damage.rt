@@ -42,13 +42,31 @@ fn lengthen(s: &mut State, journals: &mut Journals, seat: usize, length: usize) 
     num::add(length, more)
 }
 
+// Bytes from one to before another of both journals of a seat get the top bit.
+fn open_bytes(s: &mut State, journals: &mut Journals, seat: usize, from: usize, to: usize) {
+    for i in from..to {
+        let value = random::between(s, 128, 255);
+        poke(journals, num::add(call::journal_at(seat), i), value);
+    }
+}
+
+// A cut inside a field, after one to five bytes with the top bit: further bytes could make an agreement number of them, but most other fields only
+// above their limits.
+fn cut_inside(s: &mut State, journals: &mut Journals, seat: usize, length: usize) -> usize {
+    let left = random::between(s, 1, length);
+    let from = num::less(left, random::between(s, 1, 5));
+    open_bytes(s, journals, seat, from, left);
+    left
+}
+
 // Both journals of a seat are damaged in one way or none; their length then.
 pub fn damage(s: &mut State, journals: &mut Journals, seat: usize, length: usize) -> usize {
-    let how = random::below(s, 6);
+    let how = random::below(s, 7);
     match how {
         0 => random::below(s, num::next(length)),
         1 => lengthen(s, journals, seat, length),
         2 => length,
+        6 => cut_inside(s, journals, seat, length),
         _ => {
             spoil_some(s, journals, seat, length, how);
             length

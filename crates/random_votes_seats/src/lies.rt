@@ -1,4 +1,4 @@
-// What faulty boards say, and what every board must refuse.
+// What faulty boards say.
 use crate::seats;
 use random_votes_state::call;
 use random_votes_state::pool;
@@ -135,7 +135,7 @@ fn write_said(s: &mut State, liar: usize, b: usize) -> bool {
 }
 
 // What another board said, or any message.
-fn write_lie(s: &mut State) {
+pub fn write_lie(s: &mut State) {
     let pooled = state::get(s, state::POOLED);
     if random::once_in(s, 3) {
         let i = random::below(s, pooled);
@@ -186,79 +186,4 @@ pub fn take_lie(s: &mut State, b: usize) -> usize {
         return seat;
     }
     call::NOBODY
-}
-
-// A message with a field outside the table.
-fn write_outside(s: &mut State) {
-    let how = random::below(s, 5);
-    let number = state::get(s, state::NUMBER);
-    if how == 0 {
-        let level = random::between(s, 15, 200);
-        pool::write(s, number, level, 1, 0);
-    }
-    if how == 1 {
-        pool::write(s, number, 0, 0, 0);
-    }
-    if how == 2 {
-        let kind = random::between(s, 7, 200);
-        pool::write(s, number, 0, kind, 0);
-    }
-    if how == 3 {
-        let kind = random::between(s, 1, 5);
-        let value = random::between(s, 17, 200);
-        pool::write(s, number, 0, kind, value);
-    }
-    if how == 4 {
-        pool::write(s, number, 0, 2, 16);
-        if random::once_in(s, 2) {
-            pool::write(s, number, 0, 5, 0);
-        }
-    }
-}
-
-// A number in more bytes than the fewest.
-fn write_longer_form(s: &mut State) {
-    pool::write(s, 128, 0, 1, 0);
-    state::put(s, state::MESSAGE, 1, 0);
-}
-
-// Another agreement number, or one that is malformed.
-fn write_other_number(s: &mut State) {
-    let number = state::get(s, state::NUMBER);
-    pool::write(s, num::next(number) % 4294967296, 0, 1, 0);
-    if random::once_in(s, 3) {
-        write_longer_form(s);
-    }
-    if random::once_in(s, 8) {
-        let other = random::below(s, 8589934592);
-        if other != number {
-            pool::write(s, other, 0, 1, 0);
-        }
-    }
-}
-
-// What every board must refuse, whoever sent it.
-pub fn take_bad(s: &mut State, b: usize) -> usize {
-    let how = random::below(s, 5);
-    let n = state::get(s, state::BOARDS);
-    write_lie(s);
-    let sender = random::below(s, n);
-    state::set(s, state::SENDER, sender);
-    if how == 0 {
-        let outside = random::between(s, n, 40);
-        state::set(s, state::SENDER, outside);
-    }
-    if how == 1 {
-        pool::cut(s);
-    }
-    if how == 2 {
-        pool::lengthen(s);
-    }
-    if how == 3 {
-        write_outside(s);
-    }
-    if how == 4 {
-        write_other_number(s);
-    }
-    seats::plain(s, b, call::TAKE)
 }

@@ -160,7 +160,7 @@ pub fn cut(s: &mut State) {
 // The message gets a byte more.
 pub fn lengthen(s: &mut State) {
     let length = state::get(s, state::MESSAGE_LENGTH);
-    if length < 15 {
+    if length < 31 {
         let byte = random::below(s, 256);
         state::put(s, state::MESSAGE, length, byte);
         state::set(s, state::MESSAGE_LENGTH, length + 1);

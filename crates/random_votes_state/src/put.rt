@@ -18,3 +18,16 @@ pub fn varint(s: &mut State, from: usize, value: usize) -> usize {
     state::set(s, at, rest);
     num::next(at)
 }
+
+// Writes `value` in so many bytes; where they are more than the fewest the last is 0.
+pub fn in_bytes(s: &mut State, from: usize, value: usize, bytes: usize) -> usize {
+    let mut at = from;
+    let mut rest = value;
+    for _ in 1..bytes {
+        state::set(s, at, 128 + rest % 128);
+        at = num::next(at);
+        rest = rest / 128;
+    }
+    state::set(s, at, rest % 128);
+    num::next(at)
+}

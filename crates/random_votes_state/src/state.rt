@@ -219,6 +219,25 @@ pub const BYTE_SHORT: usize = 2744;
 
 pub const OFF: usize = 2752;
 
+// Over the whole run, by field (1 for the number to 4 for the value): messages refused by 15, of these those that end before the field; by 22, of these
+// those that end inside it; by 23; by 24, by the field before the spare byte. Journals refused by 21 whose last field is cut above its limit.
+pub const CUT_AT: usize = 2784;
+
+pub const CUT_BEFORE: usize = 2792;
+
+pub const MALFORMED_AT: usize = 2800;
+
+pub const MALFORMED_CUT: usize = 2808;
+
+pub const OUTSIDE_AT: usize = 2816;
+
+pub const SPARE_AFTER: usize = 2824;
+
+pub const JOURNALS_ABOVE: usize = 2832;
+
+// How many bytes of the message there are up to the end of its last spoilt field.
+pub const SPOILT_LENGTH: usize = 2833;
+
 // The plan's bytes, and those of a plan that may be damaged.
 pub const PLAN: usize = 4096;
 

@@ -1,6 +1,7 @@
 // The next call of a vote.
 use crate::bench;
 use crate::deliver;
+use random_votes_seats::bad;
 use random_votes_seats::cuts;
 use random_votes_seats::lies;
 use random_votes_seats::seats;
@@ -53,10 +54,10 @@ fn play_up(s: &mut State, b: usize) -> usize {
     if how < 7 {
         return seats::restore(s, b);
     }
-    if how < 10 {
-        return lies::take_bad(s, b);
+    if how < 16 {
+        return bad::take(s, b);
     }
-    if how < num::add(10, state::get(s, state::LIES)) {
+    if how < num::add(16, state::get(s, state::LIES)) {
         return lies::take_lie(s, b);
     }
     take_pooled(s, b)
