@@ -1,4 +1,4 @@
--- What reading by a format finds, in terms of what is written: `reads` (proofs/Theorem.antt) proves it of every format.
+-- What reading by a format finds, in terms of what is written: `reads` (proofs/Theorem.antt) proves it of every sensible format.
 use mathlib.Core.Path.{_≡_}
 use mathlib.Core.Logic.{_⊎_}
 use mathlib.Core.List.{List, [], _++_}

@@ -37,6 +37,6 @@ pub record Refuses : Type 0 where
   pub spare : (s : List ℕ) (at : ℕ) → AllBytes s → exactMessage s ≡ Exactly.Broken Fault.Spare at → (m : Message) × InLimits m × (at < length s) × (take at s ≡ messageBytes m)
   -- and always then
   pub spare-always : (m : Message) (q : List ℕ) → InLimits m → 0 < length q → exactMessage (messageBytes m ++ q) ≡ Exactly.Broken Fault.Spare (length (messageBytes m))
-  -- the same of a message read at any place, as in a journal
+  -- `group` of a message read at any place, as in a journal
   pub anywhere : (s : List ℕ) (at : ℕ) (fault : Fault) (place : ℕ) → AllBytes s → at ≤ length s → messageAt s at ≡ MessageRead.Failed fault place
       → Fails messageFormat s at fault place

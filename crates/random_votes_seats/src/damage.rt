@@ -50,8 +50,8 @@ fn open_bytes(s: &mut State, journals: &mut Journals, seat: usize, from: usize, 
     }
 }
 
-// A cut inside a field, after one to five bytes with the top bit: further bytes could make an agreement number of them, but most other fields only
-// above their limits.
+// A cut inside a field, after one to five bytes with the top bit: of up to four of them further bytes could make an agreement number, but of most other
+// fields only one above its limits; five are malformed.
 fn cut_inside(s: &mut State, journals: &mut Journals, seat: usize, length: usize) -> usize {
     let left = random::between(s, 1, length);
     let from = num::less(left, random::between(s, 1, 5));

@@ -26,7 +26,7 @@ pub record Reads : Type 0 where
   pub written : (v : ℕ) (p q : List ℕ) → v ≤ maxNumber → varintAt (p ++ (varintBytes v ++ q)) (length p) ≡ Value v (length p + length (varintBytes v))
   -- only what was written is read, "in the fewest bytes, at most 4,294,967,295": "80 00 is refused"
   pub only : (s : List ℕ) (at v next : ℕ) → AllBytes s → varintAt s at ≡ Value v next → (v ≤ maxNumber) × BytesAt s at next (varintBytes v)
-  -- document 02, Q-2: "whether the bytes ended": they end inside the varint of the least value, and inside that of no less
+  -- document 02, Q-2: "whether the bytes ended": they end inside the varint of `least`, and inside that of no smaller value
   pub short : (s : List ℕ) (at least : ℕ) → AllBytes s → at ≤ length s → varintAt s at ≡ Short least
       → (least ≤ maxNumber) × Beginning (varintBytes least) (drop at s) × ((v : ℕ) → v ≤ maxNumber → Beginning (varintBytes v) (drop at s) → least ≤ v)
   -- "or the group was malformed": no varint stands there, and the bytes end inside none
