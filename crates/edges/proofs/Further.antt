@@ -28,7 +28,7 @@ rows-set ps cs i a b (suc k) l =
     (rows-set ps cs i a b k (omega arith))
 
 -- one row more
-rows-more : (ps cs : List ℕ) (i a b : ℕ) → i < length ps → i < length cs → rows (set ps i a) (set cs i b) (i + 1) ≡ record { one = a; two = b } ∷ rows ps cs i
+pub rows-more : (ps cs : List ℕ) (i a b : ℕ) → i < length ps → i < length cs → rows (set ps i a) (set cs i b) (i + 1) ≡ record { one = a; two = b } ∷ rows ps cs i
 unfolding rows
 rows-more ps cs i a b k l =
     ap (rows (set ps i a) (set cs i b)) (add-one i)

@@ -8,7 +8,7 @@ use native.Mathlib.Decide.{ℕ-discrete}
 use native.Mathlib.Omega.{arith}
 use lib.Dec.{eqb, eqb→eq, eqb-refl}
 use lib.ListN.{length, getD, set}
-use lib.Seq.{getD-set-same, getD-set-other}
+use lib.Seq.{getD-set-same, getD-set-other, set-getD, set-set}
 use borrow.Author.Tests.{eqb-true, eqb-false, eq-eqb, ne-eqb}
 use Rattle.base.specs.Pick.{pick}
 use Rattle.base.specs.Sets.{bit, count}
@@ -16,7 +16,7 @@ use Rattle.base.proofs.Counts.{count-le, count-same, count-sum, count-single}
 use Rattle.tree.specs.Edges.{Edges, all, label, joined}
 use Rattle.tree.proofs.Labels.{relabel}
 use Rattle.tree.proofs.Relabel.{alike, relabel-alike, joined-more}
-use Rattle.union_find.specs.Inner.{root, Top, together, Rooted, Forest, Unions}
+use Rattle.union_find.specs.Inner.{root, Top, together, Rooted, Forest, Unions, Under}
 use Rattle.union_find.proofs.Roots.{root-stays, one-root, rooted, rooted-by, placed}
 
 -- every position its own root, of weight 1
@@ -241,3 +241,20 @@ module _ (n : ℕ) (E : Edges) (up weight : List ℕ) (u : Unions n E up weight)
       go : ((low ≡ R a) × (high ≡ R b)) ⊎ ((low ≡ R b) × (high ≡ R a)) → Unions n (record { one = a; two = b } ∷ E) up′ weight′
       go (inl (i, j)) = make (at a low ka i) (at b high kb j) (λ x y. alike-swap high low (R x) (R y) ∙ ap₂ (λ (p q : ℕ). alike p q (R x) (R y)) i j)
       go (inr (i, j)) = make (at b low kb i) (at a high ka j) (λ x y. ap₂ (λ (p q : ℕ). alike p q (R x) (R y)) j i)
+
+-- ---- which root was moved
+
+-- none
+pub under-same : (n r : ℕ) (up : List ℕ) → r < n → Top up r → Under n r up up
+under-same n r up k t =
+    record { inside = k; above = ap (λ (z : ℕ). getD up z 0) t; back = ap (set up r) (sym t) ∙ set-getD up r 0 }
+
+-- r went under the root `high`
+pub under-high : (n r high : ℕ) (up up′ : List ℕ) → r < n → n ≤ length up → Top up r → Top up high → (r ≡ high → ⊥) → up′ ≡ set up r high → Under n r up up′
+under-high n r high up up′ k l t h d e =
+    let there : getD up′ r 0 ≡ high = ap (λ (z : List ℕ). getD z r 0) e ∙ getD-set-same up r high 0 (omega arith) in
+    record {
+      inside = k;
+      above = rw there (ap (λ (z : List ℕ). getD z high 0) e ∙ getD-set-other up r high high 0 (λ i. d (sym i)) ∙ h);
+      back = ap (λ (z : List ℕ). set z r r) e ∙ set-set up r high r ∙ ap (set up r) (sym t) ∙ set-getD up r 0;
+    }

@@ -5,7 +5,7 @@ use mathlib.Core.List.{List}
 use mathlib.Core.Bool.{Bool}
 use Prim.Native.Nat.{ℕ, zero, suc, _*_, _≤_, _<_}
 use lib.Dec.{eqb}
-use lib.ListN.{getD}
+use lib.ListN.{getD, set}
 use Rattle.base.specs.Sets.{count}
 use Rattle.tree.specs.Edges.{Edges, all, joined}
 
@@ -39,3 +39,9 @@ pub record Forest (n : ℕ) (up weight : List ℕ) : Type 0 where
 pub record Unions (n : ℕ) (E : Edges) (up weight : List ℕ) : Type 0 where
   pub forest : Forest n up weight
   pub agree : (x y : ℕ) → x < n → y < n → together n up x y ≡ joined all E x y
+
+-- up′ is up with the root r under another root, or with nothing moved
+pub record Under (n r : ℕ) (up up′ : List ℕ) : Type 0 where
+  pub inside : r < n
+  pub above : Top up′ (getD up′ r 0)
+  pub back : set up′ r r ≡ up

@@ -5,7 +5,7 @@ ghost use Prim.Native.Nat.{_+_, _≤_, _<_};
 ghost use lib.ListN.{length, getD, set};
 ghost use Rattle.base.specs.Limits.{maxVertices};
 ghost use Rattle.tree.specs.Edges.{Edges};
-ghost use Rattle.union_find.specs.Inner.{root, together, Rooted, Forest, Unions};
+ghost use Rattle.union_find.specs.Inner.{root, together, Rooted, Forest, Unions, Under};
 
 // Every position its own set.
 pub fn fresh(up: &mut [u16], weight: &mut [u16], n: usize)
@@ -51,19 +51,21 @@ fn attach(up: &mut [u16], weight: &mut [u16], low: usize, high: usize)
     weight[high] = weight[low] + weight[high];
 }
 
-// The sets of a and b become one: the root of the lighter goes under that of the heavier.
-pub fn link(up: &mut [u16], weight: &mut [u16], n: usize, a: usize, b: usize)
+// The sets of a and b become one: the root of the lighter goes under that of the heavier. Gives the root that was moved,
+// or the common one where they are one set already: with it a root again, `up` is as before.
+pub fn link(up: &mut [u16], weight: &mut [u16], n: usize, a: usize, b: usize) -> usize
     requires { ⌜ (a < n) × (b < n) × (n ≤ length (now up)) × (n ≤ length (now weight)) × (n ≤ maxVertices) × Forest n (now up) (now weight) ⌝ }
-    ensures { λ _. ⌜ ((E : Edges) → Unions n E (now (up .entry)) (now (weight .entry)) → Unions n (record { one = a; two = b } ∷ E) (now (up .exit)) (now (weight .exit))) ⌝ }
+    ensures { λ r. ⌜ ((E : Edges) → Unions n E (now (up .entry)) (now (weight .entry)) → Unions n (record { one = a; two = b } ∷ E) (now (up .exit)) (now (weight .exit))) × Under n r (now (up .entry)) (now (up .exit)) ⌝ }
 {
     let p = root(up, n, a);
     let q = root(up, n, b);
     if p == q {
-        return;
+        return q;
     }
     if weight[p] <= weight[q] {
         attach(up, weight, p, q);
-    } else {
-        attach(up, weight, q, p);
+        return p;
     }
+    attach(up, weight, q, p);
+    q
 }

@@ -87,8 +87,8 @@ slice-write-room-2 c =
     let d = c .before .before .count-edge in
     omega (arith, s .pre .1, s .pre .0 .within, stored-long (s .args .room .now) (g .last .1 .0) (lent-of (s .args .n) (s .args .up .now) (s .args .room .now) (s .pre .0) .columns) (g .kept .1 .0) (d .last .0) (d .kept .0) (s .args .n .edges) (s .args .a))
 
-add-t12 : tie.Need-add-t12
-add-t12 c = search needs
+add-t8 : tie.Need-add-t8
+add-t8 c = search needs
 
 same-length : tie.Need-same-length
 same-length c = search needs
@@ -106,7 +106,7 @@ returns c =
     let g = c .before .before .before .before .before .before .before .before .link in
     let d = c .before .before .count-edge in
     let r = lent-of (s .args .n) (s .args .up .now) (s .args .room .now) (s .pre .0) .columns in (
-      more-lent (s .args .room .now) (g .last .1 .0) r (g .kept .1 .0) (d .last .0) (d .kept .0) (s .args .n) (s .args .up .now) (s .pre .0) (s .args .a) (s .args .b) (s .pre .1) (s .pre .2) (g .last .0) (g .kept .0) (g .ensures) (d .ensures),
+      more-lent (s .args .room .now) (g .last .1 .0) r (g .kept .1 .0) (d .last .0) (d .kept .0) (s .args .n) (s .args .up .now) (s .pre .0) (s .args .a) (s .args .b) (s .pre .1) (s .pre .2) (g .last .0) (g .kept .0) (g .ensures .0) (d .ensures),
       refl,
       refl,
       more-lent-in (s .args .room .now) (g .last .1 .0) r (g .kept .1 .0) (d .last .0) (d .kept .0) (s .args .n) (s .args .up .now) (s .pre .0) (s .args .a) (s .args .b) (s .pre .1) (s .pre .2) (g .last .0),
@@ -131,7 +131,7 @@ add-edge-spec =
     add-room
     mul-room-2
     slice-write-room-2
-    add-t12
+    add-t8
     same-length
     same-length-2
     returns)

@@ -6,7 +6,7 @@ use native.Mathlib.Omega.{arith}
 use borrow.Author.Needs.{needs}
 use Rattle.union_find.specs.Inner.{Top}
 use Rattle.union_find.proofs.Roots.{rooted, placed}
-use Rattle.union_find.proofs.Sets.{weights-fit, linked-same, linked-under}
+use Rattle.union_find.proofs.Sets.{weights-fit, linked-same, linked-under, under-same, under-high}
 use Rattle.union_find.proofs.link.Statement.{statement}
 use Rattle.union_find.proofs.link.Tie as tie
 
@@ -29,7 +29,10 @@ returns : tie.Need-returns
 returns c =
     let k = c .before in
     let s = k .before .before .before .before .before .before in
-    λ E u. linked-same _ E _ _ u (s .args .a) (s .args .b) (s .pre .0) (s .pre .1) (sym (k .before .before .root .ensures) ∙ c .if1 .taken ∙ k .root2 .ensures)
+    let q = q-placed k in (
+      λ E u. linked-same _ E _ _ u (s .args .a) (s .args .b) (s .pre .0) (s .pre .1) (sym (k .before .before .root .ensures) ∙ c .if1 .taken ∙ k .root2 .ensures),
+      under-same _ _ _ (q .0) (q .1),
+    )
 
 mul-if2 : tie.Need-mul-if2
 mul-if2 c = omega (arith, p-placed (c .before), q-placed (c .before))
@@ -76,10 +79,14 @@ returns-2 c =
     let e = i .before .before .before in
     let k = e .before in
     let s = k .before .before .before .before .before .before in
-    λ E u.
-    linked-under _ E _ _ u (s .args .a) (s .args .b) (s .pre .0) (s .pre .1) (k .before .before .root .result) (k .root2 .result)
-    (inl (k .before .before .root .ensures, k .root2 .ensures)) (e .if1 .left) (omega (arith, i .if2 .taken)) (s .pre .2) (s .pre .3)
-    (a .attach .last .0) (a .attach .last .1 .0) (a .attach .ensures .0) (a .attach .ensures .1)
+    let p = p-placed k in
+    let q = q-placed k in (
+      λ E u.
+          linked-under _ E _ _ u (s .args .a) (s .args .b) (s .pre .0) (s .pre .1) (k .before .before .root .result) (k .root2 .result)
+          (inl (k .before .before .root .ensures, k .root2 .ensures)) (e .if1 .left) (omega (arith, i .if2 .taken)) (s .pre .2) (s .pre .3)
+          (a .attach .last .0) (a .attach .last .1 .0) (a .attach .ensures .0) (a .attach .ensures .1),
+      under-high _ _ _ _ _ (p .0) (s .pre .2) (p .1) (q .1) (e .if1 .left) (a .attach .ensures .0),
+    )
 
 same-length-4 : tie.Need-same-length-4
 same-length-4 c = search needs
@@ -94,10 +101,14 @@ returns-3 c =
     let e = i .before .before .before in
     let k = e .before in
     let s = k .before .before .before .before .before .before in
-    λ E u.
-    linked-under _ E _ _ u (s .args .a) (s .args .b) (s .pre .0) (s .pre .1) (k .root2 .result) (k .before .before .root .result)
-    (inr (k .root2 .ensures, k .before .before .root .ensures)) (λ z. e .if1 .left (sym z)) (omega (arith, i .if2 .left)) (s .pre .2) (s .pre .3)
-    (a .attach2 .last .0) (a .attach2 .last .1 .0) (a .attach2 .ensures .0) (a .attach2 .ensures .1)
+    let p = p-placed k in
+    let q = q-placed k in (
+      λ E u.
+          linked-under _ E _ _ u (s .args .a) (s .args .b) (s .pre .0) (s .pre .1) (k .root2 .result) (k .before .before .root .result)
+          (inr (k .root2 .ensures, k .before .before .root .ensures)) (λ z. e .if1 .left (sym z)) (omega (arith, i .if2 .left)) (s .pre .2) (s .pre .3)
+          (a .attach2 .last .0) (a .attach2 .last .1 .0) (a .attach2 .ensures .0) (a .attach2 .ensures .1),
+      under-high _ _ _ _ _ (q .0) (s .pre .2) (q .1) (p .1) (λ z. e .if1 .left (sym z)) (a .attach2 .ensures .0),
+    )
 
 pub link-spec : {M : Type 1} → statement M
 link-spec =
@@ -112,10 +123,10 @@ link-spec =
     mul-if2-2
     slice-read-if2-2
     attach-requires
-    attach-requires-2
     same-length-2
     same-length-3
     returns-2
+    attach-requires-2
     same-length-4
     same-length-5
     returns-3)
