@@ -20,6 +20,7 @@ use Rattle.base.specs.Found.{Found, found, refused, ask}
 use Rattle.edges.specs.Reading.{onward, varintThen, endsApart, notJoined, roomAtEnds, edgesFrom}
 use Rattle.edges.specs.Inner.{Listed, edgesOfTree}
 use Rattle.plan_growth.specs.Inner.{edge}
+use Rattle.plan.specs.Bytes.{edgeBytes}
 use Rattle.plan.proofs.Degrees.{at-none, at-most}
 
 -- ---- questions
@@ -124,11 +125,6 @@ after {A} v s done x (suc k) at E h e =
     rest a b second next = ask (endsApart v a b) 7 second (eight a b second next)
 
 -- ---- the bytes of edges
-
--- the varints of the ends of each edge, the oldest edge first
-unfoldable pub edgeBytes : Edges → List ℕ
-edgeBytes [] = []
-edgeBytes (e ∷ E) = edgeBytes E ++ (varintBytes (e .one) ++ varintBytes (e .two))
 
 -- the next edge is read from its bytes
 next-read : {A : Type 0} (v k : ℕ) (s : List ℕ) (at : ℕ) (E : Edges) (done : Edges → ℕ → Found A) (a b second next : ℕ) → Next v E a b

@@ -28,13 +28,14 @@ use Rattle.base.specs.Found.{Found, found, refused}
 use Rattle.edges.specs.Reading.{edgesFrom}
 use Rattle.plan.specs.Plan.{Plan}
 use Rattle.plan.specs.Positions.{column, padded, treePlan, rangePlan}
+use Rattle.plan.specs.Bytes.{edgeBytes, treeBytes}
 use Rattle.plan.specs.Reading.{ended, treeFrom, rangeFrom, planFrom, planOf}
 use Rattle.plan.specs.Valid.{allZero, planValid}
 use Rattle.plan_growth.proofs.Columns.{rows-length, column-rows}
 use Rattle.plan_laws.specs.Statement.{Sized, Given}
 use Rattle.plan_laws.proofs.Parts.{TreeParts, RangeParts, tree-parts, tree-made, range-parts, range-made, valid-tree, valid-range}
 use Rattle.plan_laws.proofs.Shape.{GrownRows, fit-grown, grown-fit, grown-before, room-before, Kinds, tree, range, kinds, Shape, shape}
-use Rattle.plan.proofs.Listed.{asked, ask-yes, grouped, Passing, passing-acyclic, passing-below, passing-degrees, after, edgeBytes, edges-read}
+use Rattle.plan.proofs.Listed.{asked, ask-yes, grouped, Passing, passing-acyclic, passing-below, passing-degrees, after, edges-read}
 use Rattle.plan_laws.proofs.Padding.{zeros, zeros-all, column-one, column-two, refill, filled-rest, filled-length}
 
 -- ---- bytes
@@ -74,12 +75,7 @@ grown-passing v (e ∷ F) h =
       grown-passing v F (grown-before v e F h),
     )
 
--- the bytes of a tree with the rows F
-treeBytes : ℕ → Edges → List ℕ
-treeBytes v F = varintBytes 1 ++ (varintBytes v ++ edgeBytes F)
-
 tree-bytes : (v : ℕ) (F : Edges) → AllBytes (treeBytes v F)
-unfolding treeBytes
 tree-bytes v F = all-bytes-append (varintBytes 1) (varintBytes v ++ edgeBytes F) (pieces-bytes 4 1) (all-bytes-append (varintBytes v) (edgeBytes F) (pieces-bytes 4 v) (edge-bytes F))
 
 tree-ended : (v : ℕ) (s : List ℕ) (at : ℕ) (F : Edges) → v ≤ 2 ^ 32 → length F ≡ v - 1 → GrownRows v F → (pre : List ℕ) → s ≡ pre ++ edgeBytes F → at ≡ length pre
@@ -101,7 +97,7 @@ tree-ended v s at F l m h pre es ea =
     many = omega arith
 
 tree-read : (v : ℕ) (F : Edges) → 1 ≤ v → v ≤ maxVertices → length F ≡ v - 1 → GrownRows v F → planOf (treeBytes v F) ≡ found (treePlan v F)
-unfolding treeBytes planFrom
+unfolding planFrom
 tree-read v F a b m h =
     rw (varint-read-at 1 s [] (varintBytes v ++ edgeBytes F) 0 (omega arith) refl refl)
     (rw (varint-read-at v s (varintBytes 1) (edgeBytes F) (0 + length (varintBytes 1)) (omega arith) refl (omega arith))

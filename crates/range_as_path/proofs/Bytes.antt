@@ -24,7 +24,8 @@ use Rattle.plan.specs.Positions.{edgesOf, column, padded, treePlan}
 use Rattle.plan.specs.Reading.{ended, planFrom, planOf}
 use Rattle.plan_growth.proofs.Columns.{column-rows}
 use Rattle.plan_laws.proofs.Shape.{shape, edges-tree}
-use Rattle.plan.proofs.Listed.{Passing, ask-yes, edgeBytes, edges-read}
+use Rattle.plan.specs.Bytes.{edgeBytes}
+use Rattle.plan.proofs.Listed.{Passing, ask-yes, edges-read}
 use Rattle.plan_laws.proofs.Given.{found-good}
 use Rattle.range_as_path.specs.Twin.{Numbered, TwinBytes}
 use Rattle.range_as_path.proofs.Numbering.{Within, within-below, within-degree, order-numbered, numbered-acyclic}

@@ -20,7 +20,7 @@ use Rattle.tree.specs.Edges.{Edges}
 use Rattle.base.specs.Found.{Found, found}
 use Rattle.plan.specs.Plan.{Plan}
 use Rattle.plan.specs.Reading.{planOf}
-use Rattle.plan.proofs.Listed.{edgeBytes}
+use Rattle.plan.specs.Bytes.{edgeBytes}
 use Rattle.component.specs.Component.{sizeOf, centreOf, degreeOf, portOf, neighbourOf, sideOf}
 use Rattle.message.specs.declared.Message.{Message}
 use Rattle.journal.specs.declared.Record.{Record}
