@@ -1,0 +1,9 @@
+pub mod Chosen
+pub mod Joins
+pub mod Closes
+pub mod Parts
+pub mod Steps
+pub mod Common
+pub mod Enough
+pub mod Theorem
+pub mod Examples
