@@ -1,0 +1,5 @@
+pub mod Sets
+pub mod Parting
+pub mod Columns
+pub mod Starting
+pub mod Marking
