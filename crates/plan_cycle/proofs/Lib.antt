@@ -1,0 +1,14 @@
+pub mod Refusals
+pub mod Spelling
+pub mod Turn
+pub mod Along
+pub mod Sequence
+pub mod First
+pub mod Count
+pub mod Those
+pub mod Collected
+pub mod Lists
+pub mod Marked
+pub mod Verdicts
+pub mod Theorem
+pub mod Examples

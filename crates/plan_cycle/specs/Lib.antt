@@ -1,0 +1,4 @@
+pub mod Cycle
+pub mod Statement
+pub mod Inner
+pub mod Examples
