@@ -1,9 +1,9 @@
 -- A line read byte by byte says what its words say.
 use mathlib.Core.Path.{_≡_, refl, sym, ap, ap₂, _∙_}
 use mathlib.Core.Bool.{Bool, true, false, not, _&&_, _||_}
-use mathlib.Core.List.{List, [], _∷_, _++_, append-nil, append-assoc}
+use mathlib.Core.List.{List, [], _∷_, _++_}
 use mathlib.Core.Option.{none, some}
-use Prim.Native.Nat.{ℕ, zero, suc}
+use Prim.Native.Nat.{ℕ}
 use lib.Dec.{eqb}
 use Rattle.base.specs.Pick.{pick}
 use Rattle.script_commands.specs.declared.Command.{Command}
@@ -14,19 +14,15 @@ use Rattle.script_numbers.specs.declared.Reading.{Reading}
 use Rattle.script.specs.declared.Step.{Step}
 use Rattle.script.specs.declared.Scanned.{Scanned}
 use Rattle.script_commands.specs.Commands.{commandOf}
-use Rattle.script.specs.Script.{isBlank, before, wordsFrom, natural, signed, withOne, withTwo, stepOf, says}
+use Rattle.script.specs.Script.{isBlank, natural, signed, withOne, withTwo, stepOf, says}
 use Rattle.script_commands.specs.Inner.{noKeyword, commandNamed}
 use Rattle.script_numbers.specs.Inner.{noNumber, isNumber, isNatural, readingOf}
 use Rattle.script.specs.Inner.{noLine, lineWith, lineFrom, stepBy, lineStep, Tells, upTo, hasNewline, scanned, Scans}
 use Rattle.script_numbers.proofs.Numbers.{numberFrom, number-more, readNumber, number-read}
 use Rattle.script_commands.proofs.Keywords.{keywordFrom, keyword-more, keyword-named}
+use Rattle.script.proofs.Words.{wordAt, words-read}
 
 -- ---- a line of some words
-
-abbrev wordAt : List (List ℕ) → ℕ → List ℕ
-wordAt [] i = []
-wordAt (w ∷ ws) zero = w
-wordAt (w ∷ ws) (suc i) = wordAt ws i
 
 -- how many there are; 4 stands for more
 abbrev howMany : List (List ℕ) → ℕ
@@ -152,40 +148,10 @@ line-says (k ∷ x ∷ y ∷ z ∷ ws) inside = none-say (key k) 4 (num x) (num 
 
 -- ---- all bytes of a line
 
--- does a word go on?
-abbrev goes-on : List ℕ → Bool
-goes-on [] = false
-goes-on (b ∷ w) = true
-
-before-others : (w : List ℕ) (ws : List (List ℕ)) → before w [] ++ ws ≡ before w ws
-before-others [] ws = refl
-before-others (b ∷ w) ws = refl
-
-byte-with : (ws : List (List ℕ)) (w : List ℕ) (b : ℕ) → isBlank b ≡ false
-    → lineWith (lineOf (ws ++ before w []) (goes-on w)) b ≡ lineOf (ws ++ before (w ++ (b ∷ [])) []) (goes-on (w ++ (b ∷ [])))
-byte-with ws [] b e = ap (λ (v : List (List ℕ)). lineWith (lineOf v false) b) (append-nil ws) ∙ byte-begins ws b e
-byte-with ws (a ∷ w) b e = byte-follows ws (a ∷ w) b e
-
--- after the words ws and the bytes w
-abbrev Says : List (List ℕ) → List ℕ → List ℕ → Type 0
-Says ws w s = lineStep (lineFrom (lineOf (ws ++ before w []) (goes-on w)) s) ≡ stepOf (ws ++ wordsFrom w s)
-
-line-read : (ws : List (List ℕ)) (w s : List ℕ) → Says ws w s
-unfolding lineFrom wordsFrom
-line-read ws w [] = line-says (ws ++ before w []) (goes-on w)
-line-read ws w (b ∷ s) = go (isBlank b) refl (line-read (ws ++ before w []) [] s) (line-read ws (w ++ (b ∷ [])) s)
-  where
-    go : (t : Bool) → isBlank b ≡ t → Says (ws ++ before w []) [] s → Says ws (w ++ (b ∷ [])) s
-        → lineStep (lineFrom (lineWith (lineOf (ws ++ before w []) (goes-on w)) b) s) ≡ stepOf (ws ++ pick t (before w (wordsFrom [] s)) (wordsFrom (w ++ (b ∷ [])) s))
-    go true e p q =
-        ap (λ (l : Line). lineStep (lineFrom l s)) (blank-with (ws ++ before w []) (goes-on w) b e ∙ ap (λ (v : List (List ℕ)). lineOf v false) (sym (append-nil (ws ++ before w []))))
-        ∙ p ∙ ap stepOf (append-assoc ws (before w []) (wordsFrom [] s) ∙ ap (λ (v : List (List ℕ)). ws ++ v) (before-others w (wordsFrom [] s)))
-    go false e p q = ap (λ (l : Line). lineStep (lineFrom l s)) (byte-with ws w b e) ∙ q
-
 -- what is read of a line's bytes is what the line says
 pub reads : (s : List ℕ) → lineStep (lineFrom noLine s) ≡ says s
-unfolding keywordFrom numberFrom
-reads s = line-read [] [] s
+unfolding keywordFrom numberFrom lineFrom
+reads s = words-read lineOf lineWith lineFrom lineStep stepOf (λ l. refl) (λ l b s. refl) blank-with byte-begins byte-follows line-says [] [] s
 
 pub tells : (l : Line) {r : Step} → r ≡ lineStep l → Tells l r
 tells l e = record {

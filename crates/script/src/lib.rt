@@ -37,7 +37,7 @@ pub struct Scanned {
 }
 
 // Words are split at spaces, tabs and carriage returns.
-fn is_blank(b: u8) -> bool
+pub fn is_blank(b: u8) -> bool
     ensures { λ r. ⌜ r ≡ isBlank b ⌝ }
 {
     if b == b' ' {

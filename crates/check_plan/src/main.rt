@@ -1,0 +1,23 @@
+// For an installer: each drawing on standard input is made a plan; its bytes are printed, or why it is refused.
+use input::BYTES;
+use input::Input;
+use sheet::Sheet;
+
+mod input;
+mod print;
+mod report;
+mod sheet;
+
+// A proved loop has to end, and nothing says that the input does: the turns are counted down from a number that no run uses up.
+fn main() {
+    let mut bytes = [0u8; BYTES];
+    let mut input = Input::new();
+    let mut sheet = Sheet::new();
+    let mut turns = u64::MAX;
+    while turns > 0 && input.open {
+        turns -= 1;
+        input = input.next(&mut bytes);
+        sheet = sheet.after(input);
+    }
+    sheet.closed(input);
+}

@@ -1,0 +1,4 @@
+pub mod Lines
+pub mod Drawing
+pub mod Inner
+pub mod Statement
