@@ -1,0 +1,68 @@
+// What is counted of plans and of their cycles.
+use random_plans_draw::state;
+use random_plans_draw::state::State;
+use second_cycle::cycle;
+use second_cycle::cycle::Cycle;
+use second_wire::num;
+
+// How many binary digits a length below 256 has.
+fn digits(length: usize) -> usize {
+    let mut count = 0;
+    let mut rest = length;
+    for _ in 0usize..8 {
+        if rest == 0 {
+            break;
+        }
+        rest = rest / 2;
+        count = num::next(count);
+    }
+    count
+}
+
+// One more, if it is one.
+fn count_if(s: &mut State, i: usize, is: bool) {
+    if is {
+        state::grow(s, i, 1);
+    }
+}
+
+// Whether an edge of the cycle ends at vertex 0.
+fn has_zero(c: &Cycle) -> bool {
+    let edges = cycle::count(c);
+    for i in 0..edges {
+        if cycle::at(c, cycle::ONE, i) == 0 {
+            return true;
+        }
+        if cycle::at(c, cycle::TWO, i) == 0 {
+            return true;
+        }
+    }
+    false
+}
+
+// Whether an edge between the cycle's first and the rejected one is not on it.
+fn has_gaps(c: &Cycle) -> bool {
+    let first = cycle::at(c, cycle::PLACES, 0);
+    num::add(first, cycle::count(c)) != cycle::read(c)
+}
+
+// What is counted of a cycle of so many edges.
+fn count_cycle(s: &mut State, c: &Cycle, length: usize) {
+    let longest = state::get(s, state::LONGEST);
+    state::grow(s, state::LONGEST, num::less(length, longest));
+    state::count(s, state::LENGTHS, digits(length));
+    count_if(s, state::DOUBLE, length == 2);
+    count_if(s, state::WITHOUT_FIRST, cycle::at(c, cycle::PLACES, 0) != 0);
+    count_if(s, state::WITHOUT_ZERO, !has_zero(c));
+    count_if(s, state::GAPS, has_gaps(c));
+}
+
+// A plan is counted.
+pub fn count(s: &mut State, c: &Cycle) {
+    let length = cycle::count(c);
+    state::grow(s, state::PLANS, 1);
+    state::count(s, state::REFUSED, cycle::number(c));
+    if 0 < length {
+        count_cycle(s, c, length);
+    }
+}

@@ -1,0 +1,79 @@
+// What is found of a plan: the number of its refusal, and the edges of the cycle, in plan order.
+use second_wire::num;
+
+const SIZE: usize = 1024;
+
+pub type Cycle = [usize; SIZE];
+
+// How many edges the cycle has, the number of the plan's refusal, and how many edges were read, up to
+// the rejected one, it included, where the number is 8.
+const COUNT: usize = 0;
+
+const NUMBER: usize = 1;
+
+const READ: usize = 2;
+
+// From here: the places of the cycle's edges among the plan's; their first and second ends.
+pub const PLACES: usize = 256;
+
+pub const ONE: usize = 512;
+
+pub const TWO: usize = 768;
+
+// A cycle of no edges.
+pub fn none() -> Cycle {
+    [0usize; SIZE]
+}
+
+// The number at place i of a column, or 0.
+pub fn at(c: &Cycle, column: usize, i: usize) -> usize {
+    if column < SIZE {
+        if i < SIZE - column {
+            return c[column + i];
+        }
+    }
+    0
+}
+
+// The number at place i of a column becomes another.
+fn put(c: &mut Cycle, column: usize, i: usize, value: usize) {
+    if column < SIZE {
+        if i < SIZE - column {
+            c[column + i] = value;
+        }
+    }
+}
+
+// How many edges the cycle has.
+pub fn count(c: &Cycle) -> usize {
+    at(c, COUNT, 0)
+}
+
+// The number of the plan's refusal, 0 if there is none.
+pub fn number(c: &Cycle) -> usize {
+    at(c, NUMBER, 0)
+}
+
+// How many edges were read.
+pub fn read(c: &Cycle) -> usize {
+    at(c, READ, 0)
+}
+
+// Keeps the number of the plan's refusal.
+pub fn set_number(c: &mut Cycle, number: usize) {
+    put(c, NUMBER, 0, number);
+}
+
+// Keeps how many edges were read.
+pub fn set_read(c: &mut Cycle, edges: usize) {
+    put(c, READ, 0, edges);
+}
+
+// Lists an edge after the others.
+pub fn list(c: &mut Cycle, place: usize, one: usize, two: usize) {
+    let i = count(c);
+    put(c, PLACES, i, place);
+    put(c, ONE, i, one);
+    put(c, TWO, i, two);
+    put(c, COUNT, 0, num::next(i));
+}
