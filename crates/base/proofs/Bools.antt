@@ -29,6 +29,11 @@ pub or-right : (a b : Bool) → T b → T (a || b)
 or-right true b h = tt
 or-right false b h = h
 
+-- a test that cannot fail
+pub not-not : (b : Bool) → (T (not b) → ⊥) → T b
+not-not true d = tt
+not-not false d = absurd (d tt)
+
 pub T-dec : (b : Bool) → Dec (T b)
 T-dec true = yes tt
 T-dec false = no (λ x. x)

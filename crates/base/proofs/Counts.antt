@@ -8,7 +8,7 @@ use native.Mathlib.Omega.{arith}
 use native.Mathlib.Decide.{decLt, ℕ-discrete}
 use lib.Dec.{T, not-T}
 use Rattle.base.specs.Sets.{Set, bit, count}
-use Rattle.base.proofs.Bools.{T-and, T-left, T-right, T-dec, T→true, not-T→false}
+use Rattle.base.proofs.Bools.{T-and, T-left, T-right, T-dec, T-ext, T→true, not-T→false}
 
 bit-or : (a b : Bool) → bit (a || b) + bit (a && b) ≡ bit a + bit b
 bit-or true true = refl
@@ -99,6 +99,14 @@ count-lt n f g h v l p q =
     let a : count n f ≤ count n (λ i. g i && f i) = count-mono n f (λ i. g i && f i) (λ i k x. T-and (g i) (f i) (h i k x) x) in
     let b : 0 < count n (λ i. g i && not (f i)) = count-pos n (λ i. g i && not (f i)) v l (T-and (g v) (not (f v)) p q) in
     omega (arith, count-split n g f)
+
+-- a set that holds every member of another, and has no more, is that one
+pub no-more : (n : ℕ) (f g : Set) → ((i : ℕ) → i < n → T (f i) → T (g i)) → count n g ≤ count n f → (i : ℕ) → i < n → g i ≡ f i
+no-more n f g h l i k = T-ext (g i) (f i) (λ p. go p (T-dec (f i))) (h i k)
+  where
+    go : T (g i) → Dec (T (f i)) → T (f i)
+    go p (yes q) = q
+    go p (no d) = absurd (omega (arith, count-lt n f g h i k p (not-T (f i) d)))
 
 -- the sound boards, and the rest of them
 pub count-not : (n : ℕ) (f : Set) → count n f + count n (λ i. not (f i)) ≡ n

@@ -1,11 +1,15 @@
--- Laws for loops that count up from 0 and search or count on the way.
+-- Laws for loops that count up from 0 and search, count or store on the way.
 use mathlib.Core.Path.{_≡_, refl, sym, ap, _∙_}
+use mathlib.Core.List.{List}
 use mathlib.Core.Bool.{Bool, true, false, _||_}
 use Prim.Native.Nat.{ℕ, zero, suc, _+_, _≤_, _<_}
 use native.Mathlib.Nat.{lt-irrefl, add-comm}
+use native.Mathlib.Decide.{ℕ-discrete}
 use native.Mathlib.Numerals.{add-one}
 use native.Mathlib.Omega.{arith}
 use lib.Dec.{T, ltb, ltb→lt}
+use lib.ListN.{length, getD, set}
+use lib.Seq.{getD-set-same, getD-set-other}
 use Rattle.base.specs.Pick.{pick, smallest}
 use Rattle.base.specs.Sets.{Set, bit, count}
 use Rattle.base.proofs.Bools.{not-T→false, true→T}
@@ -53,3 +57,13 @@ search-hit f n i e l h = sym (smallest-is n f i l (true→T h) (λ j k p. sought
 -- what a search finds is within its bound
 pub search-le : (n : ℕ) (f : Set) (r : ℕ) → r ≡ smallest n f → r ≤ n
 search-le n f r e = rw e (sought n f .most)
+
+-- ---- a store
+
+-- a value f x is stored at each x in turn
+pub stored : (f : ℕ → ℕ) (l : List ℕ) (x : ℕ) → x < length l → ((y : ℕ) → y < x → getD l y 0 ≡ f y) → (y : ℕ) → y < x + 1 → getD (set l x (f x)) y 0 ≡ f y
+stored f l x h k y b = go (ℕ-discrete y x)
+  where
+    go : Dec (y ≡ x) → getD (set l x (f x)) y 0 ≡ f y
+    go (yes e) = rw e (getD-set-same l x (f x) 0 h)
+    go (no d) = getD-set-other l x y (f x) 0 d ∙ k y (omega arith)

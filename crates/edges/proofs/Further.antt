@@ -11,8 +11,7 @@ use lib.Seq.{getD-set-same, getD-set-other}
 use borrow.Author.Tests.{eqb-true}
 use Rattle.base.specs.Sets.{bit}
 use Rattle.base.specs.Limits.{maxDegree, maxVertices}
-use Rattle.tree.specs.Edges.{Edges, edgesAt}
-use Rattle.tree.specs.Inner.{Below}
+use Rattle.tree.specs.Edges.{Edges, edgesAt, Below}
 use Rattle.union_find.specs.Inner.{Unions}
 use Rattle.edges.specs.Rows.{rows}
 use Rattle.edges.specs.Inner.{faultIn, Degrees, EdgeList, edgesIn, Columns, Listing}

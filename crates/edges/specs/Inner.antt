@@ -8,8 +8,7 @@ use lib.ListN.{length, getD, take, drop}
 use Rattle.base.specs.Pick.{pick}
 use Rattle.base.specs.Found.{Found, found}
 use Rattle.base.specs.Limits.{maxDegree, maxVertices, maxRows}
-use Rattle.tree.specs.Edges.{Edges, edgesAt}
-use Rattle.tree.specs.Inner.{Below}
+use Rattle.tree.specs.Edges.{Edges, edgesAt, Below}
 use Rattle.union_find.specs.Inner.{together, Unions}
 use Rattle.edges.specs.declared.EdgeCount.{EdgeCount}
 use Rattle.edges.specs.Reading.{endsApart, notJoined, roomAtEnds, edgesFrom}

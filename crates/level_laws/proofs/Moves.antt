@@ -7,7 +7,7 @@ use lib.Dec.{T, leb, ltb, eqb, leb→le, le→leb, ltb→lt, lt→ltb, eqb→eq}
 use lib.ListN.{getD}
 use Rattle.base.specs.Pick.{pick, smallest}
 use Rattle.base.specs.Sets.{count}
-use Rattle.base.proofs.Bools.{T-and, T-left, T-right, true→T, false→not-T}
+use Rattle.base.proofs.Bools.{T-and, T-left, T-right, not-not, true→T, false→not-T}
 use Rattle.base.proofs.Counts.{member}
 use Rattle.base.proofs.Smallest.{sought, found}
 use Rattle.message.specs.Message.{noneValue}
@@ -18,7 +18,7 @@ use Rattle.level.specs.declared.Effect.the-variants.{Nothing, Quiet, Send, Ente
 use Rattle.level.specs.Level.{Level, senders, notYet, noOutput, withPortEcho, withNoneEcho, withProposal, withFirst, withSecondEcho, withSecondProposal, withResult, withOutput, withCentreTold}
 use Rattle.level.specs.Counts.{weak, strong, candidate, otherEchoes, atLeast, mayPropose, proposed, split, echoedBy, secondProposed, echoedValues, sided}
 use Rattle.level.specs.Rules.{Applied, idle, does, when, missing, present, unanswered, aside, resultNone, smallestValue, isValue, firstCandidate, isCandidate, applies, orElse, rule1, rule2, rule3, rule4, rule5, rule6, rule7, rule8, rule9, rule10, rule11, rule12, rule13, rule14, lowestRule}
-use Rattle.level_laws.proofs.Searches.{eq→eqb, ne→neqb, neqb→ne, not-not, candidate-is, candidate-hit, candidate-found, value-hit, value-found, count-alone}
+use Rattle.level_laws.proofs.Searches.{eq→eqb, ne→neqb, neqb→ne, candidate-is, candidate-hit, candidate-found, value-hit, value-found, count-alone}
 pub use Rattle.level_laws.specs.Inner.{Present, Answered, Aside, Echoed, Candidate}
 
 -- ---- words

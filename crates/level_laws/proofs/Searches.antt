@@ -31,11 +31,6 @@ ne→neqb a b d = not-T (eqb a b) (λ h. d (eqb→eq a b h))
 pub neqb→ne : (a b : ℕ) → T (not (eqb a b)) → a ≡ b → ⊥
 neqb→ne a b h e = T-not (eqb a b) h (eq→eqb a b e)
 
--- a test that cannot fail
-pub not-not : (a : Bool) → (T (not a) → ⊥) → T a
-not-not true d = tt
-not-not false d = absurd (d tt)
-
 -- ---- searches
 
 -- none is the largest candidate

@@ -14,8 +14,8 @@ use Rattle.varint.specs.declared.VarintRead.{VarintRead}
 use Rattle.varint.specs.Varint.{varintBytes}
 use Rattle.varint.specs.Reading.{varintAt}
 use Rattle.varint.proofs.RoundTrip.{varint-read-at}
-use Rattle.tree.specs.Edges.{Edge, Edges, joined, all, edgesAt}
-use Rattle.tree.specs.Inner.{Acyclic, Below}
+use Rattle.tree.specs.Edges.{Edge, Edges, joined, all, edgesAt, Below}
+use Rattle.tree.specs.Inner.{Acyclic}
 use Rattle.base.specs.Found.{Found, found, refused, ask}
 use Rattle.edges.specs.Reading.{onward, varintThen, endsApart, notJoined, roomAtEnds, edgesFrom}
 use Rattle.edges.specs.Inner.{Listed, edgesOfTree}

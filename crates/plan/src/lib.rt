@@ -2,7 +2,7 @@
 ghost use mathlib.Core.Path.{_≡_};
 ghost use Prim.Native.Nat.{_-_, _≤_};
 ghost use lib.ListN.{length};
-ghost use Rattle.tree.specs.Inner.{Below};
+ghost use Rattle.tree.specs.Edges.{Below};
 ghost use Rattle.tree.specs.Growth.{growthOrder};
 ghost use Rattle.edges.specs.Rows.{rows};
 ghost use Rattle.base.specs.Limits.{maxVertices, maxWidth};

@@ -15,8 +15,7 @@ use Rattle.base.specs.Found.{Found, found, refused, ask}
 use Rattle.base.specs.Limits.{maxVertices, maxWidth, maxReading}
 use Rattle.base.proofs.Bools.{T-and, T-left, T-right}
 use Rattle.signed.specs.Signed.{offsetOfZigzag}
-use Rattle.tree.specs.Edges.{Edges}
-use Rattle.tree.specs.Inner.{Below}
+use Rattle.tree.specs.Edges.{Edges, Below}
 use Rattle.varint.proofs.VarintRead.{the-type}
 use Rattle.varint.specs.declared.VarintRead.{VarintRead}
 use Rattle.varint.specs.Reading.{varintAt}

@@ -11,19 +11,13 @@ use Rattle.signed.specs.Signed.{offsetOfZigzag}
 use Rattle.tree.specs.Edges.{Edges}
 use Rattle.tree.specs.Growth.{growthOrder}
 use Rattle.varint.specs.declared.VarintRead.{VarintRead}
-use Rattle.varint.specs.Reading.{varintAt}
+use Rattle.varint.specs.Reading.{varintAt, pastOf}
 use Rattle.edges.specs.Reading.{varintThen, endsApart, notJoined, roomAtEnds, edgesFrom}
 use Rattle.edges.specs.Inner.{EdgeList, edgesIn, Columns, Listing}
 use Rattle.plan.specs.Plan.{Plan}
 use Rattle.plan.specs.Positions.{treePlan, rangePlan}
 use Rattle.plan.specs.Reading.{ended, treeFrom, rangeFrom, planFrom}
 use Rattle.plan_groups.specs.declared.Next.{Next}
-
--- the place past a group that was found at `at`
-abbrev pub pastOf : VarintRead → ℕ → ℕ
-pastOf (VarintRead.Value v next) at = next
-pastOf (VarintRead.Short least) at = at
-pastOf VarintRead.Malformed at = at
 
 -- a further group belongs to the plan
 abbrev pub wanting : Next → Bool

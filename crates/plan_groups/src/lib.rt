@@ -1,7 +1,8 @@
 // A plan group by group: which group comes next. What a group that was read makes of the plan so far is crate plan_take, and its end plan_finish.
 ghost use mathlib.Core.Path.{_≡_};
+ghost use Rattle.varint.specs.Reading.{pastOf};
 ghost use Rattle.plan_groups.specs.declared.Next.{Next};
-ghost use Rattle.plan_groups.specs.Inner.{pastOf, wanting, kindNext, widthNext, afterEdges};
+ghost use Rattle.plan_groups.specs.Inner.{wanting, kindNext, widthNext, afterEdges};
 
 // Which group comes next, or how the plan ended.
 pub enum Next {

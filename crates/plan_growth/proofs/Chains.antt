@@ -13,14 +13,14 @@ use lib.Seq.{getD-set-same, getD-set-other}
 use borrow.Author.Tests.{eq-eqb, ne-eqb}
 use Rattle.base.specs.Pick.{pick}
 use Rattle.base.proofs.Bools.{true→T, false→not-T}
-use Rattle.tree.specs.Edges.{Edge, Edges}
-use Rattle.tree.specs.Inner.{Below}
+use Rattle.tree.specs.Edges.{Edge, Edges, Below}
 use Rattle.tree.specs.Growth.{reached, others, branched, target, extended, absorbed, growthOrder}
 use Rattle.tree.proofs.GrowthRows.{target-reached}
 use Rattle.tree.proofs.GrowthOrder.{branched-old, absorbed-step, absorbed-done, absorbed-enough, order-none, order-more, order-few}
 use Rattle.edges.specs.Rows.{rows}
+use Rattle.edges.proofs.Rows.{rows-length, row-below}
 use Rattle.plan_growth.specs.Inner.{edge, Laid, At, Latest, Hung}
-use Rattle.plan_growth.proofs.Columns.{rows-length, laid-rows, laid-named, laid-short, row-below}
+use Rattle.plan_growth.proofs.Columns.{laid-rows, laid-named, laid-short}
 
 -- where row i of the columns leads
 rows-target : (ps cs : List ℕ) (k i : ℕ) → i < k → target (rows ps cs k) i ≡ getD cs i 0

@@ -1,24 +1,24 @@
--- Laws of edges kept in columns: a row more, and how many rows there can be.
+-- Laws of edges laid in columns in growth order: a row more, and how many rows there can be.
 use mathlib.Core.Path.{_≡_, refl, sym, ap, ap₂, _∙_, subst}
 use mathlib.Core.List.{List, [], _∷_, _++_}
 use mathlib.Core.Bool.{Bool, true, false, not, _||_}
-use Prim.Native.Nat.{ℕ, zero, suc, _+_, _-_, _≤_, _<_}
+use Prim.Native.Nat.{ℕ, suc, _+_, _-_, _≤_, _<_}
 use native.Mathlib.Decide.{ℕ-discrete}
-use native.Mathlib.Numerals.{add-one}
 use native.Mathlib.Omega.{arith}
 use lib.Dec.{T, eqb, eqb→eq, eqb-refl, not-T}
-use lib.ListN.{length, getD, set, replicate, length-append, length-set, length-replicate, getD-replicate}
-use lib.Seq.{getD-set-same, getD-set-other, set-append-seam, append-snoc, getD-at}
+use lib.ListN.{length, getD, set, replicate, length-set, length-replicate, getD-replicate}
+use lib.Seq.{getD-set-same, getD-set-other}
 use borrow.Author.Tests.{ne-eqb}
 use Rattle.base.specs.Pick.{pick}
 use Rattle.base.specs.Sets.{bit, count}
 use Rattle.base.proofs.Bools.{T→true, not-T→false, true→T, false→not-T}
 use Rattle.base.proofs.Counts.{count-pos, count-not}
-use Rattle.tree.specs.Edges.{Edge, Edges}
-use Rattle.tree.specs.Inner.{Below, Grown}
+use Rattle.tree.specs.Edges.{Edge, Edges, Below}
+use Rattle.tree.specs.Inner.{Grown}
 use Rattle.tree.specs.Growth.{reached, turned, extended, branched}
 use Rattle.tree.proofs.GrowthComplete.{reached-count, grown-short}
 use Rattle.edges.specs.Rows.{rows, column}
+use Rattle.edges.proofs.Rows.{column-length, column-rows, store}
 use Rattle.plan_growth.specs.Inner.{edge, filled, Laid}
 
 -- ---- how many rows
@@ -29,22 +29,7 @@ room v F x h g b l d =
     let p : 0 < count v (λ i. not (reached F i)) = count-pos v (λ i. not (reached F i)) x l (not-T (reached F x) d) in
     omega (arith, reached-count v F h b g, count-not v (reached F))
 
--- ---- columns
-
-pub column-length : (f : Edge → ℕ) (F : Edges) → length (column f F) ≡ length F
-unfolding column
-column-length f [] = refl
-column-length f (e ∷ F) = length-append (column f F) (f e ∷ []) ∙ ap (λ (n : ℕ). n + 1) (column-length f F) ∙ add-one (length F)
-
--- a value stored at the first place that is not used
-pub store : (n : ℕ) (l : List ℕ) (x : ℕ) → length l < n → set (filled n l) (length l) x ≡ filled n (l ++ (x ∷ []))
-store n l x h = go (n - length l) (n - length (l ++ (x ∷ []))) refl refl
-  where
-    go : (i j : ℕ) → n - length l ≡ i → n - length (l ++ (x ∷ [])) ≡ j → set (l ++ replicate i 0) (length l) x ≡ (l ++ (x ∷ [])) ++ replicate j 0
-    go zero j a b = absurd (omega arith)
-    go (suc i) j a b =
-        let e : i ≡ j = omega (arith, length-append l (x ∷ [])) in
-        set-append-seam l 0 (replicate i 0) x ∙ sym (append-snoc l x (replicate i 0)) ∙ ap (λ (m : ℕ). (l ++ (x ∷ [])) ++ replicate m 0) e
+-- ---- a row more
 
 -- a position is reached exactly if its mark is 1
 pub bit-one : (b : Bool) → bit b ≡ 1 → T b
@@ -130,24 +115,6 @@ module _ {v : ℕ} {F : Edges} {parent child seen : List ℕ} {k : ℕ} (h : Lai
   pub laid-short : k < v
   laid-short = omega (arith, h .many, grown-short v F (h .some) (h .below) (h .grown))
 
--- as many rows as asked for
-pub rows-length : (ps cs : List ℕ) (k : ℕ) → length (rows ps cs k) ≡ k
-unfolding rows
-rows-length ps cs zero = refl
-rows-length ps cs (suc k) = ap suc (rows-length ps cs k)
-
--- the rows of the columns are F
-pub column-rows : (F : Edges) (xs ys : List ℕ) → rows (column (λ e. e .one) F ++ xs) (column (λ e. e .two) F ++ ys) (length F) ≡ F
-unfolding column rows
-column-rows [] xs ys = refl
-column-rows (e ∷ F) xs ys =
-    ap₂ (λ (ps cs : List ℕ). edge (getD ps (length F) 0) (getD cs (length F) 0) ∷ rows ps cs (length F))
-    (append-snoc (column (λ d. d .one) F) (e .one) xs) (append-snoc (column (λ d. d .two) F) (e .two) ys)
-    ∙ ap₂ (λ (a b : ℕ). edge a b ∷ rows (column (λ d. d .one) F ++ (e .one ∷ xs)) (column (λ d. d .two) F ++ (e .two ∷ ys)) (length F))
-    (getD-at (column (λ d. d .one) F) (e .one) xs 0 (length F) (column-length (λ d. d .one) F))
-    (getD-at (column (λ d. d .two) F) (e .two) ys 0 (length F) (column-length (λ d. d .two) F))
-    ∙ ap (λ (G : Edges). e ∷ G) (column-rows F (e .one ∷ xs) (e .two ∷ ys))
-
 pub laid-rows : {v : ℕ} {F : Edges} {parent child seen : List ℕ} {k : ℕ} → Laid v F parent child seen k → rows parent child k ≡ F
 laid-rows {v} {F} {parent} {child} {seen} {k} h =
     ap₂ (λ (ps cs : List ℕ). rows ps cs k) (h .parents) (h .children)
@@ -157,26 +124,6 @@ laid-rows {v} {F} {parent} {child} {seen} {k} h =
 -- so they can be named by the columns
 pub laid-named : {v : ℕ} {F : Edges} {parent child seen : List ℕ} {k : ℕ} → Laid v F parent child seen k → Laid v (rows parent child k) parent child seen k
 laid-named h = rw (laid-rows h) h
-
--- ends of a row
-pub row-below : (v : ℕ) (ps cs : List ℕ) (m i : ℕ) → i < m → Below v (rows ps cs m) → (getD ps i 0 < v) × (getD cs i 0 < v)
-unfolding rows
-row-below v ps cs zero i l b = absurd (omega arith)
-row-below v ps cs (suc m) i l b = go (ℕ-discrete i m) (row-below v ps cs m i)
-  where
-    go : Dec (i ≡ m) → (i < m → Below v (rows ps cs m) → (getD ps i 0 < v) × (getD cs i 0 < v)) → (getD ps i 0 < v) × (getD cs i 0 < v)
-    go (yes e) ih = rw e (b .0, b .1)
-    go (no d) ih = ih (omega arith) (b .2)
-
--- the first rows
-pub rows-below : (v : ℕ) (ps cs : List ℕ) (m i : ℕ) → i ≤ m → Below v (rows ps cs m) → Below v (rows ps cs i)
-unfolding rows
-rows-below v ps cs zero i l b = let e : i ≡ 0 = omega arith in rw e tt
-rows-below v ps cs (suc m) i l b = go (ℕ-discrete i (suc m)) (rows-below v ps cs m i)
-  where
-    go : Dec (i ≡ suc m) → (i ≤ m → Below v (rows ps cs m) → Below v (rows ps cs i)) → Below v (rows ps cs i)
-    go (yes e) ih = rw e b
-    go (no d) ih = ih (omega arith) (b .2)
 
 -- ---- no rows
 

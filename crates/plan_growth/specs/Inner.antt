@@ -6,8 +6,8 @@ use mathlib.Core.List.{List, _++_}
 use Prim.Native.Nat.{ℕ, suc, _-_, _≤_, _<_}
 use lib.ListN.{length, getD, replicate}
 use Rattle.base.specs.Sets.{bit}
-use Rattle.tree.specs.Edges.{Edge, Edges}
-use Rattle.tree.specs.Inner.{Below, Grown}
+use Rattle.tree.specs.Edges.{Edge, Edges, Below}
+use Rattle.tree.specs.Inner.{Grown}
 use Rattle.tree.specs.Growth.{reached, others}
 use Rattle.edges.specs.Rows.{rows, column}
 

@@ -7,7 +7,7 @@ ghost use lib.Dec.{T, eqb};
 ghost use lib.ListN.{length, getD, set};
 ghost use Rattle.base.specs.Limits.{maxVertices, maxRows};
 ghost use Rattle.base.specs.Pick.{pick};
-ghost use Rattle.tree.specs.Inner.{Below};
+ghost use Rattle.tree.specs.Edges.{Below};
 ghost use Rattle.tree.specs.Growth.{reached, extended, others, branched, absorbed, growthOrder};
 ghost use Rattle.edges.specs.Rows.{rows};
 ghost use Rattle.plan_growth.specs.Inner.{edge, Laid, Hung};

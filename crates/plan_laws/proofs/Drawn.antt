@@ -26,10 +26,10 @@ use Rattle.tree.proofs.GrowthComplete.{tree-length, tree-adjacent}
 use Rattle.base.specs.Found.{Found, found, refused}
 use Rattle.edges.specs.Inner.{Listed, edgesOfTree}
 use Rattle.edges.specs.Rows.{rows}
+use Rattle.edges.proofs.Rows.{column-rows}
 use Rattle.plan.specs.Plan.{Plan}
 use Rattle.plan.specs.Positions.{edgesOf, readingOf, column, treePlan, rangePlan}
 use Rattle.plan.specs.Reading.{ended, treeFrom, rangeFrom, planFrom, planOf}
-use Rattle.plan_growth.proofs.Columns.{column-rows}
 use Rattle.plan_laws.proofs.Shape.{edges-tree}
 use Rattle.plan_laws.proofs.Readings.{reading-sum, low-reading}
 use Rattle.plan.proofs.Listed.{asked, grouped, Passing, passing-acyclic, passing-below, after, made, edges-made}

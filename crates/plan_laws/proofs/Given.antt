@@ -24,6 +24,7 @@ use Rattle.tree.proofs.Growth.{grown-acyclic}
 use Rattle.tree.proofs.GrowthOrder.{order-again, order-grown, order-below}
 use Rattle.tree.proofs.GrowthComplete.{tree-length, tree-edgesAt}
 use Rattle.edges.specs.Rows.{rows}
+use Rattle.edges.proofs.Rows.{rows-length, column-rows}
 use Rattle.base.specs.Found.{Found, found, refused}
 use Rattle.edges.specs.Reading.{edgesFrom}
 use Rattle.plan.specs.Plan.{Plan}
@@ -31,7 +32,6 @@ use Rattle.plan.specs.Positions.{column, padded, treePlan, rangePlan}
 use Rattle.plan.specs.Bytes.{edgeBytes, treeBytes}
 use Rattle.plan.specs.Reading.{ended, treeFrom, rangeFrom, planFrom, planOf}
 use Rattle.plan.specs.Valid.{allZero, planValid}
-use Rattle.plan_growth.proofs.Columns.{rows-length, column-rows}
 use Rattle.plan_laws.specs.Statement.{Sized, Given}
 use Rattle.plan_laws.proofs.Parts.{TreeParts, RangeParts, tree-parts, tree-made, range-parts, range-made, valid-tree, valid-range}
 use Rattle.plan_laws.proofs.Shape.{GrownRows, fit-grown, grown-fit, grown-before, room-before, Kinds, tree, range, kinds, Shape, shape}
@@ -75,7 +75,7 @@ grown-passing v (e ∷ F) h =
       grown-passing v F (grown-before v e F h),
     )
 
-tree-bytes : (v : ℕ) (F : Edges) → AllBytes (treeBytes v F)
+pub tree-bytes : (v : ℕ) (F : Edges) → AllBytes (treeBytes v F)
 tree-bytes v F = all-bytes-append (varintBytes 1) (varintBytes v ++ edgeBytes F) (pieces-bytes 4 1) (all-bytes-append (varintBytes v) (edgeBytes F) (pieces-bytes 4 v) (edge-bytes F))
 
 tree-ended : (v : ℕ) (s : List ℕ) (at : ℕ) (F : Edges) → v ≤ 2 ^ 32 → length F ≡ v - 1 → GrownRows v F → (pre : List ℕ) → s ≡ pre ++ edgeBytes F → at ≡ length pre

@@ -9,10 +9,10 @@ use lib.Seq.{take-suc, drop-at, length-take-le}
 use Rattle.base.proofs.Bools.{T-left, T-right}
 use Rattle.tree.specs.Edges.{Edge, Edges}
 use Rattle.edges.specs.Rows.{rows}
+use Rattle.edges.proofs.Rows.{column-length}
 use Rattle.plan.specs.Positions.{column}
 use Rattle.plan_growth.specs.Inner.{filled}
 use Rattle.plan.specs.Valid.{allZero}
-use Rattle.plan_growth.proofs.Columns.{column-length}
 
 -- nothing but 0 is so many zeros
 pub zeros : (l : List ℕ) → T (allZero l) → l ≡ replicate (length l) 0

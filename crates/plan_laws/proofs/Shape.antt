@@ -10,16 +10,16 @@ use borrow.Author.Tests.{eq-eqb, ne-eqb, eqb-true}
 use Rattle.base.specs.Limits.{maxDegree, maxWidth}
 use Rattle.base.specs.Pick.{pick}
 use Rattle.base.proofs.Bools.{T-and, T-left, T-right}
-use Rattle.tree.specs.Edges.{Edge, Edges, edgesAt}
-use Rattle.tree.specs.Inner.{Acyclic, Below, Grown}
+use Rattle.tree.specs.Edges.{Edge, Edges, edgesAt, Below}
+use Rattle.tree.specs.Inner.{Acyclic, Grown}
 use Rattle.tree.specs.Path.{pathEdges}
 use Rattle.tree.proofs.Growth.{grown-acyclic}
 use Rattle.tree.proofs.PathEdges.{path-below, path-length, path-acyclic, path-degree}
 use Rattle.edges.specs.Rows.{rows}
+use Rattle.edges.proofs.Rows.{rows-length}
 use Rattle.plan.specs.Plan.{Plan}
 use Rattle.plan.specs.Positions.{edgesOf}
 use Rattle.plan_growth.specs.Inner.{edge}
-use Rattle.plan_growth.proofs.Columns.{rows-length}
 use Rattle.plan.specs.Valid.{rowFits, rowsFit, treeValid, rangeValid, planValid}
 use Rattle.plan.proofs.Degrees.{at-none, at-one, at-two, at-more, at-most}
 use Rattle.plan_laws.proofs.Fitting.{fitting, fitted}

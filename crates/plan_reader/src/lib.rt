@@ -1,9 +1,8 @@
 // The plan's reader: the lent plan bytes and the offset reached, together. It moves through the plan group by group; what each group says is asked of plain numbers.
 ghost use mathlib.Core.Path.{_≡_};
-ghost use Rattle.varint.specs.Reading.{varintAt};
+ghost use Rattle.varint.specs.Reading.{varintAt, pastOf};
 ghost use Rattle.edges.specs.Inner.{Lent};
 ghost use Rattle.plan.specs.Reading.{planOf, settledPlan, answered};
-ghost use Rattle.plan_groups.specs.Inner.{pastOf};
 ghost use Rattle.plan.specs.Tie.{asPlanRead};
 
 pub struct PlanReader<'a> {

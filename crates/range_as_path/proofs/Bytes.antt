@@ -19,10 +19,10 @@ use Rattle.tree.proofs.GrowthComplete.{tree-length}
 use Rattle.base.specs.Found.{Found, found}
 use Rattle.edges.specs.Reading.{edgesFrom}
 use Rattle.edges.specs.Rows.{rows}
+use Rattle.edges.proofs.Rows.{column-rows}
 use Rattle.plan.specs.Plan.{Plan}
 use Rattle.plan.specs.Positions.{edgesOf, column, padded, treePlan}
 use Rattle.plan.specs.Reading.{ended, planFrom, planOf}
-use Rattle.plan_growth.proofs.Columns.{column-rows}
 use Rattle.plan_laws.proofs.Shape.{shape, edges-tree}
 use Rattle.plan.specs.Bytes.{edgeBytes}
 use Rattle.plan.proofs.Listed.{Passing, ask-yes, edges-read}

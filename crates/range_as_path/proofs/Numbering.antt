@@ -12,8 +12,8 @@ use Rattle.base.specs.Sets.{Set, count}
 use Rattle.base.proofs.Bools.{or-left, or-right}
 use Rattle.base.proofs.Counts.{count-mono, count-cover, count-one, count-all, count-none}
 use Rattle.tree.specs.Walk.{Walk, here, step}
-use Rattle.tree.specs.Edges.{Edge, Edges, Ends, Adjacent, adjacent, all, joined, edgesAt}
-use Rattle.tree.specs.Inner.{In, Acyclic, Below}
+use Rattle.tree.specs.Edges.{Edge, Edges, Ends, Adjacent, adjacent, all, joined, edgesAt, Below}
+use Rattle.tree.specs.Inner.{In, Acyclic}
 use Rattle.tree.specs.Path.{pathEdges}
 use Rattle.tree.specs.Growth.{growthOrder}
 use Rattle.tree.proofs.Walks.{join, back}

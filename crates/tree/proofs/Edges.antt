@@ -1,14 +1,14 @@
--- Laws of adjacency by edges.
+-- Laws of adjacency by edges, and of bounds on their ends.
 use mathlib.Core.Path.{_≡_}
 use mathlib.Core.Logic.{inl, inr}
 use mathlib.Core.List.{[], _∷_}
 use mathlib.Core.Bool.{_&&_}
-use Prim.Native.Nat.{ℕ, _<_}
+use Prim.Native.Nat.{ℕ, _≤_, _<_}
+use native.Mathlib.Omega.{arith}
 use lib.Dec.{T, eqb, eqb→eq, eqb-refl}
 use Rattle.base.proofs.Bools.{T-and, T-left, T-right, or-split, or-left, or-right}
 use Rattle.tree.specs.Walk.{Walk, here, step}
-use Rattle.tree.specs.Edges.{Edge, Edges, Ends, Adjacent, ends, adjacent}
-use Rattle.tree.specs.Inner.{Below}
+use Rattle.tree.specs.Edges.{Edge, Edges, Ends, Adjacent, ends, adjacent, Below}
 
 -- adjacency is symmetric
 pub flip : (E : Edges) (x y : ℕ) → Adjacent E x y → Adjacent E y x
@@ -28,6 +28,11 @@ adjacent-below n [] b x y h = absurd h
 adjacent-below n (e ∷ E) b x y (inl (inl (i, j))) = rw j (b .1)
 adjacent-below n (e ∷ E) b x y (inl (inr (i, j))) = rw j (b .0)
 adjacent-below n (e ∷ E) b x y (inr h) = adjacent-below n E (b .2) x y h
+
+-- ends below n are below m, where m is no less
+pub below-more : (n m : ℕ) (E : Edges) → n ≤ m → Below n E → Below m E
+below-more n m [] l b = tt
+below-more n m (e ∷ E) l b = (omega (arith, b .0), omega (arith, b .1), below-more n m E l (b .2))
 
 pair-of : (x y a b : ℕ) → T (eqb x a && eqb y b) → (x ≡ a) × (y ≡ b)
 pair-of x y a b h = (eqb→eq x a (T-left (eqb x a) _ h), eqb→eq y b (T-right (eqb x a) _ h))

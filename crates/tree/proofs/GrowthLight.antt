@@ -13,8 +13,8 @@ use Rattle.base.proofs.Bools.{T-and, T-left, T-right, or-split, or-left, or-rig
 use Rattle.base.proofs.Counts.{count-mono, count-split}
 use Rattle.base.proofs.Smallest.{smallest-same}
 use Rattle.tree.specs.Walk.{here, step, Not}
-use Rattle.tree.specs.Edges.{Edge, Edges, Adjacent, label, joined}
-use Rattle.tree.specs.Inner.{In, Acyclic, Below, Grown, inside, up, subtree, shows, bad, unshown}
+use Rattle.tree.specs.Edges.{Edge, Edges, Adjacent, label, joined, Below}
+use Rattle.tree.specs.Inner.{In, Acyclic, Grown, inside, up, subtree, shows, bad, unshown}
 use Rattle.tree.specs.Component.{without, part, light, centre}
 use Rattle.tree.specs.Growth.{reached}
 use Rattle.tree.proofs.Walks.{mono, join, cut}

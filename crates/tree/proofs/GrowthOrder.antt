@@ -12,8 +12,8 @@ use lib.ListN.{length}
 use borrow.Author.Tests.{lt-ltb, le-ltb, ltb-false}
 use Rattle.base.specs.Pick.{pick}
 use Rattle.base.proofs.Bools.{true→T, false→not-T}
-use Rattle.tree.specs.Edges.{Edge, Edges, Ends, Adjacent}
-use Rattle.tree.specs.Inner.{Below, Grown}
+use Rattle.tree.specs.Edges.{Edge, Edges, Ends, Adjacent, Below}
+use Rattle.tree.specs.Inner.{Grown}
 use Rattle.tree.specs.Growth.{reached, turned, extended, others, branched, target, absorbed, withEdge, growthOrder}
 use Rattle.tree.proofs.Edges.{flip}
 use Rattle.tree.proofs.Growth.{reached-zero, reached-new, reached-old, ends-reached}

@@ -11,8 +11,8 @@ use lib.ListN.{length}
 use borrow.Author.Tests.{ne-eqb, eq-eqb}
 use Rattle.base.specs.Sets.{bit}
 use Rattle.base.proofs.Bools.{T-and, T-left, T-right, T→true, not-T→false}
-use Rattle.tree.specs.Edges.{Edge, Edges, Ends, Adjacent}
-use Rattle.tree.specs.Inner.{Below, Grown}
+use Rattle.tree.specs.Edges.{Edge, Edges, Ends, Adjacent, Below}
+use Rattle.tree.specs.Inner.{Grown}
 use Rattle.tree.specs.Growth.{reached, target}
 use Rattle.tree.proofs.Edges.{flip, adjacent-below}
 use Rattle.tree.proofs.Growth.{reached-new, reached-old, reached-split}

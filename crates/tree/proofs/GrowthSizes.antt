@@ -10,8 +10,8 @@ use lib.Dec.{T, eqb, eqb→eq, eqb-refl}
 use Rattle.base.specs.Pick.{pick}
 use Rattle.base.specs.Sets.{Set, bit, count}
 use Rattle.base.proofs.Bools.{T→true, not-T→false}
-use Rattle.tree.specs.Edges.{Edge, Edges}
-use Rattle.tree.specs.Inner.{Below, Grown, inside, lift, up}
+use Rattle.tree.specs.Edges.{Edge, Edges, Below}
+use Rattle.tree.specs.Inner.{Grown, inside, lift, up}
 use Rattle.tree.specs.Growth.{reached}
 use Rattle.tree.proofs.Growth.{reached-new, reached-old, reached-split, reached-apart}
 

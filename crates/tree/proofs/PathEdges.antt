@@ -1,7 +1,6 @@
 -- The edges of a path numbered along itself.
 use mathlib.Core.Path.{_≡_, refl, ap}
 use mathlib.Core.Logic.{_⊎_, inl, inr, _↔_}
-use mathlib.Core.List.{[], _∷_}
 use mathlib.Core.Bool.{Bool, true, false, _||_}
 use Prim.Native.Nat.{ℕ, zero, suc, _+_, _≤_, _<_}
 use native.Mathlib.Decide.{ℕ-discrete}
@@ -11,10 +10,10 @@ use lib.ListN.{length}
 use Rattle.base.specs.Sets.{bit}
 use Rattle.base.proofs.Bools.{or-split}
 use Rattle.tree.specs.Walk.{Walk, here, step}
-use Rattle.tree.specs.Edges.{Edges, Adjacent, all, edgesAt}
-use Rattle.tree.specs.Inner.{In, Acyclic, Below}
+use Rattle.tree.specs.Edges.{Edges, Adjacent, all, edgesAt, Below}
+use Rattle.tree.specs.Inner.{In, Acyclic}
 use Rattle.tree.specs.Path.{pathEdges}
-use Rattle.tree.proofs.Edges.{flip}
+use Rattle.tree.proofs.Edges.{flip, below-more}
 use Rattle.tree.proofs.Labels.{joined-walk}
 
 -- x and y are neighbouring numbers
@@ -53,10 +52,6 @@ path-adjacent k x y = (path-adjacent→ k x y, path-adjacent← k x y)
 
 pub path-along : (k : ℕ) → Along (suc k) (pathEdges k)
 path-along k = record { near = λ x y h. path-adjacent→ k x y h .0; link = λ x l. path-link k x (omega arith) }
-
-below-more : (n m : ℕ) (E : Edges) → n ≤ m → Below n E → Below m E
-below-more n m [] l b = tt
-below-more n m (e ∷ E) l b = (omega (arith, b .0), omega (arith, b .1), below-more n m E l (b .2))
 
 -- every end is at most k
 pub path-below : (k : ℕ) → Below (suc k) (pathEdges k)

@@ -3,8 +3,7 @@ use mathlib.Core.Path.{sym, subst}
 use mathlib.Core.Logic.{inl, inr}
 use Prim.Native.Nat.{ℕ, suc, _-_, _≤_, _<_}
 use native.Mathlib.Omega.{arith}
-use Rattle.tree.specs.Edges.{Edges, Adjacent}
-use Rattle.tree.specs.Inner.{Below}
+use Rattle.tree.specs.Edges.{Edges, Adjacent, Below}
 use Rattle.tree.specs.Path.{pathEdges}
 use Rattle.tree.proofs.Edges.{flip, adjacent-below}
 use Rattle.tree.proofs.PathEdges.{Next, Along, path-adjacent}

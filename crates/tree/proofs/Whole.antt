@@ -10,8 +10,8 @@ use lib.ListN.{length}
 use Rattle.base.specs.Sets.{Set, count}
 use Rattle.base.proofs.Counts.{count-lt, count-le, count-pos, count-all}
 use Rattle.tree.specs.Walk.{Walk, here, step}
-use Rattle.tree.specs.Edges.{Edge, Edges, Adjacent, all, label}
-use Rattle.tree.specs.Inner.{In, Acyclic, Below}
+use Rattle.tree.specs.Edges.{Edge, Edges, Adjacent, all, label, Below}
+use Rattle.tree.specs.Inner.{In, Acyclic}
 use Rattle.tree.specs.Component.{upto, without}
 use Rattle.tree.proofs.Edges.{adjacent-below}
 use Rattle.tree.proofs.Without.{to-without, without-in, without-not}

@@ -3,7 +3,7 @@ use mathlib.Core.Path.{_≡_}
 use mathlib.Core.Logic.{_⊎_}
 use mathlib.Core.List.{List, [], _∷_}
 use mathlib.Core.Bool.{Bool, true, false, _&&_, _||_}
-use Prim.Native.Nat.{ℕ, _+_}
+use Prim.Native.Nat.{ℕ, _+_, _<_}
 use lib.Dec.{T, eqb}
 use Rattle.base.specs.Pick.{pick}
 use Rattle.base.specs.Sets.{Set, bit}
@@ -15,6 +15,11 @@ pub record Edge : Type 0 where
 -- edges in the order of reading, the latest first
 abbrev pub Edges : Type 0
 Edges = List Edge
+
+-- every end is below n
+abbrev pub Below : ℕ → Edges → Type 0
+Below n [] = Unit {0}
+Below n (e ∷ E) = (e .one < n) × (e .two < n) × Below n E
 
 -- x and y are the two ends of the edge
 abbrev pub Ends : Edge → ℕ → ℕ → Type 0

@@ -1,7 +1,7 @@
 -- Definitions that serve proofs, and contracts of inner functions: what holds of a plan's edges, intervals of a path, and passes over edges in growth order.
 use mathlib.Core.Bool.{Bool, false, not, _&&_, _||_}
 use mathlib.Core.List.{[], _∷_}
-use Prim.Native.Nat.{ℕ, _+_, _-_, _*_, _/_, _<_}
+use Prim.Native.Nat.{ℕ, _+_, _-_, _*_, _/_}
 use lib.Dec.{T, eqb, leb, ltb}
 use Rattle.base.specs.Pick.{pick}
 use Rattle.base.specs.Sets.{Set, bit, count}
@@ -16,11 +16,6 @@ In S x = T (S x)
 abbrev pub Acyclic : Edges → Type 0
 Acyclic [] = Unit {0}
 Acyclic (e ∷ E) = (T (joined all E (e .one) (e .two)) → ⊥) × Acyclic E
-
--- every end is below n
-abbrev pub Below : ℕ → Edges → Type 0
-Below n [] = Unit {0}
-Below n (e ∷ E) = (e .one < n) × (e .two < n) × Below n E
 
 -- each edge leads from a position that is reached to one that is not
 abbrev pub Grown : Edges → Type 0

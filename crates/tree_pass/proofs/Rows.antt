@@ -8,8 +8,8 @@ use native.Mathlib.Omega.{arith}
 use lib.Dec.{T, eqb}
 use lib.ListN.{getD}
 use borrow.Author.Tests.{eq-eqb, ne-eqb}
-use Rattle.tree.specs.Edges.{Edge, Edges}
-use Rattle.tree.specs.Inner.{Below, Grown}
+use Rattle.tree.specs.Edges.{Edge, Edges, Below}
+use Rattle.tree.specs.Inner.{Grown}
 use Rattle.tree.specs.Growth.{reached}
 use Rattle.tree.proofs.Growth.{reached-old}
 use Rattle.edges.specs.Rows.{rows}

@@ -5,7 +5,8 @@ use Prim.Native.Nat.{ℕ, _≤_, _<_}
 use lib.Dec.{eqb}
 use lib.ListN.{length, getD, set}
 use Rattle.base.specs.Pick.{pick}
-use Rattle.tree.specs.Inner.{Below, Grown}
+use Rattle.tree.specs.Edges.{Below}
+use Rattle.tree.specs.Inner.{Grown}
 use Rattle.edges.specs.Rows.{rows}
 use Rattle.marks.specs.Marks.{marked}
 

@@ -13,9 +13,9 @@ use Rattle.base.specs.Limits.{maxVertices}
 use Rattle.base.specs.Pick.{pick}
 use Rattle.base.specs.Sets.{Set, bit}
 use Rattle.base.proofs.Counts.{count-le}
-use Rattle.tree.specs.Edges.{Edge, Edges}
+use Rattle.tree.specs.Edges.{Edge, Edges, Below}
 use Rattle.tree.specs.Growth.{reached}
-use Rattle.tree.specs.Inner.{Below, Grown, inside, lift, up, subtree}
+use Rattle.tree.specs.Inner.{Grown, inside, lift, up, subtree}
 use Rattle.tree.proofs.Growth.{reached-old}
 use Rattle.tree.proofs.GrowthSizes.{up-same, up-least, up-most}
 use Rattle.edges.specs.Rows.{rows}

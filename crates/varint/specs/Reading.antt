@@ -29,3 +29,14 @@ piecesAt (suc f) s at =
 
 abbrev pub varintAt : List ℕ → ℕ → VarintRead
 varintAt s at = piecesAt maxPieces s at
+
+-- the value that was read, or 0; the place past it, or `at`, where none was
+abbrev pub valueOf : VarintRead → ℕ
+valueOf (Value v next) = v
+valueOf (Short least) = 0
+valueOf Malformed = 0
+
+abbrev pub pastOf : VarintRead → ℕ → ℕ
+pastOf (Value v next) at = next
+pastOf (Short least) at = at
+pastOf Malformed at = at

@@ -12,7 +12,7 @@ const TOP: u8 = 128;
 
 const PIECE: u32 = TOP as u32;
 // The most pieces, those after the first, and the most that can stand above the lowest one.
-const MAX_PIECES: u32 = 5;
+pub const MAX_PIECES: u32 = 5;
 
 const LATER_PIECES: u32 = MAX_PIECES - 1;
 

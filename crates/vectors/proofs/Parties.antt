@@ -3,6 +3,7 @@ use mathlib.Core.Path.{refl}
 use lib.Count.{ones, onesIn}
 use Rattle.base.specs.Pick.{smallest}
 use Rattle.base.specs.Sets.{count}
+use Rattle.base.specs.Every.{Every}
 use Rattle.tree.specs.Edges.{label, joined, adjacent, ends, edgesAt}
 use Rattle.tree.specs.Growth.{reached, others, branched, target, absorbed, growthOrder}
 use Rattle.tree.specs.Component.{upto, without, part, heavy, light, centre, neighbours, degree, rank, neighbour, side, gateway, port}
@@ -20,7 +21,6 @@ use Rattle.level.specs.Rules.{rule1, rule2, rule3, rule4, rule5, rule6, rule7, 
 use Rattle.party.specs.Party.{levelAt, withLevel, componentOf, sending, contextOf, entering, entered, heldBy, hearing}
 use Rattle.party.specs.Run.{ruleAt, openAt, openLevel, afterRule, runUpTo, run, starting, taking}
 use Rattle.party_life.specs.Life.{replayed, lived}
-use Rattle.vectors.specs.Sums.{Every}
 use Rattle.vectors.specs.Choices.{two}
 use Rattle.vectors.specs.Parties.{Stands, cases, listing, passing}
 use Rattle.vectors.proofs.Table.{_and_}

@@ -8,6 +8,7 @@ use lib.Count.{ones, onesIn}
 use Rattle.base.specs.Pick.{smallest}
 use Rattle.base.specs.Sets.{count}
 use Rattle.base.proofs.Bools.{not-T→false}
+use Rattle.base.specs.Every.{Every}
 use Rattle.tree.specs.Path.{pathEdges}
 use Rattle.tree.proofs.PathEdges.{path-along}
 use Rattle.tree.proofs.PathCentre.{interval-centre}
@@ -20,7 +21,7 @@ use Rattle.senders.specs.Senders.{withSender, unionOver}
 use Rattle.level.specs.Level.{slot, senders, withHeard, notYet}
 use Rattle.level.specs.Counts.{mayPropose, proposed, digitEchoes, splitAt, split, echoedBy, secondProposed, echoedValues}
 use Rattle.level.specs.Rules.{rule3, rule4, rule8}
-use Rattle.vectors.specs.Sums.{Holds, hearing, table, Every}
+use Rattle.vectors.specs.Sums.{Holds, hearing, table}
 
 -- a first result that is there
 there : (v : ℕ) → v < notYet → eqb v notYet ≡ false

@@ -110,8 +110,3 @@ table =
     -- "P12 n 3, t 1 gives 2."
     ∷ settingsRefusal 3 1 2
     ∷ []
-
--- all of a list
-abbrev pub Every : {A : Type 0} → (A → Type 0) → List A → Type 0
-Every P [] = Unit {0}
-Every P (x ∷ l) = P x × Every P l

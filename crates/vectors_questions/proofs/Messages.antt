@@ -1,9 +1,9 @@
 -- Every row of the table of broken messages holds: each is computed.
 use mathlib.Core.Path.{refl}
+use Rattle.base.specs.Every.{Every}
 use Rattle.varint.specs.Reading.{piecesAt}
 use Rattle.format.specs.Reading.{fieldAt}
 use Rattle.message.specs.Reading.{messageAt, exactMessage}
-use Rattle.vectors_questions.specs.Rows.{Every}
 use Rattle.vectors_questions.specs.Messages.{Told, tellings}
 use Rattle.vectors_questions.proofs.Table.{_and_}
 

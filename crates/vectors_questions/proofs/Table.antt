@@ -3,6 +3,7 @@ use mathlib.Core.Path.{refl}
 use lib.Count.{ones, onesIn}
 use Rattle.base.specs.Pick.{smallest}
 use Rattle.base.specs.Sets.{count}
+use Rattle.base.specs.Every.{Every}
 use Rattle.varint.specs.Varint.{pieces}
 use Rattle.varint.specs.Reading.{piecesAt}
 use Rattle.format.specs.Reading.{fieldAt}
@@ -28,7 +29,7 @@ use Rattle.party_life.specs.Life.{replayed}
 use Rattle.board_calls.specs.Answers.{positionOf}
 use Rattle.board_calls.specs.Calls.{setUpOf, startQuestions, takeQuestions, answeredOf}
 use Rattle.board_calls.specs.Restore.{replayFrom, restoreQuestions}
-use Rattle.vectors_questions.specs.Rows.{Holds, Every, table}
+use Rattle.vectors_questions.specs.Rows.{Holds, table}
 
 infixr 20 _and_
 pub _and_ : {A B : Type 0} → A → B → A × B

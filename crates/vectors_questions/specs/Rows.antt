@@ -47,11 +47,6 @@ abbrev pub Holds : Row → Type 0
 Holds (refuses c question place) = verdictOf c ≡ Verdict.Refused question place
 Holds (accepts c used) = (verdictOf c ≡ Verdict.Accepted) × (usedAfter c ≡ used)
 
--- all of a list
-abbrev pub Every : {A : Type 0} → (A → Type 0) → List A → Type 0
-Every P [] = Unit {0}
-Every P (x ∷ l) = P x × Every P l
-
 -- ---- what the calls get; bytes are hexadecimal
 
 -- the readings 0 to 2

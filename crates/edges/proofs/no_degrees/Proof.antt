@@ -1,21 +1,12 @@
 -- `edges::no_degrees` meets its contract. The loop's invariant: 0 stands at each position passed.
-use mathlib.Core.Path.{_≡_, _∙_}
-use mathlib.Core.List.{List}
-use Prim.Native.Nat.{ℕ, _+_, _-_, _≤_, _<_}
-use native.Mathlib.Decide.{ℕ-discrete}
+use mathlib.Core.Path.{_≡_}
+use Prim.Native.Nat.{ℕ, _-_, _≤_, _<_}
 use native.Mathlib.Omega.{arith}
 use borrow.Author.Needs.{needs}
-use lib.ListN.{length, getD, set}
-use lib.Seq.{getD-set-same, getD-set-other}
+use lib.ListN.{length, getD}
+use Rattle.base.proofs.Loops.{stored}
 use Rattle.edges.proofs.no_degrees.Statement.{statement}
 use Rattle.edges.proofs.no_degrees.Tie as tie
-
-stored : (l : List ℕ) (x : ℕ) → x < length l → ((y : ℕ) → y < x → getD l y 0 ≡ 0) → (y : ℕ) → y < x + 1 → getD (set l x 0) y 0 ≡ 0
-stored l x h k y b = go (ℕ-discrete y x)
-  where
-    go : Dec (y ≡ x) → getD (set l x 0) y 0 ≡ 0
-    go (yes e) = rw e (getD-set-same l x 0 0 h)
-    go (no d) = getD-set-other l x y 0 0 d ∙ k y (omega arith)
 
 abbrev Inv-loop : tie.InvT-loop
 Inv-loop degree₀ v x₀ degree x = (x ≤ v) × (length degree ≡ length degree₀) × ((y : ℕ) → y < x → getD degree y 0 ≡ 0)
@@ -39,7 +30,7 @@ loop-less : tie.Need-loop-less Inv-loop μ-loop
 loop-less c = search needs
 
 loop-again : tie.Need-loop-again Inv-loop μ-loop
-loop-again c = let o = c .before .loop in (search needs, search needs, stored (o .degree) (o .x) (omega arith) (o .inv .2))
+loop-again c = let o = c .before .loop in (search needs, search needs, stored (λ _. 0) (o .degree) (o .x) (omega arith) (o .inv .2))
 
 same-length : tie.Need-same-length Inv-loop μ-loop
 same-length c = search needs

@@ -8,7 +8,8 @@ use Rattle.base.specs.Limits.{maxVertices, maxRows}
 use Rattle.tree.specs.Growth.{growthOrder}
 use Rattle.edges.specs.Rows.{rows}
 use Rattle.plan_growth.specs.Inner.{Laid, Hung}
-use Rattle.plan_growth.proofs.Columns.{laid-named, row-below, rows-below}
+use Rattle.edges.proofs.Rows.{row-below, rows-below}
+use Rattle.plan_growth.proofs.Columns.{laid-named}
 use Rattle.plan_growth.proofs.Chains.{hung-none, hung-more, order-start, order-step, order-end}
 use Rattle.plan_growth.proofs.grow.Statement.{statement}
 use Rattle.plan_growth.proofs.grow.Tie as tie

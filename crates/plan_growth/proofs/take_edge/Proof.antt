@@ -2,7 +2,8 @@
 use Prim.Native.Nat.{_+_}
 use native.Mathlib.Omega.{arith}
 use borrow.Author.Needs.{needs}
-use Rattle.plan_growth.proofs.Columns.{laid-named, row-below}
+use Rattle.edges.proofs.Rows.{row-below}
+use Rattle.plan_growth.proofs.Columns.{laid-named}
 use Rattle.plan_growth.proofs.Chains.{take-step}
 use Rattle.plan_growth.proofs.take_edge.Statement.{statement}
 use Rattle.plan_growth.proofs.take_edge.Tie as tie

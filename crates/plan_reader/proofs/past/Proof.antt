@@ -38,7 +38,7 @@ use denote.Exit.{yes}
 use Rattle.varint.specs.declared.VarintRead.{VarintRead}
 use Rattle.varint.proofs.VarintRead as K
 use Rattle.varint.proofs.VarintRead.Laws as K′
-use Rattle.plan_groups.specs.Inner.{pastOf}
+use Rattle.varint.specs.Reading.{pastOf}
 use Rattle.plan_groups.proofs.past as place
 use Rattle.plan_groups.proofs.past.Symbol as place-def
 use Rattle.plan_groups.proofs.past.Symbol.{name as #plan-groups·past}

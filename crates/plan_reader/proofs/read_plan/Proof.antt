@@ -47,7 +47,7 @@ use denote.Triple.Call.{calls-at, calls-at-last}
 use denote.Triple.Spec.{Meets, tripleOf}
 use denote.Triple.Table.{entered, cited}
 use denote.Triple.Walked.{says, needs, Stays, stay-none-slice, stay-slice, walkOf, goes-none-slice, goes-slice, ends-at, walked, walk-meets}
-use Rattle.varint.specs.Reading.{varintAt}
+use Rattle.varint.specs.Reading.{varintAt, pastOf}
 use Rattle.varint.specs.declared.VarintRead.{VarintRead}
 use Rattle.varint.proofs.VarintRead as K
 use Rattle.varint.proofs.VarintRead.Laws as K′
@@ -60,7 +60,7 @@ use Rattle.plan.proofs.PlanRead as S
 use Rattle.plan.proofs.PlanRead.Laws as S′
 use Rattle.plan_groups.specs.declared.Next.{Next}
 use Rattle.plan_groups.specs.declared.PlanSoFar.{PlanSoFar}
-use Rattle.plan_groups.specs.Inner.{pastOf, wanting, leftOf, Sound, restOf, Taken}
+use Rattle.plan_groups.specs.Inner.{wanting, leftOf, Sound, restOf, Taken}
 use Rattle.plan_groups.proofs.PlanSoFar as P
 use Rattle.plan_groups.proofs.PlanSoFar.Laws as P′
 use Rattle.plan_groups.proofs.begin as begin
