@@ -1,5 +1,6 @@
 pub mod Sets
-pub mod Parting
+pub mod Undoing
 pub mod Columns
+pub mod Joining
 pub mod Starting
 pub mod Marking

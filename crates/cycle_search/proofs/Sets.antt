@@ -1,4 +1,4 @@
--- Sets of vertices by their roots; the edge at a number.
+-- Sets of vertices by their roots; the edge with a number.
 use mathlib.Core.Path.{_≡_, refl, sym, subst}
 use mathlib.Core.List.{List, [], _∷_}
 use mathlib.Core.Bool.{false}
@@ -9,18 +9,15 @@ use lib.Dec.{T, eqb, eqb→eq, eqb-refl}
 use lib.ListN.{length}
 use borrow.Author.Tests.{eq-eqb, ne-eqb}
 use Rattle.base.specs.Pick.{pick}
-use Rattle.base.proofs.Bools.{or-left}
-use Rattle.tree.specs.Edges.{Edge, Edges, all, joined}
-use Rattle.tree.specs.Inner.{Below}
-use Rattle.tree.proofs.Relabel.{joined-more}
+use Rattle.tree.specs.Edges.{Edge, Edges, all, joined, Below}
 use Rattle.union_find.specs.Inner.{root}
 use Rattle.union_find.proofs.Roots.{root-inside}
-use Rattle.cycles.specs.Inner.{nth}
+use Rattle.cycles.specs.Inner.{numbered}
 use Rattle.cycle_search.specs.Inner.{Sets, Undoes}
 
-pub sets-of : (n : ℕ) (low : List ℕ) (E : Edges) (up : List ℕ) → Undoes n low E up → Sets n E up
-sets-of n low [] up u = u
-sets-of n low (e ∷ E) up u = u .0
+pub sets-of : (n : ℕ) (moved : List ℕ) (E : Edges) (up : List ℕ) → Undoes n moved E up → Sets n E up
+sets-of n moved [] up u = u
+sets-of n moved (e ∷ E) up u = u .0
 
 -- ---- sets by roots
 
@@ -34,23 +31,19 @@ module _ {n : ℕ} {E : Edges} {up : List ℕ} (S : Sets n E up) where
   pub root-below : (x : ℕ) → x < n → root n up x < n
   root-below x l = root-inside n n up (S .rooted .inside) x l
 
--- an edge more joins what was joined
-pub joined-on : (e : Edge) (E : Edges) (x y : ℕ) → T (joined all E x y) → T (joined all (e ∷ E) x y)
-joined-on e E x y h = subst T (sym (joined-more all e E x y)) (or-left (joined all E x y) _ h)
-
-pub nth-below : (n : ℕ) (E : Edges) → Below n E → (j : ℕ) → j < length E → nth E j .one < n
-unfolding nth
-nth-below n [] b j l = absurd (omega arith)
-nth-below n (e ∷ E) b j l = go (ℕ-discrete j (length E)) (nth-below n E (b .2) j)
+pub numbered-below : (n : ℕ) (E : Edges) → Below n E → (j : ℕ) → j < length E → numbered E j .one < n
+unfolding numbered
+numbered-below n [] b j l = absurd (omega arith)
+numbered-below n (e ∷ E) b j l = go (ℕ-discrete j (length E)) (numbered-below n E (b .2) j)
   where
-    go : Dec (j ≡ length E) → (j < length E → nth E j .one < n) → pick (eqb j (length E)) e (nth E j) .one < n
+    go : Dec (j ≡ length E) → (j < length E → numbered E j .one < n) → pick (eqb j (length E)) e (numbered E j) .one < n
     go (yes i) ih = rw (eq-eqb j (length E) i) (b .0)
     go (no d) ih = rw (ne-eqb j (length E) d) (ih (omega arith))
 
-pub nth-before : (e : Edge) (E : Edges) (j : ℕ) → j < length E → nth (e ∷ E) j ≡ nth E j
-unfolding nth
-nth-before e E j l = let d : eqb j (length E) ≡ false = ne-eqb j (length E) (λ i. omega arith) in rw d refl
+pub numbered-before : (e : Edge) (E : Edges) (j : ℕ) → j < length E → numbered (e ∷ E) j ≡ numbered E j
+unfolding numbered
+numbered-before e E j l = let d : eqb j (length E) ≡ false = ne-eqb j (length E) (λ i. omega arith) in rw d refl
 
-pub nth-latest : (e : Edge) (E : Edges) → nth (e ∷ E) (length E) ≡ e
-unfolding nth
-nth-latest e E = rw (eq-eqb (length E) (length E) refl) refl
+pub numbered-latest : (e : Edge) (E : Edges) → numbered (e ∷ E) (length E) ≡ e
+unfolding numbered
+numbered-latest e E = rw (eq-eqb (length E) (length E) refl) refl

@@ -1,15 +1,16 @@
--- Laws of chosen edges: which are left, and which positions they make neighbours.
-use mathlib.Core.Path.{_≡_, refl, sym, ap, _∙_}
+-- Laws of chosen edges: which are left, how many, and which positions they make neighbours.
+use mathlib.Core.Path.{_≡_, refl, sym, ap, ap₂, _∙_}
 use mathlib.Core.Logic.{inl, inr}
 use mathlib.Core.List.{[], _∷_}
 use mathlib.Core.Bool.{Bool, true, false}
-use Prim.Native.Nat.{ℕ, _≤_, _<_}
+use Prim.Native.Nat.{ℕ, _+_, _≤_, _<_}
 use native.Mathlib.Omega.{arith}
 use lib.Dec.{T}
 use lib.ListN.{length}
 use Rattle.base.specs.Pick.{pick}
-use Rattle.base.specs.Sets.{Set}
+use Rattle.base.specs.Sets.{Set, bit, count}
 use Rattle.base.proofs.Bools.{T→true, not-T→false}
+use Rattle.base.proofs.Counts.{count-le}
 use Rattle.tree.specs.Edges.{Edge, Edges, Adjacent, all}
 use Rattle.tree.specs.Component.{without}
 use Rattle.tree.proofs.Without.{to-without, without-not}
@@ -30,7 +31,26 @@ unfolding chosen
 chosen-every K [] h = refl
 chosen-every K (e ∷ E) h = chosen-on K e E (h (length E) (omega arith)) ∙ ap (λ F. e ∷ F) (chosen-every K E (λ i l. h i (omega arith)))
 
--- one edge left out: there is none at the place, it is the latest, or another one
+-- sets that agree choose the same
+pub chosen-same : (K L : Set) (E : Edges) → ((i : ℕ) → i < length E → K i ≡ L i) → chosen K E ≡ chosen L E
+unfolding chosen
+chosen-same K L [] h = refl
+chosen-same K L (e ∷ E) h = ap₂ (λ (b : Bool) (F : Edges). pick b (e ∷ F) F) (h (length E) (omega arith)) (chosen-same K L E (λ i l. h i (omega arith)))
+
+-- as many edges are chosen as numbers
+pub count-chosen : (K : Set) (E : Edges) → count (length E) K ≡ length (chosen K E)
+unfolding count chosen
+count-chosen K [] = refl
+count-chosen K (e ∷ E) = go (K (length E)) (count-chosen K E)
+  where
+    go : (b : Bool) → count (length E) K ≡ length (chosen K E) → bit b + count (length E) K ≡ length (pick b (e ∷ chosen K E) (chosen K E))
+    go true h = omega (arith, h)
+    go false h = omega (arith, h)
+
+pub chosen-most : (K : Set) (E : Edges) → length (chosen K E) ≤ length E
+chosen-most K E = rw (sym (count-chosen K E)) (count-le (length E) K)
+
+-- one edge left out: none has that number, it is the latest, or another one
 pub without-none : (E : Edges) (i : ℕ) → length E ≤ i → chosen (without all i) E ≡ E
 without-none E i l = chosen-every (without all i) E (λ j k. to-without all i j tt (λ h. omega arith))
 

@@ -1,4 +1,4 @@
--- Edges of which none joins ends already joined.
+-- Edges of which one joins ends already joined, or none does.
 use mathlib.Core.Path.{_≡_, subst}
 use mathlib.Core.Logic.{inl, inr}
 use mathlib.Core.List.{[], _∷_}
@@ -14,6 +14,7 @@ use Rattle.tree.specs.Edges.{Edge, Edges, all, joined}
 use Rattle.tree.specs.Inner.{Acyclic}
 use Rattle.tree.proofs.Labels.{joined-label, label-joined}
 use Rattle.cycles.specs.Cycles.{closes, chosen}
+use Rattle.cycles.specs.Statement.{Rejected}
 use Rattle.cycles.proofs.Chosen.{chosen-every}
 use Rattle.cycles.proofs.Joins.{join-chosen}
 
@@ -27,6 +28,12 @@ pub acyclic-open : (E : Edges) → Acyclic E → T (closes E) → ⊥
 unfolding closes
 acyclic-open [] k h = h
 acyclic-open (e ∷ E) k h = elim (or-split (joined all E (e .one) (e .two)) (closes E) h) [ inl p ↦ k .0 p | inr p ↦ acyclic-open E (k .1) p ]
+
+-- a rejected edge closes
+pub rejected-closes : (E : Edges) → Rejected E → T (closes E)
+unfolding closes
+rejected-closes [] r = absurd r
+rejected-closes (e ∷ E) r = or-left (joined all E (e .one) (e .two)) (closes E) (r .0)
 
 -- after acyclic edges only the latest can close
 pub closes-latest : (e : Edge) (E : Edges) → Acyclic E → closes (e ∷ E) ≡ joined all E (e .one) (e .two)

@@ -16,27 +16,27 @@ use Rattle.tree.specs.Component.{without}
 use Rattle.tree.proofs.Labels.{edge-label, walk-label, label-walk, joined-label, label-joined, Across, label-step}
 use Rattle.tree.proofs.Acyclic.{apart-ends}
 use Rattle.cycles.specs.Cycles.{chosen}
-use Rattle.cycles.specs.Inner.{nth}
+use Rattle.cycles.specs.Inner.{numbered}
 use Rattle.cycles.proofs.Chosen.{without-latest, without-other}
 use Rattle.cycles.proofs.Joins.{Joined, join-later, join-before}
 
--- neighbours stay neighbours without the edge at place i, or they are its ends
-left-out : (E : Edges) (i x y : ℕ) → Adjacent E x y → Adjacent (chosen (without all i) E) x y ⊎ Ends (nth E i) x y
-unfolding nth
+-- neighbours stay neighbours without the edge with number i, or they are its ends
+left-out : (E : Edges) (i x y : ℕ) → Adjacent E x y → Adjacent (chosen (without all i) E) x y ⊎ Ends (numbered E i) x y
+unfolding numbered
 left-out [] i x y h = absurd h
 left-out (e ∷ E) i x y h = go (eqb i (length E)) refl h (left-out E i x y)
   where
     Near : Edges → Type 0
     Near F = Adjacent F x y
 
-    go : (b : Bool) → eqb i (length E) ≡ b → Near (e ∷ E) → (Near E → Near (chosen (without all i) E) ⊎ Ends (nth E i) x y) → Near (chosen (without all i) (e ∷ E)) ⊎ Ends (pick b e (nth E i)) x y
+    go : (b : Bool) → eqb i (length E) ≡ b → Near (e ∷ E) → (Near E → Near (chosen (without all i) E) ⊎ Ends (numbered E i) x y) → Near (chosen (without all i) (e ∷ E)) ⊎ Ends (pick b e (numbered E i)) x y
     go true q (inl h) ih = inr h
     go true q (inr h) ih = inl (subst (λ j. Near (chosen (without all j) (e ∷ E))) (sym (eqb-true i (length E) q)) (subst Near (sym (without-latest e E)) h))
     go false q (inl h) ih = inl (subst Near (sym (without-other e E i (eqb-false i (length E) q))) (inl h))
     go false q (inr h) ih = elim (ih h) [ inl p ↦ inl (subst Near (sym (without-other e E i (eqb-false i (length E) q))) (inr p)) | inr p ↦ inr p ]
 
 -- what is joined to d stays so without an edge that is joined to c, where c and d are not joined
-pub beyond : (E : Edges) (i c d x : ℕ) → Joined E (nth E i .one) c → (Joined E c d → ⊥) → Joined E x d → Joined (chosen (without all i) E) x d
+pub beyond : (E : Edges) (i c d x : ℕ) → Joined E (numbered E i .one) c → (Joined E c d → ⊥) → Joined E x d → Joined (chosen (without all i) E) x d
 beyond E i c d x a k j = walk-label all F (go refl (label-walk all E x d tt tt j))
   where
     F : Edges
@@ -49,12 +49,12 @@ beyond E i c d x a k j = walk-label all F (go refl (label-walk all E x d tt tt j
     go q (here p) = here p
     go q (step {x = x} {y = y} {z = z} p h w) = step p (at (left-out E i x y h)) (go q w)
       where
-        at : Adjacent F x y ⊎ Ends (nth E i) x y → Adjacent F x y
+        at : Adjacent F x y ⊎ Ends (numbered E i) x y → Adjacent F x y
         at (inl h) = h
         at (inr (inl (u, v))) = absurd (k (sym a ∙ ap L (sym u) ∙ edge-label all E x y h tt tt ∙ walk-label all E w ∙ q))
         at (inr (inr (u, v))) = absurd (k (sym a ∙ ap L (sym v) ∙ walk-label all E w ∙ q))
 
-module _ (e : Edge) (E : Edges) (ok : Acyclic (e ∷ E)) (c d : ℕ) (ends : Ends e c d) (i : ℕ) (near : Joined E (nth E i .one) c) where
+module _ (e : Edge) (E : Edges) (ok : Acyclic (e ∷ E)) (c d : ℕ) (ends : Ends e c d) (i : ℕ) (near : Joined E (numbered E i .one) c) where
   abbrev F : Edges
   F = chosen (without all i) E
 

@@ -1,4 +1,4 @@
--- What a search needs that parts the edges again, the latest first.
+-- What a search needs that undoes the edges, the latest first.
 use mathlib.Core.Path.{_≡_, refl, sym, ap, _∙_}
 use mathlib.Core.List.{_∷_}
 use mathlib.Core.Bool.{true, false, not}
@@ -12,7 +12,7 @@ use Rattle.tree.specs.Inner.{Acyclic}
 use Rattle.tree.specs.Component.{without}
 use Rattle.tree.proofs.Labels.{joined-label, label-joined}
 use Rattle.cycles.specs.Cycles.{closes, chosen, onCycle}
-use Rattle.cycles.specs.Inner.{needed, nth}
+use Rattle.cycles.specs.Inner.{needed, numbered}
 use Rattle.cycles.specs.Statement.{Rejected}
 use Rattle.cycles.proofs.Chosen.{without-latest, without-before}
 use Rattle.cycles.proofs.Joins.{join-later, join-before}
@@ -52,12 +52,12 @@ needed-stays e E k x y i j l = ap (λ F. not (joined all F x y)) (without-before
     up h = label-joined all (e ∷ F) x y (join-later e F x y (joined-label all F x y h))
 
 -- An edge in the part of c, one end of the latest: it is needed between those two that stand there for x and y, where c stands for what lies beyond the latest edge.
-pub needed-parts : (e : Edge) (E : Edges) → Acyclic (e ∷ E) → (c d : ℕ) → Ends e c d → (x y i : ℕ) → i < length E → T (joined all E (nth E i .one) c)
+pub needed-parts : (e : Edge) (E : Edges) → Acyclic (e ∷ E) → (c d : ℕ) → Ends e c d → (x y i : ℕ) → i < length E → T (joined all E (numbered E i .one) c)
     → T (joined all (e ∷ E) x c) → T (joined all (e ∷ E) y c) → needed (e ∷ E) x y i ≡ needed E (pick (joined all E x c) x c) (pick (joined all E y c) y c) i
 unfolding needed
 needed-parts e E k c d ends x y i l a p q =
     ap (λ F. not (joined all F x y)) (without-before e E i l)
-    ∙ ap not (pull-joined e E k c d ends i (joined-label all E (nth E i .one) c a) x y (joined-label all (e ∷ E) x c p) (joined-label all (e ∷ E) y c q))
+    ∙ ap not (pull-joined e E k c d ends i (joined-label all E (numbered E i .one) c a) x y (joined-label all (e ∷ E) x c p) (joined-label all (e ∷ E) y c q))
 
 -- nothing is needed between a position and itself
 pub needed-same : (E : Edges) (x i : ℕ) → needed E x x i ≡ false
@@ -65,10 +65,10 @@ unfolding needed
 needed-same E x i = ap not (T→true (joined all (chosen (without all i) E) x x) (label-joined all (chosen (without all i) E) x x refl))
 
 -- an edge that is not joined to two positions is not needed between them
-pub needed-elsewhere : (E : Edges) (x y i : ℕ) → (T (joined all E (nth E i .one) x) → ⊥) → T (joined all E x y) → needed E x y i ≡ false
+pub needed-elsewhere : (E : Edges) (x y i : ℕ) → (T (joined all E (numbered E i .one) x) → ⊥) → T (joined all E x y) → needed E x y i ≡ false
 unfolding needed
 needed-elsewhere E x y i d j =
-    let z : ℕ = nth E i .one in
+    let z : ℕ = numbered E i .one in
     let k : label all E x ≡ label all E y = joined-label all E x y j in
     let far : label all E z ≡ label all E y → ⊥ = λ h. d (label-joined all E z x (h ∙ sym k)) in
     ap not (T→true (joined all (chosen (without all i) E) x y) (label-joined all (chosen (without all i) E) x y (beyond E i z y x refl far k)))

@@ -1,15 +1,13 @@
 -- The edges on the cycle are the smallest set in which some edge joins ends already joined, and the only one.
-use mathlib.Core.Path.{_≡_, refl, sym, subst}
+use mathlib.Core.Path.{_≡_, sym, subst}
 use mathlib.Core.List.{[], _∷_}
-use mathlib.Core.Bool.{Bool, true, false}
-use Prim.Native.Nat.{ℕ, suc, _+_, _-_, _≤_, _<_}
+use Prim.Native.Nat.{ℕ, suc, _-_}
 use native.Mathlib.Omega.{arith}
-use lib.Dec.{T, T-not, not-T}
+use lib.Dec.{T, T-not}
 use lib.ListN.{length}
-use Rattle.base.specs.Pick.{pick}
-use Rattle.base.specs.Sets.{Set, bit, count}
-use Rattle.base.proofs.Bools.{T-dec, T-ext, true→T, or-left}
-use Rattle.base.proofs.Counts.{count-mono, count-lt}
+use Rattle.base.specs.Sets.{Set}
+use Rattle.base.proofs.Bools.{T-dec, true→T, or-left}
+use Rattle.base.proofs.Counts.{count-mono, no-more}
 use Rattle.tree.specs.Edges.{Edge, Edges, all, joined}
 use Rattle.tree.specs.Component.{without}
 use Rattle.tree.proofs.Labels.{joined-label, label-joined}
@@ -17,7 +15,7 @@ use Rattle.tree.proofs.Without.{to-without}
 use Rattle.cycles.specs.Cycles.{closes, chosen, onCycle}
 use Rattle.cycles.specs.Inner.{needed}
 use Rattle.cycles.specs.Statement.{Rejected, Closing, Statement}
-use Rattle.cycles.proofs.Chosen.{chosen-on}
+use Rattle.cycles.proofs.Chosen.{chosen-on, count-chosen}
 use Rattle.cycles.proofs.Joins.{Joined, join-chosen}
 use Rattle.cycles.proofs.Closes.{closes-mono}
 use Rattle.cycles.proofs.Enough.{enough}
@@ -36,7 +34,7 @@ on-closing e E r = subst (λ F. T (closes F)) (sym (chosen-on C e E (true→T (l
     C : Set
     C = onCycle (e ∷ E)
 
--- a closing set without the edge at place i shows that the edge is not on the cycle
+-- a closing set without the number i shows that the edge is not on the cycle
 on-least : (E : Edges) (K : Set) → Closing E K → (i : ℕ) → T (onCycle E i) → T (K i)
 unfolding onCycle
 on-least E K k i p = go (T-dec (K i))
@@ -45,27 +43,9 @@ on-least E K k i p = go (T-dec (K i))
     go (yes q) = q
     go (no d) = absurd (T-not (closes (chosen (without all i) E)) p (closes-mono K (without all i) E (λ j l q. to-without all i j tt (λ e. d (subst (λ z. T (K z)) e q))) k))
 
--- as many edges are chosen as numbers
-count-chosen : (K : Set) (E : Edges) → count (length E) K ≡ length (chosen K E)
-unfolding count chosen
-count-chosen K [] = refl
-count-chosen K (e ∷ E) = go (K (length E)) (count-chosen K E)
-  where
-    go : (b : Bool) → count (length E) K ≡ length (chosen K E) → bit b + count (length E) K ≡ length (pick b (e ∷ chosen K E) (chosen K E))
-    go true h = omega (arith, h)
-    go false h = omega (arith, h)
-
--- a set that holds every member of another, and has no more, is that one
-no-more : (n : ℕ) (f g : Set) → ((i : ℕ) → i < n → T (f i) → T (g i)) → count n g ≤ count n f → (i : ℕ) → i < n → g i ≡ f i
-no-more n f g h l i k = T-ext (g i) (f i) (λ p. go p (T-dec (f i))) (h i k)
-  where
-    go : T (g i) → Dec (T (f i)) → T (f i)
-    go p (yes q) = q
-    go p (no d) = absurd (omega (arith, count-lt n f g h i k p (not-T (f i) d)))
-
-pub theorem : Statement
-theorem [] r = absurd r
-theorem (e ∷ E) r = record {
+pub smallest : Statement
+smallest [] r = absurd r
+smallest (e ∷ E) r = record {
   closing = on-closing e E r;
   least = least;
   latest = λ K k. let m : length E ≡ suc (length E) - 1 = omega arith in subst (λ (i : ℕ). T (K i)) m (least K k (length E) (true→T (latest-on e E r)));

@@ -14,7 +14,7 @@ use Rattle.cycles.specs.Cycles.{chosen}
 unfoldable pub needed : Edges → ℕ → ℕ → Set
 needed E a b i = not (joined all (chosen (without all i) E) a b)
 
--- edge i
-unfoldable pub nth : Edges → ℕ → Edge
-nth [] i = record { one = 0; two = 0 }
-nth (e ∷ E) i = pick (eqb i (length E)) e (nth E i)
+-- the edge with number i, counted from 0 in plan order
+unfoldable pub numbered : Edges → ℕ → Edge
+numbered [] i = record { one = 0; two = 0 }
+numbered (e ∷ E) i = pick (eqb i (length E)) e (numbered E i)

@@ -2,16 +2,14 @@
 use mathlib.Core.Path.{_≡_, refl, sym, ap, _∙_, subst}
 use mathlib.Core.Logic.{_⊎_, inl, inr}
 use mathlib.Core.List.{List}
-use mathlib.Core.Bool.{Bool}
 use Prim.Native.Nat.{ℕ, zero, suc, _+_, _*_, _^_, _≤_, _<_}
 use native.Mathlib.Nat.{le-refl, pow-suc}
 use native.Mathlib.Decide.{ℕ-discrete}
 use native.Mathlib.Omega.{arith}
 use lib.Dec.{T, eqb, eqb→eq, eqb-refl}
 use lib.ListN.{getD}
-use Rattle.base.specs.Pick.{smallest}
 use Rattle.base.proofs.Smallest.{sought, found}
-use Rattle.union_find.specs.Inner.{root, Top, Rooted, Forest}
+use Rattle.union_find.specs.Inner.{root, Top, topped, steps, Rooted, Forest}
 
 -- a root stays
 pub root-stays : (k : ℕ) (up : List ℕ) (r : ℕ) → Top up r → root k up r ≡ r
@@ -72,13 +70,6 @@ rooted n up weight f = rooted-by n up weight (f .inside) (f .some) (f .most) (λ
 pub placed : (n : ℕ) (up weight : List ℕ) → Forest n up weight → (x r : ℕ) → x < n → r ≡ root n up x → (r < n) × Top up r
 placed n up weight f x r k e =
     (subst (λ (z : ℕ). z < n) (sym e) (root-inside n n up (f .inside) x k), subst (Top up) (sym e) (rooted n up weight f .ends x k))
-
--- how many steps lead from x to its root
-abbrev topped : List ℕ → ℕ → ℕ → Bool
-topped up x k = eqb (getD up (root k up x) 0) (root k up x)
-
-abbrev pub steps : ℕ → List ℕ → ℕ → ℕ
-steps n up x = smallest (suc n) (topped up x)
 
 steps-fall : (n : ℕ) (up : List ℕ) → Rooted n up → (x : ℕ) → x < n → (Top up x → ⊥) → steps n up (getD up x 0) < steps n up x
 unfolding root

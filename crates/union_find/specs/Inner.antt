@@ -1,11 +1,12 @@
 -- Disjoint sets of the positions 0 .. n-1, kept as trees (union by size): `up` leads from each position towards the root of its set, and from a root
--- to itself; `weight` of a root is the number of positions in its set. Serves proofs only.
+-- to itself; `weight` of a root is the number of positions in its set. Serves proofs, and contracts of this crate's functions and of inner functions that call them.
 use mathlib.Core.Path.{_≡_}
 use mathlib.Core.List.{List}
 use mathlib.Core.Bool.{Bool}
 use Prim.Native.Nat.{ℕ, zero, suc, _*_, _≤_, _<_}
 use lib.Dec.{eqb}
 use lib.ListN.{getD, set}
+use Rattle.base.specs.Pick.{smallest}
 use Rattle.base.specs.Sets.{count}
 use Rattle.tree.specs.Edges.{Edges, all, joined}
 
@@ -21,6 +22,14 @@ Top up r = getD up r 0 ≡ r
 -- x and y are in one set
 abbrev pub together : ℕ → List ℕ → ℕ → ℕ → Bool
 together n up x y = eqb (root n up x) (root n up y)
+
+-- k steps up lead from x to a root
+abbrev pub topped : List ℕ → ℕ → ℕ → Bool
+topped up x k = eqb (getD up (root k up x) 0) (root k up x)
+
+-- how many steps lead from x to its root
+abbrev pub steps : ℕ → List ℕ → ℕ → ℕ
+steps n up x = smallest (suc n) (topped up x)
 
 -- n steps up lead to a root
 pub record Rooted (n : ℕ) (up : List ℕ) : Type 0 where

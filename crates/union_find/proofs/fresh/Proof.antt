@@ -1,23 +1,13 @@
 -- `union_find::fresh` meets its contract. The loop's invariant: each position passed is its own root, of weight 1.
-use mathlib.Core.Path.{_≡_, _∙_}
-use mathlib.Core.List.{List}
-use Prim.Native.Nat.{ℕ, _+_, _-_, _≤_, _<_}
-use native.Mathlib.Decide.{ℕ-discrete}
+use mathlib.Core.Path.{_≡_}
+use Prim.Native.Nat.{ℕ, _-_, _≤_, _<_}
 use native.Mathlib.Omega.{arith}
 use borrow.Author.Needs.{needs}
-use lib.ListN.{length, getD, set}
-use lib.Seq.{getD-set-same, getD-set-other}
+use lib.ListN.{length, getD}
+use Rattle.base.proofs.Loops.{stored}
 use Rattle.union_find.proofs.Sets.{singles}
 use Rattle.union_find.proofs.fresh.Statement.{statement}
 use Rattle.union_find.proofs.fresh.Tie as tie
-
--- a value f x is stored at each x in turn
-stored : (f : ℕ → ℕ) (l : List ℕ) (x : ℕ) → x < length l → ((y : ℕ) → y < x → getD l y 0 ≡ f y) → (y : ℕ) → y < x + 1 → getD (set l x (f x)) y 0 ≡ f y
-stored f l x h k y b = go (ℕ-discrete y x)
-  where
-    go : Dec (y ≡ x) → getD (set l x (f x)) y 0 ≡ f y
-    go (yes e) = rw e (getD-set-same l x (f x) 0 h)
-    go (no d) = getD-set-other l x y (f x) 0 d ∙ k y (omega arith)
 
 abbrev Inv-loop : tie.InvT-loop
 Inv-loop up₀ weight₀ n x₀ up weight x =

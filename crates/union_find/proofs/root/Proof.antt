@@ -4,8 +4,8 @@ use Prim.Native.Nat.{_<_}
 use native.Mathlib.Omega.{arith}
 use borrow.Author.Needs.{needs}
 use lib.ListN.{getD}
-use Rattle.union_find.specs.Inner.{root}
-use Rattle.union_find.proofs.Roots.{at-root, above-inside, above-root, steps, above-steps}
+use Rattle.union_find.specs.Inner.{root, steps}
+use Rattle.union_find.proofs.Roots.{at-root, above-inside, above-root, above-steps}
 use Rattle.union_find.proofs.root.Statement.{statement}
 use Rattle.union_find.proofs.root.Tie as tie
 

@@ -1,8 +1,8 @@
--- `cycle_search::keep_pulled` meets its contract: the three that are pulled.
+-- `cycle_ends::keep_pulled` meets its contract: the three that are pulled.
 use borrow.Author.Needs.{needs}
-use Rattle.cycle_search.proofs.Starting.{projected-as, put-as}
-use Rattle.cycle_search.proofs.keep_pulled.Statement.{statement}
-use Rattle.cycle_search.proofs.keep_pulled.Tie as tie
+use Rattle.cycle_ends.proofs.Values.{projected-as, put-as}
+use Rattle.cycle_ends.proofs.keep_pulled.Statement.{statement}
+use Rattle.cycle_ends.proofs.keep_pulled.Tie as tie
 
 pull-requires : tie.Need-pull-requires
 pull-requires c κs = search needs

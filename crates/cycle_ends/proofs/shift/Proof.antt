@@ -1,8 +1,8 @@
--- `cycle_search::shift` meets its contract: the two stores of each column.
+-- `cycle_ends::shift` meets its contract: the two stores of each column.
 use mathlib.Core.Path.{sym}
 use borrow.Author.Needs.{needs}
-use Rattle.cycle_search.proofs.shift.Statement.{statement}
-use Rattle.cycle_search.proofs.shift.Tie as tie
+use Rattle.cycle_ends.proofs.shift.Statement.{statement}
+use Rattle.cycle_ends.proofs.shift.Tie as tie
 
 mul-x : tie.Need-mul-x
 mul-x c = search needs
@@ -22,7 +22,7 @@ keep-pulled-requires c κs = search needs
 keep-pulled-requires-2 : tie.Need-keep-pulled-requires-2
 keep-pulled-requires-2 c κs =
     let s = c .before .before .before .before .before .before .before .before .before .before .before .before .before .before in
-    (s .pre .1, s .pre .2, s .pre .3, s .pre .4, s .pre .5, search needs, search needs, s .pre .8)
+    (s .pre .1, s .pre .2, s .pre .3, s .pre .4, record { up-long = search needs; from-long = search needs; to-long = search needs }, s .pre .6)
 
 apart-requires : tie.Need-apart-requires
 apart-requires c κs = search needs

@@ -1,14 +1,13 @@
--- `cycle_search::keep_ends` meets its contract: the root is that of a, and lies inside.
+-- `cycle_ends::keep_ends` meets its contract: the root is that of a, and lies inside.
 use mathlib.Core.Path.{ap, _∙_}
-use mathlib.Core.List.{List}
-use Prim.Native.Nat.{ℕ, _<_}
+use Prim.Native.Nat.{_<_}
 use native.Mathlib.Omega.{arith}
 use borrow.Author.Needs.{needs}
 use Rattle.base.specs.Limits.{maxVertices}
 use Rattle.union_find.specs.Inner.{root}
-use Rattle.cycle_search.proofs.Starting.{root-at, put-at}
-use Rattle.cycle_search.proofs.keep_ends.Statement.{statement}
-use Rattle.cycle_search.proofs.keep_ends.Tie as tie
+use Rattle.cycle_ends.proofs.Values.{root-at, put-at}
+use Rattle.cycle_ends.proofs.keep_ends.Statement.{statement}
+use Rattle.cycle_ends.proofs.keep_ends.Tie as tie
 
 wide-requires : tie.Need-wide-requires
 wide-requires c κs = search needs
@@ -19,7 +18,7 @@ root-requires c κs = search needs
 inside : (c : tie.After-root) → c .root .result < maxVertices
 inside c =
     let s = c .before .before .before .before .before in
-    root-at _ _ _ (s .pre .4) (s .pre .3) (c .before .wide .ensures) (c .root .ensures)
+    root-at _ _ _ (s .pre .2) (s .pre .0) (c .before .wide .ensures) (c .root .ensures)
 
 mul-from : tie.Need-mul-from
 mul-from c = omega (arith, inside c)

@@ -1,8 +1,8 @@
--- `cycle_search::pull` meets its contract, by the root of x.
+-- `cycle_ends::pull` meets its contract, by the root of x.
 use borrow.Author.Needs.{needs}
-use Rattle.cycle_search.proofs.Starting.{pulled-in, pulled-out}
-use Rattle.cycle_search.proofs.pull.Statement.{statement}
-use Rattle.cycle_search.proofs.pull.Tie as tie
+use Rattle.cycle_ends.proofs.Values.{pulled-in, pulled-out}
+use Rattle.cycle_ends.proofs.pull.Statement.{statement}
+use Rattle.cycle_ends.proofs.pull.Tie as tie
 
 wide-requires : tie.Need-wide-requires
 wide-requires c κs = search needs

@@ -1,4 +1,4 @@
--- One edge is parted again: which sets there are then, what is kept for them, and which edges are asked for.
+-- One edge is undone: which sets there are then, what is kept for them, and which edges are asked for.
 use mathlib.Core.Path.{_≡_, refl, sym, ap, ap₂, _∙_, subst}
 use mathlib.Core.Logic.{_⊎_, inl, inr}
 use mathlib.Core.List.{List, _∷_}
@@ -13,27 +13,29 @@ use borrow.Author.Tests.{eq-eqb, ne-eqb}
 use Rattle.base.specs.Pick.{pick}
 use Rattle.base.specs.Sets.{bit}
 use Rattle.base.proofs.Bools.{or-split, T-left, T-right}
-use Rattle.tree.specs.Edges.{Edge, Edges, all, joined}
-use Rattle.tree.specs.Inner.{Acyclic, Below}
-use Rattle.tree.proofs.Labels.{edge-label, label-joined}
+use Rattle.tree.specs.Edges.{Edge, Edges, Ends, all, joined, Below}
+use Rattle.tree.specs.Inner.{Acyclic}
+use Rattle.tree.proofs.Labels.{edge-label, joined-label, label-joined}
 use Rattle.tree.proofs.Relabel.{joined-more}
 use Rattle.union_find.specs.Inner.{root, Top, together, Rooted}
 use Rattle.union_find.proofs.Roots.{root-stays, above-root}
-use Rattle.cycles.specs.Inner.{needed, nth}
+use Rattle.cycles.specs.Inner.{needed, numbered}
+use Rattle.cycles.proofs.Joins.{join-later}
 use Rattle.cycles.proofs.Steps.{needed-latest, needed-stays, needed-parts}
-use Rattle.cycle_search.specs.Inner.{Sets, Undoes, Kept, Asks, pulled, projected, shifted}
-use Rattle.cycle_search.proofs.Sets.{sets-of, roots-joined, joined-roots, root-below, joined-on, nth-below, nth-before, nth-latest}
+use Rattle.cycle_ends.specs.Inner.{pulled, projected, shifted}
+use Rattle.cycle_search.specs.Inner.{Sets, cut, Undoes, Kept, SameNeed}
+use Rattle.cycle_search.proofs.Sets.{sets-of, roots-joined, joined-roots, root-below, numbered-below, numbered-before, numbered-latest}
 
--- the latest edge, e, is parted
-module _ (n : ℕ) (low : List ℕ) (e : Edge) (E : Edges) (up′ : List ℕ) (u : Undoes n low (e ∷ E) up′) (k : Acyclic (e ∷ E)) (b : Below n (e ∷ E)) (long : n ≤ length up′) where
+-- the latest edge, e, is undone
+module _ (n : ℕ) (moved : List ℕ) (e : Edge) (E : Edges) (up′ : List ℕ) (u : Undoes n moved (e ∷ E) up′) (k : Acyclic (e ∷ E)) (b : Below n (e ∷ E)) (long : n ≤ length up′) where
   abbrev l : ℕ
-  l = getD low (length E) 0
+  l = getD moved (length E) 0
 
   abbrev h : ℕ
   h = getD up′ l 0
 
   abbrev up : List ℕ
-  up = set up′ l l
+  up = cut l up′
 
   abbrev R′ : ℕ → ℕ
   R′ = root n up′
@@ -42,7 +44,7 @@ module _ (n : ℕ) (low : List ℕ) (e : Edge) (E : Edges) (up′ : List ℕ) (u
   R = root n up
 
   S : Sets n E up
-  S = sets-of n low E up (u .2)
+  S = sets-of n moved E up (u .2)
 
   pub l-below : l < n
   l-below = u .1 .inside
@@ -50,8 +52,8 @@ module _ (n : ℕ) (low : List ℕ) (e : Edge) (E : Edges) (up′ : List ℕ) (u
   pub h-below : h < n
   h-below = u .0 .rooted .inside l l-below
 
-  pub parted-rooted : Rooted n up
-  parted-rooted = S .rooted
+  pub cut-rooted : Rooted n up
+  cut-rooted = S .rooted
 
   ends-apart : R (e .one) ≡ R (e .two) → ⊥
   ends-apart i = k .0 (roots-joined S (e .one) (e .two) (b .0) (b .1) i)
@@ -59,8 +61,8 @@ module _ (n : ℕ) (low : List ℕ) (e : Edge) (E : Edges) (up′ : List ℕ) (u
   e-joins : T (joined all (e ∷ E) (e .one) (e .two))
   e-joins = label-joined all (e ∷ E) (e .one) (e .two) (edge-label all (e ∷ E) (e .one) (e .two) (inl (inl (refl, refl))) tt tt)
 
-  pub moved : l ≡ h → ⊥
-  moved i =
+  roots-apart : l ≡ h → ⊥
+  roots-apart i =
       let s : up ≡ up′ = ap (set up′ l) i ∙ set-getD up′ l 0 in
       ends-apart (subst (λ (z : List ℕ). root n z (e .one) ≡ root n z (e .two)) (sym s) (joined-roots (u .0) (e .one) (e .two) (b .0) (b .1) e-joins))
 
@@ -71,7 +73,7 @@ module _ (n : ℕ) (low : List ℕ) (e : Edge) (E : Edges) (up′ : List ℕ) (u
   top-other r d = getD-set-other up′ l r l 0 d
 
   top-h : Top up h
-  top-h = top-other h (λ i. moved (sym i)) ∙ u .1 .above
+  top-h = top-other h (λ i. roots-apart (sym i)) ∙ u .1 .above
 
   R-l : R l ≡ l
   R-l = root-stays n up l top-l
@@ -87,7 +89,7 @@ module _ (n : ℕ) (low : List ℕ) (e : Edge) (E : Edges) (up′ : List ℕ) (u
 
   -- the same root now, the same root before
   before : (x y : ℕ) → x < n → y < n → R x ≡ R y → R′ x ≡ R′ y
-  before x y i j m = joined-roots (u .0) x y i j (joined-on e E x y (roots-joined S x y i j m))
+  before x y i j m = joined-roots (u .0) x y i j (label-joined all (e ∷ E) x y (join-later e E x y (joined-label all E x y (roots-joined S x y i j m))))
 
   at-l : (x : ℕ) → x < n → R x ≡ l → R′ x ≡ h
   at-l x i m = before x l i l-below (m ∙ sym R-l) ∙ R′-l
@@ -129,23 +131,23 @@ module _ (n : ℕ) (low : List ℕ) (e : Edge) (E : Edges) (up′ : List ℕ) (u
       go (no p) = sym (at-other x i p) ∙ m
 
   -- one end of e is in each of the two sets
-  ends-parted : ((R (e .one) ≡ l) × (R (e .two) ≡ h)) ⊎ ((R (e .one) ≡ h) × (R (e .two) ≡ l))
+  abbrev Sides : Type 0
+  Sides = ((R (e .one) ≡ l) × (R (e .two) ≡ h)) ⊎ ((R (e .one) ≡ h) × (R (e .two) ≡ l))
+
+  ends-parted : Sides
   ends-parted = by (or-split (joined all E l h) (A && B) (subst T (joined-more all e E l h) (roots-joined (u .0) l h l-below h-below (R′-l ∙ sym R′-h))))
     where
-      Goal : Type 0
-      Goal = ((R (e .one) ≡ l) × (R (e .two) ≡ h)) ⊎ ((R (e .one) ≡ h) × (R (e .two) ≡ l))
-
       l-at : (x : ℕ) → x < n → T (joined all E l x) → R x ≡ l
       l-at x i j = sym (joined-roots S l x l-below i j) ∙ R-l
 
       h-at : (x : ℕ) → x < n → T (joined all E h x) → R x ≡ h
       h-at x i j = sym (joined-roots S h x h-below i j) ∙ R-h
 
-      two : T (joined all E l (e .one)) ⊎ T (joined all E l (e .two)) → T (joined all E h (e .one)) ⊎ T (joined all E h (e .two)) → Goal
-      two (inl p) (inl q) = absurd (moved (sym (l-at (e .one) (b .0) p) ∙ h-at (e .one) (b .0) q))
+      two : T (joined all E l (e .one)) ⊎ T (joined all E l (e .two)) → T (joined all E h (e .one)) ⊎ T (joined all E h (e .two)) → Sides
+      two (inl p) (inl q) = absurd (roots-apart (sym (l-at (e .one) (b .0) p) ∙ h-at (e .one) (b .0) q))
       two (inl p) (inr q) = inl (l-at (e .one) (b .0) p, h-at (e .two) (b .1) q)
       two (inr p) (inl q) = inr (h-at (e .one) (b .0) q, l-at (e .two) (b .1) p)
-      two (inr p) (inr q) = absurd (moved (sym (l-at (e .two) (b .1) p) ∙ h-at (e .two) (b .1) q))
+      two (inr p) (inr q) = absurd (roots-apart (sym (l-at (e .two) (b .1) p) ∙ h-at (e .two) (b .1) q))
 
       A : Bool
       A = joined all E l (e .one) || joined all E l (e .two)
@@ -153,8 +155,8 @@ module _ (n : ℕ) (low : List ℕ) (e : Edge) (E : Edges) (up′ : List ℕ) (u
       B : Bool
       B = joined all E h (e .one) || joined all E h (e .two)
 
-      by : T (joined all E l h) ⊎ T (A && B) → Goal
-      by (inl j) = absurd (moved (sym R-l ∙ joined-roots S l h l-below h-below j ∙ R-h))
+      by : T (joined all E l h) ⊎ T (A && B) → Sides
+      by (inl j) = absurd (roots-apart (sym R-l ∙ joined-roots S l h l-below h-below j ∙ R-h))
       by (inr j) =
           two (or-split (joined all E l (e .one)) (joined all E l (e .two)) (T-left A B j)) (or-split (joined all E h (e .one)) (joined all E h (e .two)) (T-right A B j))
 
@@ -164,7 +166,7 @@ module _ (n : ℕ) (low : List ℕ) (e : Edge) (E : Edges) (up′ : List ℕ) (u
   -- the end of e in the set of s, and the other one
   record End (s c : ℕ) : Type 0 where
     pub other : ℕ
-    pub ends : ((c ≡ e .one) × (other ≡ e .two)) ⊎ ((c ≡ e .two) × (other ≡ e .one))
+    pub ends : Ends e c other
     pub here : R c ≡ s
     pub below : c < n
 
@@ -172,7 +174,7 @@ module _ (n : ℕ) (low : List ℕ) (e : Edge) (E : Edges) (up′ : List ℕ) (u
   unfolding pulled
   end-of s p = go (ℕ-discrete (R (e .one)) s)
     where
-      two-there : (R (e .one) ≡ s → ⊥) → Part s → ((R (e .one) ≡ l) × (R (e .two) ≡ h)) ⊎ ((R (e .one) ≡ h) × (R (e .two) ≡ l)) → R (e .two) ≡ s
+      two-there : (R (e .one) ≡ s → ⊥) → Part s → Sides → R (e .two) ≡ s
       two-there d (inl p) (inl q) = absurd (d (q .0 ∙ sym p))
       two-there d (inl p) (inr q) = q .1 ∙ sym p
       two-there d (inr p) (inl q) = q .1 ∙ sym p
@@ -203,7 +205,7 @@ module _ (n : ℕ) (low : List ℕ) (e : Edge) (E : Edges) (up′ : List ℕ) (u
   module _ (f : List ℕ) (fits : n ≤ length f) where
     after-part : (s : ℕ) → Part s → getD (after f) s 0 ≡ projected n up s (e .one) (e .two) (getD f h 0)
     after-part s (inr p) = rw p (getD-set-same (set f l _) h _ 0 (omega (arith, length-set f l (projected n up l (e .one) (e .two) (getD f h 0)), h-below)))
-    after-part s (inl p) = rw p (getD-set-other (set f l _) h l _ 0 moved ∙ getD-set-same f l _ 0 (omega (arith, l-below)))
+    after-part s (inl p) = rw p (getD-set-other (set f l _) h l _ 0 roots-apart ∙ getD-set-same f l _ 0 (omega (arith, l-below)))
 
     after-other : (r : ℕ) → (Part r → ⊥) → getD (after f) r 0 ≡ getD f r 0
     after-other r d = getD-set-other (set f l _) h r _ 0 (λ p. d (inr p)) ∙ getD-set-other f l r _ 0 (λ p. d (inl p))
@@ -238,10 +240,10 @@ module _ (n : ℕ) (low : List ℕ) (e : Edge) (E : Edges) (up′ : List ℕ) (u
     kept-after = record { first = kept-column from ff (q .first); second = kept-column to ft (q .second) }
 
     -- an edge of one of the two sets
-    asks-part : (s : ℕ) → Part s → (j : ℕ) → j < length E → R (nth E j .one) ≡ s
+    need-in-part : (s : ℕ) → Part s → (j : ℕ) → j < length E → R (numbered E j .one) ≡ s
         → needed (e ∷ E) x₀ y₀ j ≡ needed E (getD (after from) s 0) (getD (after to) s 0) j
     unfolding projected pulled
-    asks-part s p j i m =
+    need-in-part s p j i m =
         needed-parts e E k c (w .other) (w .ends) x₀ y₀ j i
         (roots-joined S _ c z-below (w .below) (m ∙ sym (w .here)))
         (roots-joined (u .0) x₀ c x-below (w .below) (q .first h h-below (u .1 .above) .1 ∙ sym (at-part s p c (w .below) (w .here))))
@@ -254,8 +256,8 @@ module _ (n : ℕ) (low : List ℕ) (e : Edge) (E : Edges) (up′ : List ℕ) (u
         w : End s c
         w = end-of s p
 
-        z-below : nth E j .one < n
-        z-below = nth-below n E (b .2) j i
+        z-below : numbered E j .one < n
+        z-below = numbered-below n E (b .2) j i
 
         same : (f : List ℕ) → n ≤ length f → (x : ℕ) → x < n → x ≡ getD f h 0 → pick (joined all E x c) x c ≡ getD (after f) s 0
         same f ff x xb g =
@@ -264,12 +266,12 @@ module _ (n : ℕ) (low : List ℕ) (e : Edge) (E : Edges) (up′ : List ℕ) (u
             ∙ sym (after-part f ff s p)
 
     -- an edge of another set
-    asks-other : (j : ℕ) → j < length E → (Part (R (nth E j .one)) → ⊥)
-        → needed (e ∷ E) (getD from (R′ (nth E j .one)) 0) (getD to (R′ (nth E j .one)) 0) j
-        ≡ needed E (getD (after from) (R (nth E j .one)) 0) (getD (after to) (R (nth E j .one)) 0) j
-    asks-other j i d =
-        let z : ℕ = nth E j .one in
-        let z-below : z < n = nth-below n E (b .2) j i in
+    need-elsewhere : (j : ℕ) → j < length E → (Part (R (numbered E j .one)) → ⊥)
+        → needed (e ∷ E) (getD from (R′ (numbered E j .one)) 0) (getD to (R′ (numbered E j .one)) 0) j
+        ≡ needed E (getD (after from) (R (numbered E j .one)) 0) (getD (after to) (R (numbered E j .one)) 0) j
+    need-elsewhere j i d =
+        let z : ℕ = numbered E j .one in
+        let z-below : z < n = numbered-below n E (b .2) j i in
         let r-below : R z < n = root-below S z z-below in
         let t : Top up (R z) = S .rooted .ends z z-below in
         let v = kept-other from ff (q .first) (R z) r-below t d in
@@ -277,26 +279,26 @@ module _ (n : ℕ) (low : List ℕ) (e : Edge) (E : Edges) (up′ : List ℕ) (u
         rw (at-other z z-below d, after-other from ff (R z) d, after-other to ft (R z) d)
         (needed-stays e E k (getD from (R z) 0) (getD to (R z) 0) j (roots-joined S _ _ (v .0) (w .0) (v .1 ∙ sym (w .1))) i)
 
-    pub asks-after : (G : Edges) (g g′ : ℕ) → Asks n G g g′ (e ∷ E) up′ from to → Asks n G g g′ E up (after from) (after to)
-    asks-after G g g′ a j i = a j (omega arith) ∙ ap (λ (d : Edge). needed (e ∷ E) (getD from (R′ (d .one)) 0) (getD to (R′ (d .one)) 0) j) (nth-before e E j i) ∙ go (part-dec (R (nth E j .one)))
+    pub need-after : (G : Edges) (g g′ : ℕ) → SameNeed n G g g′ (e ∷ E) up′ from to → SameNeed n G g g′ E up (after from) (after to)
+    need-after G g g′ a j i = a j (omega arith) ∙ ap (λ (d : Edge). needed (e ∷ E) (getD from (R′ (d .one)) 0) (getD to (R′ (d .one)) 0) j) (numbered-before e E j i) ∙ go (part-dec (R (numbered E j .one)))
       where
         z : ℕ
-        z = nth E j .one
+        z = numbered E j .one
 
         go : Dec (Part (R z)) → needed (e ∷ E) (getD from (R′ z) 0) (getD to (R′ z) 0) j ≡ needed E (getD (after from) (R z) 0) (getD (after to) (R z) 0) j
         go (yes p) =
-            ap (λ (r : ℕ). needed (e ∷ E) (getD from r 0) (getD to r 0) j) (at-part (R z) p z (nth-below n E (b .2) j i) refl)
-            ∙ asks-part (R z) p j i refl
-        go (no d) = asks-other j i d
+            ap (λ (r : ℕ). needed (e ∷ E) (getD from r 0) (getD to r 0) j) (at-part (R z) p z (numbered-below n E (b .2) j i) refl)
+            ∙ need-in-part (R z) p j i refl
+        go (no d) = need-elsewhere j i d
 
     -- the mark of e
-    pub mark-of : (G : Edges) (g g′ : ℕ) → Asks n G g g′ (e ∷ E) up′ from to → pick (together n up x₀ y₀) 0 1 ≡ bit (needed G g g′ (length E))
+    pub mark-of : (G : Edges) (g g′ : ℕ) → SameNeed n G g g′ (e ∷ E) up′ from to → pick (together n up x₀ y₀) 0 1 ≡ bit (needed G g g′ (length E))
     mark-of G g g′ a =
         flip (together n up x₀ y₀)
         ∙ ap (λ (t : Bool). bit (not t)) (S .agree x₀ y₀ x-below y-below)
         ∙ ap bit (sym (needed-latest e E x₀ y₀))
         ∙ ap (λ (r : ℕ). bit (needed (e ∷ E) (getD from r 0) (getD to r 0) (length E))) (sym (at-part (R (e .one)) one-part (e .one) (b .0) refl))
-        ∙ ap (λ (d : Edge). bit (needed (e ∷ E) (getD from (R′ (d .one)) 0) (getD to (R′ (d .one)) 0) (length E))) (sym (nth-latest e E))
+        ∙ ap (λ (d : Edge). bit (needed (e ∷ E) (getD from (R′ (d .one)) 0) (getD to (R′ (d .one)) 0) (length E))) (sym (numbered-latest e E))
         ∙ ap bit (sym (a (length E) (omega arith)))
       where
         flip : (t : Bool) → pick t 0 1 ≡ bit (not t)

@@ -1,13 +1,13 @@
--- `cycle_search::keep_alone` meets its contract. The loop's invariant: each vertex passed is kept twice at its own place.
+-- `cycle_ends::keep_alone` meets its contract. The loop's invariant: each vertex passed is kept twice at its own place.
 use mathlib.Core.Path.{_≡_}
 use Prim.Native.Nat.{ℕ, _-_, _≤_, _<_}
 use native.Mathlib.Omega.{arith}
 use lib.ListN.{length, getD}
 use borrow.Author.Needs.{needs}
 use Rattle.base.specs.Limits.{maxVertices}
-use Rattle.cycle_search.proofs.Starting.{stored}
-use Rattle.cycle_search.proofs.keep_alone.Statement.{statement}
-use Rattle.cycle_search.proofs.keep_alone.Tie as tie
+use Rattle.base.proofs.Loops.{stored}
+use Rattle.cycle_ends.proofs.keep_alone.Statement.{statement}
+use Rattle.cycle_ends.proofs.keep_alone.Tie as tie
 
 abbrev Inv-loop : tie.InvT-loop
 Inv-loop from₀ to₀ x₀ from to x =
@@ -46,7 +46,7 @@ loop-less c = search needs
 loop-again : tie.Need-loop-again Inv-loop μ-loop
 loop-again c =
     let o = c .before .loop in
-    (search needs, search needs, search needs, stored (o .from) (o .x) (omega arith) (o .inv .3), stored (o .to) (o .x) (omega arith) (o .inv .4))
+    (search needs, search needs, search needs, stored (λ y. y) (o .from) (o .x) (omega arith) (o .inv .3), stored (λ y. y) (o .to) (o .x) (omega arith) (o .inv .4))
 
 same-length : tie.Need-same-length Inv-loop μ-loop
 same-length c = search needs
