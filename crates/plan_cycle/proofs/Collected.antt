@@ -1,68 +1,53 @@
 -- The edges up to the rejected one, written into columns.
-use mathlib.Core.Path.{_≡_, refl, sym, ap, ap₂, _∙_}
-use mathlib.Core.List.{List, [], _∷_, _++_}
-use Prim.Native.Nat.{ℕ, _+_, _<_}
-use native.Mathlib.Numerals.{add-one}
+use mathlib.Core.Path.{_≡_, sym, _∙_}
+use mathlib.Core.List.{List, _∷_}
+use Prim.Native.Nat.{ℕ, _+_, _≤_, _<_}
 use native.Mathlib.Omega.{arith}
-use lib.ListN.{length, set, take, drop, take-append-drop}
-use lib.Seq.{take-suc-set}
+use lib.ListN.{length, set, length-set}
 use Rattle.base.specs.Found.{refused}
 use Rattle.base.specs.Limits.{maxVertices, maxRows}
-use Rattle.tree.specs.Edges.{Edge, Edges}
-use Rattle.edges.specs.Rows.{rows, column}
-use Rattle.plan_growth.proofs.Columns.{column-rows}
+use Rattle.edges.specs.Rows.{rows}
+use Rattle.edges.proofs.Rows.{rows-length}
+use Rattle.edges.proofs.Further.{no-rows, rows-more}
 use Rattle.plan.specs.Reading.{planOf}
-use Rattle.plan_cycle.specs.Cycle.{valueAt, pastAt, edgeAt, rejectedEdges}
+use Rattle.plan_cycle.specs.Cycle.{valueAt, pastAt, edgeAt, edgesToRejected}
 use Rattle.plan_cycle.proofs.Along.{Along, along-start, along-room, along-next, along-end}
 
--- the first i rows of the columns are the edges before `at`
-pub record Collected (s : List ℕ) (place at : ℕ) (one two : List ℕ) (i : ℕ) : Type 0 where
-  pub edges : Edges
-  pub along : Along s place at edges
-  pub many : i ≡ length edges
-  pub ones : take i one ≡ column (λ e. e .one) edges
-  pub twos : take i two ≡ column (λ e. e .two) edges
+-- the first i rows of the columns are the edges before the one whose groups stand at `first` and `second`
+pub record Collected (s : List ℕ) (place first second : ℕ) (one two : List ℕ) (i : ℕ) : Type 0 where
+  pub along : Along s place first (rows one two i)
+  pub next : second ≡ pastAt s first
+  pub ones : maxRows ≤ length one
+  pub twos : maxRows ≤ length two
 
--- an edge more in a column
-column-store : (f : Edge → ℕ) (l : List ℕ) (i : ℕ) (e : Edge) (E : Edges) → i < length l → take i l ≡ column f E → take (i + 1) (set l i (f e)) ≡ column f (e ∷ E)
-unfolding column
-column-store f l i e E k h = ap (λ (n : ℕ). take n (set l i (f e))) (add-one i) ∙ take-suc-set l i (f e) k ∙ ap (λ (m : List ℕ). m ++ (f e ∷ [])) h
+pub collected-start : {s : List ℕ} {place count first second : ℕ} {one two : List ℕ} → count ≡ pastAt s 0 → first ≡ pastAt s count → second ≡ pastAt s first
+    → (planOf s ≡ refused 8 place) × (maxRows ≤ length one) × (maxRows ≤ length two) → Collected s place first second one two 0
+collected-start {s} {place} {one = one} {two = two} n f q h =
+    record { along = rw (f, n, no-rows one two) (along-start s place (h .0)); next = q; ones = h .1; twos = h .2 }
 
--- columns that begin with those of E
-rows-of : (one two : List ℕ) (i : ℕ) (E : Edges) → i ≡ length E → take i one ≡ column (λ e. e .one) E → take i two ≡ column (λ e. e .two) E → rows one two i ≡ E
-rows-of one two i E n p q =
-    ap₂ (λ (x y : List ℕ). rows x y i) (sym (take-append-drop i one) ∙ ap (λ (m : List ℕ). m ++ drop i one) p) (sym (take-append-drop i two) ∙ ap (λ (m : List ℕ). m ++ drop i two) q)
-    ∙ ap (rows (column (λ e. e .one) E ++ drop i one) (column (λ e. e .two) E ++ drop i two)) n
-    ∙ column-rows E (drop i one) (drop i two)
+module _ {s : List ℕ} {place first second : ℕ} {one two : List ℕ} {i : ℕ} (h : Collected s place first second one two i) where
+  -- there is room for the edge
+  pub collected-room : i < maxRows
+  collected-room = omega (arith, along-room (h .along) .0, rows-length one two i)
 
-pub collected-start : (s : List ℕ) (place : ℕ) (one two : List ℕ) {count first : ℕ} → count ≡ pastAt s 0 → first ≡ pastAt s count → planOf s ≡ refused 8 place → Collected s place first one two 0
-unfolding column
-collected-start s place one two n f e = rw (f, n) (record { edges = []; along = along-start s place e; many = refl; ones = refl; twos = refl })
+  -- and its ends are vertices
+  pub collected-edge : (valueAt s first < maxVertices) × (valueAt s second < maxVertices) × (i < length one) × (i < length two)
+  collected-edge = let r = along-room (h .along) in (r .1, rw (h .next) (r .2), omega (arith, collected-room, h .ones), omega (arith, collected-room, h .twos))
 
--- the edge at `at`, whose second group stands at `second`
-module _ {s : List ℕ} {place at second : ℕ} {one two : List ℕ} {i : ℕ} (h : Collected s place at one two i) (q : second ≡ pastAt s at) where
-  -- there is room for it, and its ends are vertices
-  pub collected-room : (i < maxRows) × (valueAt s at < maxVertices) × (valueAt s second < maxVertices)
-  collected-room = let r = along-room (h .along) in (omega (arith, h .many, r .0), r .1, rw q (r .2))
-
-  module _ {one′ two′ : List ℕ} (k : i < length one) (l : i < length two) (p : one′ ≡ set one i (valueAt s at)) (r : two′ ≡ set two i (valueAt s second)) where
-    one-more : take (i + 1) one′ ≡ column (λ e. e .one) (edgeAt s at ∷ h .edges)
-    one-more = rw p (column-store (λ e. e .one) one i (edgeAt s at) (h .edges) k (h .ones))
-
-    two-more : take (i + 1) two′ ≡ column (λ e. e .two) (edgeAt s at ∷ h .edges)
-    two-more = rw (r, q) (column-store (λ e. e .two) two i (edgeAt s at) (h .edges) l (h .twos))
+  module _ {one′ two′ : List ℕ} (p : one′ ≡ set one i (valueAt s first)) (q : two′ ≡ set two i (valueAt s second)) where
+    row-more : rows one′ two′ (i + 1) ≡ edgeAt s first ∷ rows one two i
+    row-more = let r = collected-edge in rw (p, q, h .next) (rows-more one two i (valueAt s first) (valueAt s (pastAt s first)) (r .2) (r .3))
 
     -- it is not the rejected one
-    pub collected-next : {next : ℕ} → next ≡ pastAt s second → (second ≡ place → ⊥) → Collected s place next one′ two′ (i + 1)
-    collected-next n d =
+    pub collected-next : {first′ second′ : ℕ} → first′ ≡ pastAt s second → second′ ≡ pastAt s first′ → (second ≡ place → ⊥) → Collected s place first′ second′ one′ two′ (i + 1)
+    collected-next f n d =
         record {
-          edges = edgeAt s at ∷ h .edges;
-          along = rw (n, q) (along-next (h .along) (λ e. d (q ∙ e)));
-          many = omega (arith, h .many);
-          ones = one-more;
-          twos = two-more;
+          along = rw (row-more, f, h .next) (along-next (h .along) (λ e. d (h .next ∙ e)));
+          next = n;
+          ones = rw p (simp length-set (h .ones));
+          twos = rw q (simp length-set (h .twos));
         }
 
     -- it is
-    pub collected-end : second ≡ place → rows one′ two′ (i + 1) ≡ rejectedEdges s place
-    collected-end e = rows-of one′ two′ (i + 1) (edgeAt s at ∷ h .edges) (omega (arith, h .many)) one-more two-more ∙ along-end (h .along) (sym q ∙ e)
+    pub collected-end : second ≡ place → rows one′ two′ (i + 1) ≡ edgesToRejected s place
+    collected-end e = row-more ∙ along-end (h .along) (sym (h .next) ∙ e)

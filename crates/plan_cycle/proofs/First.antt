@@ -5,17 +5,13 @@ use Prim.Native.Nat.{ℕ, zero, suc, _≤_, _<_}
 use native.Mathlib.Decide.{decLt}
 use native.Mathlib.Omega.{arith}
 use lib.Dec.{T}
-use Rattle.base.proofs.Bools.{or-left, or-right}
+use Rattle.base.proofs.Bools.{or-right}
 use Rattle.tree.specs.Edges.{Edges, all, joined}
 use Rattle.cycles.specs.Cycles.{closes}
 use Rattle.cycles.specs.Statement.{Rejected}
+use Rattle.cycles.proofs.Closes.{rejected-closes}
 use Rattle.plan_cycle.specs.Cycle.{edgeAt}
 use Rattle.plan_cycle.proofs.Sequence.{placeAfter, firstEdges}
-
-rejected-closes : (E : Edges) → Rejected E → T (closes E)
-unfolding closes
-rejected-closes [] h = absurd h
-rejected-closes (e ∷ E) h = or-left (joined all E (e .one) (e .two)) (closes E) (h .0)
 
 module _ (s : List ℕ) (at : ℕ) where
   -- where an edge closes, one does among more edges

@@ -10,7 +10,7 @@ use lib.ListN.{length}
 use Rattle.base.specs.Found.{Found, found, refused, ask}
 use Rattle.base.specs.Limits.{maxWidth, maxReading}
 use Rattle.varint.specs.declared.VarintRead.{VarintRead}
-use Rattle.varint.specs.Reading.{varintAt}
+use Rattle.varint.specs.Reading.{varintAt, valueOf, pastOf}
 use Rattle.varint.proofs.RoundTrip.{value-place}
 use Rattle.signed.specs.Signed.{offsetOfZigzag}
 use Rattle.tree.specs.Edges.{Edges}
@@ -18,8 +18,8 @@ use Rattle.tree.specs.Growth.{growthOrder}
 use Rattle.edges.specs.Reading.{onward, varintThen}
 use Rattle.plan.specs.Positions.{treePlan, rangePlan}
 use Rattle.plan.specs.Reading.{ended, rangeFrom}
-use Rattle.plan_groups.specs.Inner.{pastOf, treeEnd, widthThen}
-use Rattle.plan_cycle.specs.Cycle.{valueOf, valueAt, pastAt}
+use Rattle.plan_groups.specs.Inner.{treeEnd, widthThen}
+use Rattle.plan_cycle.specs.Cycle.{valueAt, pastAt}
 
 -- a question of another number was answered by yes
 pub passed : {A : Type 0} (t : Bool) (number at : ℕ) (go : Found A) {place : ℕ} → (number ≡ 8 → ⊥) → ask t number at go ≡ refused 8 place → T t × (go ≡ refused 8 place)

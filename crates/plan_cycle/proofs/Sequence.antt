@@ -2,19 +2,16 @@
 use mathlib.Core.Path.{_≡_, refl, sym, ap, ap₂, _∙_}
 use mathlib.Core.List.{List, [], _∷_, _++_, append-assoc}
 use mathlib.Core.Bool.{Bool, true, false}
-use Prim.Native.Nat.{ℕ, zero, suc, _+_}
+use Prim.Native.Nat.{ℕ, zero, suc, _+_, _≤_, _^_}
 use native.Mathlib.Omega.{arith}
 use lib.Dec.{eqb}
 use lib.ListN.{length, length-append}
 use Rattle.base.specs.Pick.{pick}
-use Rattle.base.specs.Limits.{maxVertices}
 use Rattle.varint.specs.declared.VarintRead.{VarintRead}
 use Rattle.varint.specs.Varint.{varintBytes}
 use Rattle.varint.specs.Reading.{varintAt}
 use Rattle.varint.proofs.RoundTrip.{varint-read-at}
-use Rattle.tree.specs.Edges.{Edge, Edges}
-use Rattle.tree.specs.Inner.{Below}
-use Rattle.plan_growth.specs.Inner.{edge}
+use Rattle.tree.specs.Edges.{Edge, Edges, Below}
 use Rattle.plan.specs.Bytes.{edgeBytes}
 use Rattle.plan_cycle.specs.Cycle.{pastAt, edgeAt, edgesUpTo}
 
@@ -44,16 +41,16 @@ up-to-first (suc k) j s place at = go (eqb (pastAt s (placeAfter s at j)) place)
 -- ---- edges that were written
 
 edge-read : (s : List ℕ) (at a b second next : ℕ) → varintAt s at ≡ VarintRead.Value a second → varintAt s second ≡ VarintRead.Value b next
-    → (edgeAt s at ≡ edge a b) × (pastAt s (pastAt s at) ≡ next)
+    → (edgeAt s at ≡ record { one = a; two = b }) × (pastAt s (pastAt s at) ≡ next)
 edge-read s at a b second next i j = rw (i, j) (refl, refl)
 
 -- written edges are read back, and the place past them is reached
-pub written-first : (s : List ℕ) (E : Edges) (pre post : List ℕ) → Below maxVertices E → s ≡ pre ++ (edgeBytes E ++ post)
+pub written-first : (s : List ℕ) (v : ℕ) (E : Edges) (pre post : List ℕ) → v ≤ 2 ^ 32 → Below v E → s ≡ pre ++ (edgeBytes E ++ post)
     → (placeAfter s (length pre) (length E) ≡ length pre + length (edgeBytes E)) × (firstEdges s (length pre) (length E) ≡ E)
 unfolding edgeBytes placeAfter firstEdges
-written-first s [] pre post h i = (omega arith, refl)
-written-first s (e ∷ E) pre post h i =
-    let ih = written-first s E pre (ends ++ post) (h .2) (i ∙ ap (λ (t : List ℕ). pre ++ t) (append-assoc (edgeBytes E) ends post)) in
+written-first s v [] pre post l h i = (omega arith, refl)
+written-first s v (e ∷ E) pre post l h i =
+    let ih = written-first s v E pre (ends ++ post) l (h .2) (i ∙ ap (λ (t : List ℕ). pre ++ t) (append-assoc (edgeBytes E) ends post)) in
     let r = edge-read s at (e .one) (e .two) (at + length first) (at + length first + length second)
     (varint-read-at (e .one) s (pre ++ edgeBytes E) (second ++ post) at (omega (arith, h .0)) (i ∙ simp append-assoc) (sym (length-append pre (edgeBytes E))))
     (varint-read-at (e .two) s ((pre ++ edgeBytes E) ++ first) post (at + length first) (omega (arith, h .1)) (i ∙ simp append-assoc) (simp length-append)) in (

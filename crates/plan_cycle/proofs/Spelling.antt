@@ -3,7 +3,7 @@ use mathlib.Core.Path.{_≡_, sym, ap, ap₂, _∙_}
 use mathlib.Core.List.{List, [], _∷_, _++_, append-assoc}
 use Prim.Native.Nat.{ℕ, _+_, _-_}
 use native.Mathlib.Omega.{arith}
-use lib.ListN.{take, drop, take-append-drop}
+use lib.ListN.{drop, take-append-drop}
 use lib.Seq.{drop-drop}
 use Rattle.varint.specs.Varint.{varintBytes, AllBytes}
 use Rattle.varint.proofs.RoundTrip.{varint-was-written}
@@ -28,32 +28,12 @@ Spelled s v E at = AllBytes s → s ≡ treeBytes v E ++ drop at s
 pub spelled-start : (s : List ℕ) → Whole s 0 → Whole s (pastAt s 0) → valueAt s 0 ≡ 1 → Spelled s (valueAt s (pastAt s 0)) [] (pastAt s (pastAt s 0))
 unfolding edgeBytes
 spelled-start s one two k all =
-    let v : List ℕ = varintBytes (valueAt s (pastAt s 0)) in
-    let r : List ℕ = drop (pastAt s (pastAt s 0)) s in
-    written s 0 all one
-    ∙ ap₂ _++_ (ap varintBytes k) (written s (pastAt s 0) all two)
-    ∙ ap (λ (l : List ℕ). varintBytes 1 ++ l) (sym (append-assoc v [] r))
-    ∙ sym (append-assoc (varintBytes 1) (v ++ []) r)
+    written s 0 all one ∙ ap₂ _++_ (ap varintBytes k) (written s (pastAt s 0) all two) ∙ simp append-assoc
 
 -- and an edge more
 pub spelled-more : (s : List ℕ) (v at : ℕ) (E : Edges) → Whole s at → Whole s (pastAt s at) → Spelled s v E at → Spelled s v (edgeAt s at ∷ E) (pastAt s (pastAt s at))
 unfolding edgeBytes
 spelled-more s v at E one two h all =
     h all
-    ∙ ap (λ (l : List ℕ). treeBytes v E ++ l) (written s at all one ∙ ap (λ (l : List ℕ). first ++ l) (written s (pastAt s at) all two))
-    ∙ together (varintBytes 1) (varintBytes v) (edgeBytes E) first second (drop (pastAt s (pastAt s at)) s)
-  where
-    first : List ℕ
-    first = varintBytes (valueAt s at)
-
-    second : List ℕ
-    second = varintBytes (valueAt s (pastAt s at))
-
-    together : (a b c d e f : List ℕ) → (a ++ (b ++ c)) ++ (d ++ (e ++ f)) ≡ (a ++ (b ++ (c ++ (d ++ e)))) ++ f
-    together a b c d e f =
-        append-assoc a (b ++ c) (d ++ (e ++ f))
-        ∙ ap (λ (l : List ℕ). a ++ l)
-        (append-assoc b c (d ++ (e ++ f))
-        ∙ ap (λ (l : List ℕ). b ++ l) (ap (λ (l : List ℕ). c ++ l) (sym (append-assoc d e f)) ∙ sym (append-assoc c (d ++ e) f))
-        ∙ sym (append-assoc b (c ++ (d ++ e)) f))
-        ∙ sym (append-assoc a (b ++ (c ++ (d ++ e))) f)
+    ∙ ap (λ (l : List ℕ). treeBytes v E ++ l) (written s at all one ∙ ap (λ (l : List ℕ). varintBytes (valueAt s at) ++ l) (written s (pastAt s at) all two))
+    ∙ simp append-assoc

@@ -10,28 +10,25 @@ use Rattle.base.specs.Found.{Found, found, refused}
 use Rattle.cycles.proofs.Theorem as cycles
 use Rattle.plan.specs.Plan.{Plan}
 use Rattle.plan.specs.Reading.{planOf}
-use Rattle.plan_cycle.specs.Cycle.{rejectedEdges, cycleAmong, noCycle, cycleBy}
+use Rattle.plan_cycle.specs.Cycle.{edgesToRejected, cycleAmong, noCycle, cycleBy}
 use Rattle.plan_cycle.specs.Statement.{Statement}
-use Rattle.plan_cycle.proofs.Along.{rejected, rejected-below, rejected-starts}
-use Rattle.plan_cycle.proofs.Those.{those}
+use Rattle.plan_cycle.proofs.Along.{to-rejected}
+use Rattle.plan_cycle.proofs.Unique.{unique-edges}
 
 -- another refusal, or none
 empty-by : (s : List ℕ) (r : Found Plan) → ((place : ℕ) → r ≡ refused 8 place → ⊥) → cycleBy s r ≡ noCycle
 empty-by s (found p) d = refl
 empty-by s (refused number place) d = go (eqb number 8) refl
   where
-    go : (b : Bool) → eqb number 8 ≡ b → pick b (cycleAmong (rejectedEdges s place)) noCycle ≡ noCycle
+    go : (b : Bool) → eqb number 8 ≡ b → pick b (cycleAmong (edgesToRejected s place)) noCycle ≡ noCycle
     go true e = absurd (d place (ap (λ (n : ℕ). refused n place) (eqb-true number 8 e)))
     go false e = refl
 
-pub theorem : Statement
-theorem s =
+pub explains : Statement
+explains s =
     record {
-      starts = rejected-starts s;
-      below = rejected-below s;
-      rejected = rejected s;
-      unique = those s;
-      smallest = λ place e. cycles.theorem (rejectedEdges s place) (rejected s place e);
-      given = λ place e. ap (cycleBy s) e;
+      eight = λ place e.
+          let r = to-rejected s place e in
+          record { edges = r; unique = unique-edges s place e; given = ap (cycleBy s) e; smallest = cycles.smallest (edgesToRejected s place) (r .rejected) };
       empty = empty-by s (planOf s);
     }

@@ -2,12 +2,12 @@
 use mathlib.Core.Path.{_≡_, refl}
 use mathlib.Core.Logic.{_⊎_, inl, inr}
 use mathlib.Core.List.{List, _∷_}
-use mathlib.Core.Bool.{Bool, true, false, not, _&&_}
+use mathlib.Core.Bool.{not, _&&_}
 use Prim.Native.Nat.{ℕ, zero, suc, _<_}
 use native.Mathlib.Omega.{arith}
 use lib.Dec.{T, eqb, ltb, ltb→lt, T-not}
 use Rattle.base.specs.Found.{Found, refused, ask}
-use Rattle.base.proofs.Bools.{T-left, T-right}
+use Rattle.base.proofs.Bools.{T-left, T-right, not-not}
 use Rattle.varint.specs.Reading.{varintAt}
 use Rattle.tree.specs.Edges.{Edges, all, joined}
 use Rattle.edges.specs.Reading.{varintThen, endsApart, notJoined, roomAtEnds, edgesFrom}
@@ -20,13 +20,13 @@ use Rattle.plan_cycle.proofs.Refusals.{passed, eighth, Whole, whole, fu
 abbrev pub Refuses : ℕ → ℕ → List ℕ → ℕ → ℕ → Edges → Type 0
 Refuses v k s place at E = edgesFrom v k s at E (treeEnd v s) ≡ refused 8 place
 
--- the edge at `at` joins ends that E joins
-abbrev pub Closes : List ℕ → ℕ → Edges → Type 0
-Closes s at E = T (joined all E (valueAt s at) (valueAt s (pastAt s at)))
+-- E joins the ends of the edge at `at`
+abbrev pub EndsJoined : List ℕ → ℕ → Edges → Type 0
+EndsJoined s at E = T (joined all E (valueAt s at) (valueAt s (pastAt s at)))
 
 -- the edge is rejected at its second group, or the refusal is further on
 abbrev Outcome : ℕ → ℕ → List ℕ → ℕ → ℕ → Edges → Type 0
-Outcome v k s place at E = (Closes s at E × (pastAt s at ≡ place)) ⊎ ((Closes s at E → ⊥) × Refuses v k s place (pastAt s (pastAt s at)) (edgeAt s at ∷ E))
+Outcome v k s place at E = (EndsJoined s at E × (pastAt s at ≡ place)) ⊎ ((EndsJoined s at E → ⊥) × Refuses v k s place (pastAt s (pastAt s at)) (edgeAt s at ∷ E))
 
 -- the edge at `at`, after those of E and before k more
 pub record Turn (v k : ℕ) (s : List ℕ) (place at : ℕ) (E : Edges) : Type 0 where
@@ -35,10 +35,6 @@ pub record Turn (v k : ℕ) (s : List ℕ) (place at : ℕ) (E : Edges) : Type 0
   pub one-below : valueAt s at < v
   pub two-below : valueAt s (pastAt s at) < v
   pub outcome : Outcome v k s place at E
-
-not-not : (c : Bool) → (T (not c) → ⊥) → T c
-not-not true d = tt
-not-not false d = d tt
 
 module _ (v : ℕ) (s : List ℕ) (place : ℕ) where
   edge-turn : (k at : ℕ) (E : Edges) → Refuses v (suc k) s place at E → Turn v k s place at E
@@ -100,17 +96,17 @@ module _ (v : ℕ) (s : List ℕ) (place : ℕ) where
 
 module _ {v k : ℕ} {s : List ℕ} {place at : ℕ} {E : Edges} (t : Turn v k s place at E) where
   -- the rejected edge
-  pub closing : pastAt s at ≡ place → Closes s at E
+  pub closing : pastAt s at ≡ place → EndsJoined s at E
   closing i = go (t .outcome)
     where
-      go : Outcome v k s place at E → Closes s at E
+      go : Outcome v k s place at E → EndsJoined s at E
       go (inl p) = p .0
       go (inr p) = absurd (omega (arith, further-on s (pastAt s at) (t .two-whole), beyond v s place k (pastAt s (pastAt s at)) (edgeAt s at ∷ E) (p .1)))
 
   -- one before it
-  pub following : (pastAt s at ≡ place → ⊥) → (Closes s at E → ⊥) × Refuses v k s place (pastAt s (pastAt s at)) (edgeAt s at ∷ E)
+  pub following : (pastAt s at ≡ place → ⊥) → (EndsJoined s at E → ⊥) × Refuses v k s place (pastAt s (pastAt s at)) (edgeAt s at ∷ E)
   following d = go (t .outcome)
     where
-      go : Outcome v k s place at E → (Closes s at E → ⊥) × Refuses v k s place (pastAt s (pastAt s at)) (edgeAt s at ∷ E)
+      go : Outcome v k s place at E → (EndsJoined s at E → ⊥) × Refuses v k s place (pastAt s (pastAt s at)) (edgeAt s at ∷ E)
       go (inl p) = absurd (d (p .1))
       go (inr p) = p

@@ -8,7 +8,7 @@ use Rattle.base.specs.Found.{Found, found, refused}
 use Rattle.base.specs.declared.Verdict.{Verdict}
 use Rattle.plan.specs.Plan.{Plan}
 use Rattle.plan.specs.Reading.{PlanRead, planOf, answered}
-use Rattle.plan_cycle.specs.Cycle.{rejectedEdges, cycleAmong, noCycle, cycleBy, cycleOf}
+use Rattle.plan_cycle.specs.Cycle.{edgesToRejected, cycleAmong, noCycle, cycleBy, cycleOf}
 
 -- the plan is refused as the verdict says
 verdict-refused : (f : Found Plan) (r : PlanRead) {number place : ℕ} → r ≡ answered f → r .verdict ≡ Verdict.Refused number place → f ≡ refused number place
@@ -28,7 +28,7 @@ module _ (s : List ℕ) (r : PlanRead) (e : r ≡ answered (planOf s)) where
     pub refused-8 : number ≡ 8 → planOf s ≡ refused 8 place
     refused-8 i = verdict-refused (planOf s) r e v ∙ ap (λ (n : ℕ). refused n place) i
 
-    pub cycle-8 : number ≡ 8 → cycleOf s ≡ cycleAmong (rejectedEdges s place)
+    pub cycle-8 : number ≡ 8 → cycleOf s ≡ cycleAmong (edgesToRejected s place)
     cycle-8 i = ap (cycleBy s) (refused-8 i)
 
     pub cycle-other : (number ≡ 8 → ⊥) → cycleOf s ≡ noCycle

@@ -8,24 +8,16 @@ use Rattle.base.specs.Pick.{pick}
 use Rattle.base.specs.Sets.{Set}
 use Rattle.base.specs.Limits.{maxRows}
 use Rattle.base.specs.Found.{Found, found, refused}
-use Rattle.varint.specs.declared.VarintRead.{VarintRead}
-use Rattle.varint.specs.Reading.{varintAt}
+use Rattle.varint.specs.Reading.{varintAt, valueOf, pastOf}
 use Rattle.tree.specs.Edges.{Edge, Edges}
 use Rattle.cycles.specs.Cycles.{chosen, onCycle}
 use Rattle.edges.specs.Rows.{column}
 use Rattle.plan.specs.Plan.{Plan}
 use Rattle.plan.specs.Positions.{padded}
 use Rattle.plan.specs.Reading.{planOf}
-use Rattle.plan_groups.specs.Inner.{pastOf}
 use Rattle.plan_cycle.specs.declared.Cycle.{Cycle}
 
--- the value of a group that was found; up to the place of a refusal by 8, it included, every group is whole
-abbrev pub valueOf : VarintRead → ℕ
-valueOf (VarintRead.Value v next) = v
-valueOf (VarintRead.Short least) = 0
-valueOf VarintRead.Malformed = 0
-
--- the value that stands at `at`, and the place past it
+-- the value that stands at `at`, and the place past it; up to the place of a refusal by 8, it included, every group is whole
 abbrev pub valueAt : List ℕ → ℕ → ℕ
 valueAt s at = valueOf (varintAt s at)
 
@@ -43,8 +35,8 @@ edgesUpTo (suc k) s place at E =
     pick (eqb (pastAt s at) place) (edgeAt s at ∷ E) (edgesUpTo k s place (pastAt s (pastAt s at)) (edgeAt s at ∷ E))
 
 -- "the edges up to the rejected one, it included", which is refused at its second group: a tree's edges begin past its kind and its vertex count
-abbrev pub rejectedEdges : List ℕ → ℕ → Edges
-rejectedEdges s place = edgesUpTo maxRows s place (pastAt s (pastAt s 0)) []
+abbrev pub edgesToRejected : List ℕ → ℕ → Edges
+edgesToRejected s place = edgesUpTo maxRows s place (pastAt s (pastAt s 0)) []
 
 -- the numbers of the chosen edges, counted from 0 in plan order
 unfoldable pub numbers : Set → Edges → List ℕ
@@ -71,7 +63,7 @@ cycleAmong E = listed (onCycle E) E
 -- "Plans that pass or fail otherwise give an empty set."
 abbrev pub cycleBy : List ℕ → Found Plan → Cycle
 cycleBy s (found p) = noCycle
-cycleBy s (refused number place) = pick (eqb number 8) (cycleAmong (rejectedEdges s place)) noCycle
+cycleBy s (refused number place) = pick (eqb number 8) (cycleAmong (edgesToRejected s place)) noCycle
 
 -- from the plan's bytes alone
 abbrev pub cycleOf : List ℕ → Cycle

@@ -4,9 +4,10 @@ ghost use Prim.Native.Nat.{_≤_, _<_};
 ghost use lib.ListN.{length, set};
 ghost use Rattle.base.specs.Found.{refused};
 ghost use Rattle.base.specs.Limits.{maxVertices, maxRows};
+ghost use Rattle.varint.specs.Reading.{valueOf};
 ghost use Rattle.edges.specs.Rows.{rows};
 ghost use Rattle.plan.specs.Reading.{planOf};
-ghost use Rattle.plan_cycle.specs.Cycle.{valueOf, valueAt, pastAt, rejectedEdges, listed, noCycle, cycleAmong, cycleOf};
+ghost use Rattle.plan_cycle.specs.Cycle.{valueAt, pastAt, edgesToRejected, listed, noCycle, cycleAmong, cycleOf};
 ghost use Rattle.plan_cycle.specs.Inner.{marked};
 
 // Edges in plan order: how many, and of each its number among the plan's edges, counted from 0, and its two ends. The rest of the columns is 0.
@@ -18,7 +19,7 @@ pub struct Cycle {
 }
 
 // The place past the varint that stands at `at`.
-fn skip(bytes: &[u8], at: usize) -> usize
+fn past_at(bytes: &[u8], at: usize) -> usize
     ensures { λ r. ⌜ r ≡ pastAt (now (bytes .entry)) at ⌝ }
 {
     let found = varint::read(bytes, at);
@@ -57,51 +58,24 @@ fn put_edge(bytes: &[u8], first: usize, second: usize, one: &mut [u16], two: &mu
 // The edges of a plan that is refused by 8 at `place`, up to the rejected one, become rows. How many rows there are.
 fn collect(bytes: &[u8], place: usize, one: &mut [u16], two: &mut [u16]) -> usize
     requires { ⌜ (planOf (now bytes) ≡ refused 8 place) × (maxRows ≤ length (now one)) × (maxRows ≤ length (now two)) ⌝ }
-    ensures { λ r. ⌜ (r ≤ maxRows) × (rows (now (one .exit)) (now (two .exit)) r ≡ rejectedEdges (now (bytes .entry)) place) ⌝ }
+    ensures { λ r. ⌜ (r ≤ maxRows) × (rows (now (one .exit)) (now (two .exit)) r ≡ edgesToRejected (now (bytes .entry)) place) ⌝ }
 {
-    let count = skip(bytes, 0);
-    let mut first = skip(bytes, count);
-    let mut second = skip(bytes, first);
+    let count = past_at(bytes, 0);
+    let mut first = past_at(bytes, count);
+    let mut second = past_at(bytes, first);
     let mut i = 0;
     while second != place {
         put_edge(bytes, first, second, one, two, i);
-        first = skip(bytes, second);
-        second = skip(bytes, first);
+        first = past_at(bytes, second);
+        second = past_at(bytes, first);
         i += 1;
     }
     put_edge(bytes, first, second, one, two, i);
     i + 1
 }
 
-// The edges whose numbers are marked by 1, of the first m rows.
-fn list(one: &[u16], two: &[u16], marks: &[u8], m: usize) -> Cycle
-    requires { ⌜ (m ≤ length (now one)) × (m ≤ length (now two)) × (m ≤ length (now marks)) × (m ≤ maxRows) ⌝ }
-    ensures { λ r. ⌜ r ≡ listed (marked (now (marks .entry))) (rows (now (one .entry)) (now (two .entry)) m) ⌝ }
-{
-    let mut numbers = [0u16; base::MAX_ROWS];
-    let mut ones = [0u16; base::MAX_ROWS];
-    let mut twos = [0u16; base::MAX_ROWS];
-    let mut count = 0;
-    let mut i = 0;
-    while i < m {
-        if marks[i] == 1 {
-            numbers[count] = i as u16;
-            ones[count] = one[i];
-            twos[count] = two[i];
-            count += 1;
-        }
-        i += 1;
-    }
-    Cycle {
-        count: count,
-        numbers: numbers,
-        one: ones,
-        two: twos,
-    }
-}
-
 // No edges.
-fn none() -> Cycle
+fn no_cycle() -> Cycle
     ensures { λ r. ⌜ r ≡ noCycle ⌝ }
 {
     Cycle {
@@ -112,17 +86,37 @@ fn none() -> Cycle
     }
 }
 
+// The edges whose numbers are marked by 1, of the first m rows.
+fn list_marked(one: &[u16], two: &[u16], marks: &[u8], m: usize) -> Cycle
+    requires { ⌜ (m ≤ length (now one)) × (m ≤ length (now two)) × (m ≤ length (now marks)) × (m ≤ maxRows) ⌝ }
+    ensures { λ r. ⌜ r ≡ listed (marked (now (marks .entry))) (rows (now (one .entry)) (now (two .entry)) m) ⌝ }
+{
+    let mut cycle = no_cycle();
+    let mut i = 0;
+    while i < m {
+        if marks[i] == 1 {
+            let n = cycle.count;
+            cycle.numbers[n] = i as u16;
+            cycle.one[n] = one[i];
+            cycle.two[n] = two[i];
+            cycle.count = n + 1;
+        }
+        i += 1;
+    }
+    cycle
+}
+
 // The edges of the cycle that is closed where a plan is refused by 8 at `place`.
-fn closed(bytes: &[u8], place: usize) -> Cycle
+fn cycle_at(bytes: &[u8], place: usize) -> Cycle
     requires { ⌜ planOf (now bytes) ≡ refused 8 place ⌝ }
-    ensures { λ r. ⌜ r ≡ cycleAmong (rejectedEdges (now (bytes .entry)) place) ⌝ }
+    ensures { λ r. ⌜ r ≡ cycleAmong (edgesToRejected (now (bytes .entry)) place) ⌝ }
 {
     let mut one = [0u16; base::MAX_ROWS];
     let mut two = [0u16; base::MAX_ROWS];
     let mut marks = [0u8; base::MAX_ROWS];
     let m = collect(bytes, place, &mut one, &mut two);
     cycle_search::mark(&one, &two, m, &mut marks);
-    list(&one, &two, &marks, m)
+    list_marked(&one, &two, &marks, m)
 }
 
 // The edges of the cycle that the edge refused by 8 closes; none where the plan passes or is refused by another number.
@@ -132,12 +126,12 @@ pub fn cycle_of(bytes: &[u8]) -> Cycle
     let read = plan_reader::read(bytes);
     let verdict = read.verdict;
     match verdict {
-        base::Verdict::Accepted => none(),
+        base::Verdict::Accepted => no_cycle(),
         base::Verdict::Refused { number, place } => {
             if number == 8 {
-                return closed(bytes, place);
+                return cycle_at(bytes, place);
             }
-            none()
+            no_cycle()
         }
     }
 }

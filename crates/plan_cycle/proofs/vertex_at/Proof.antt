@@ -1,7 +1,7 @@
 -- `plan_cycle::vertex_at` meets its contract.
 use mathlib.Core.Path.{ap, _∙_}
 use native.Mathlib.Omega.{arith}
-use Rattle.plan_cycle.specs.Cycle.{valueOf}
+use Rattle.varint.specs.Reading.{valueOf}
 use borrow.Author.Needs.{needs}
 use Rattle.plan_cycle.proofs.vertex_at.Statement.{statement}
 use Rattle.plan_cycle.proofs.vertex_at.Tie as tie

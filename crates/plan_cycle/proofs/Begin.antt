@@ -1,27 +1,23 @@
 -- Where the edges of a tree refused by 8 begin, however its bytes are written as a tree's: past the bytes of its kind and of its vertex count.
 use mathlib.Core.Path.{_≡_, refl, sym, ap, ap₂, _∙_}
 use mathlib.Core.List.{List, [], _∷_, _++_, append-assoc}
-use mathlib.Core.Bool.{_&&_}
-use Prim.Native.Nat.{ℕ, suc, _+_, _-_, _*_, _/_, _%_, _≤_, _<_, _^_}
+use Prim.Native.Nat.{ℕ, suc, _+_, _*_, _/_, _%_, _≤_, _<_, _^_}
 use native.Mathlib.Decide.{decLt}
 use native.Mathlib.Numerals.{sub-one}
 use native.Mathlib.Omega.{arith}
-use lib.Dec.{leb, leb→le}
 use lib.ListN.{length, getD, length-append}
 use lib.Seq.{getD-append-seam}
 use Rattle.base.specs.Limits.{maxVertices}
-use Rattle.base.specs.Found.{refused, ask}
-use Rattle.base.proofs.Bools.{T-right}
+use Rattle.base.specs.Found.{refused}
 use Rattle.varint.specs.declared.VarintRead.{VarintRead}
 use Rattle.varint.specs.Varint.{pieces, varintBytes}
-use Rattle.varint.specs.Reading.{piecesAt, varintAt}
+use Rattle.varint.specs.Reading.{piecesAt, varintAt, pastOf}
 use Rattle.varint.proofs.Laws.{at-more, pieces-more, prefixed-inverse}
 use Rattle.varint.proofs.RoundTrip.{varint-read-at}
-use Rattle.edges.specs.Reading.{edgesFrom}
-use Rattle.plan.specs.Reading.{treeFrom, planFrom, planOf}
-use Rattle.plan_groups.specs.Inner.{treeEnd}
+use Rattle.plan.specs.Reading.{planOf}
 use Rattle.plan_cycle.specs.Cycle.{valueAt, pastAt}
-use Rattle.plan_cycle.proofs.Refusals.{passed, Whole, whole}
+use Rattle.plan_cycle.proofs.Refusals.{Whole}
+use Rattle.plan_cycle.proofs.Opening.{begin, opened}
 
 -- ---- a number that is read as a vertex count is small
 
@@ -59,25 +55,9 @@ count-small v s p q at es ea e l = go (decLt v (128 * 128))
 
 -- ---- the place past it
 
-count-read : (s : List ℕ) (at place : ℕ) → treeFrom s at ≡ refused 8 place → Whole s at × (valueAt s at ≤ maxVertices)
-count-read s at place e =
-    let v : ℕ = valueAt s at in
-    let w = whole at (varintAt s at) (λ v next. ask (leb 1 v && leb v maxVertices) 6 at (edgesFrom v (v - 1) s next [] (treeEnd v s))) e in
-    let q = passed (leb 1 v && leb v maxVertices) 6 at (edgesFrom v (v - 1) s (pastAt s at) [] (treeEnd v s)) (λ i. omega arith) (w .1) in
-    (w .0, leb→le v maxVertices (T-right (leb 1 v) (leb v maxVertices) (q .0)))
-
-tree-from : (s : List ℕ) (next place : ℕ) → varintAt s 0 ≡ VarintRead.Value 1 next → planOf s ≡ refused 8 place → treeFrom s next ≡ refused 8 place
-unfolding planFrom
-tree-from s next place i e = rw i at e
-
-pub edges-begin : (s : List ℕ) (place v : ℕ) (rest : List ℕ) → planOf s ≡ refused 8 place → s ≡ varintBytes 1 ++ (varintBytes v ++ rest)
-    → pastAt s (pastAt s 0) ≡ length (varintBytes 1 ++ varintBytes v)
+pub edges-begin : (s : List ℕ) (place v : ℕ) (rest : List ℕ) → planOf s ≡ refused 8 place → s ≡ varintBytes 1 ++ (varintBytes v ++ rest) → begin s ≡ length (varintBytes 1 ++ varintBytes v)
 edges-begin s place v rest e es =
-    let k : varintAt s 0 ≡ VarintRead.Value 1 at = varint-read-at 1 s [] (varintBytes v ++ rest) 0 (omega arith) es refl in
-    let c = count-read s at place (tree-from s at place k e) in
-    let l = count-small v s (varintBytes 1) rest at es (omega arith) (c .0) (c .1) in
-    let n : varintAt s at ≡ VarintRead.Value v (at + length (varintBytes v)) = varint-read-at v s (varintBytes 1) rest at l es (omega arith) in
-    rw (k, n) (sym (simp length-append (omega arith)))
-  where
-    at : ℕ
-    at = 0 + length (varintBytes 1)
+    let o = opened s place e in
+    let k : pastAt s 0 ≡ length (varintBytes 1) = ap (λ (r : VarintRead). pastOf r 0) (varint-read-at 1 s [] (varintBytes v ++ rest) 0 (omega arith) es refl) ∙ omega arith in
+    let l = count-small v s (varintBytes 1) rest (pastAt s 0) es k (o .count-whole) (o .within) in
+    ap (λ (r : VarintRead). pastOf r (pastAt s 0)) (varint-read-at v s (varintBytes 1) rest (pastAt s 0) l es k) ∙ simp length-append (omega arith)
