@@ -1,6 +1,6 @@
 // Standard input as lines of drawings.
-use drawing::Line;
-use drawing::Said;
+use drawing_lines::Line;
+use drawing_lines::Said;
 use libc::STDIN_FILENO;
 
 // How many bytes one read of standard input brings at most.
@@ -66,7 +66,7 @@ impl Input {
     // Reads on to the end of the line, or of the bytes that the last read brought.
     fn scanned(self, bytes: &[u8]) -> Input {
         let n = io::count(self.got, bytes);
-        let found = drawing::scan(self.begun(), &bytes[..n], self.at);
+        let found = drawing_lines::scan(self.begun(), &bytes[..n], self.at);
         let line = found.line;
         Input {
             line: line,

@@ -1,4 +1,6 @@
 // For an installer: each drawing on standard input is made a plan; its bytes are printed, or why it is refused.
+use drawing::Ends;
+use drawing::Lines;
 use input::BYTES;
 use input::Input;
 use sheet::Sheet;
@@ -13,11 +15,14 @@ fn main() {
     let mut bytes = [0u8; BYTES];
     let mut input = Input::new();
     let mut sheet = Sheet::new();
+    let mut lines: Lines = [0u64; base::MAX_ROWS];
+    let mut one: Ends = [0u32; base::MAX_ROWS];
+    let mut two: Ends = [0u32; base::MAX_ROWS];
     let mut turns = u64::MAX;
     while turns > 0 && input.open {
         turns -= 1;
         input = input.next(&mut bytes);
-        sheet = sheet.after(input);
+        sheet = sheet.after(input, &mut lines, &mut one, &mut two);
     }
-    sheet.closed(input);
+    sheet.closed(input, &lines, &one, &two);
 }

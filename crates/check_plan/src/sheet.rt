@@ -1,17 +1,18 @@
 // The drawings of the input, line by line.
 use crate::input::Input;
 use crate::report;
-use drawing::Drawing;
-use drawing::Said;
+use drawing::Ends;
+use drawing::Lines;
+use drawing_lines::Said;
 
 // How many lines and drawings there are, and the drawing that is being read: its first line, 0 where none is being read; the first line of it that cannot be
-// read, or 0; and its edges.
+// read, or 0; and how many edges it has, whose lines and ends are in the columns that the caller lends.
 pub struct Sheet {
-    lines: u64,
+    at: u64,
     pub drawings: u64,
     pub first: u64,
     pub unreadable: u64,
-    pub drawing: Drawing,
+    pub count: u16,
 }
 
 // One more, if there is room for it.
@@ -26,26 +27,26 @@ impl Sheet {
     // Nothing is read yet.
     pub fn new() -> Sheet {
         Sheet {
-            lines: 0,
+            at: 0,
             drawings: 0,
             first: 0,
             unreadable: 0,
-            drawing: Drawing::blank(),
+            count: 0,
         }
     }
 
     // A line without words ends the drawing, if there is one.
-    fn ended(self) -> Sheet {
+    fn ended(self, lines: &Lines, one: &Ends, two: &Ends) -> Sheet {
         if self.first == 0 {
             return self;
         }
-        report::print_report(self);
+        report::print_report(self, lines, one, two);
         Sheet {
-            lines: self.lines,
+            at: self.at,
             drawings: self.drawings,
             first: 0,
             unreadable: 0,
-            drawing: Drawing::blank(),
+            count: 0,
         }
     }
 
@@ -53,18 +54,16 @@ impl Sheet {
     fn begun(self) -> Sheet {
         let mut next = self;
         if self.first == 0 {
-            next.first = self.lines;
+            next.first = self.at;
             next.drawings = more(self.drawings);
         }
         next
     }
 
     // This line is an edge.
-    fn with_edge(self, a: u32, b: u32) -> Sheet {
-        let d = self.drawing;
-        let e = d.with_edge(self.lines, a, b);
+    fn with_edge(self, lines: &mut Lines, one: &mut Ends, two: &mut Ends, a: u32, b: u32) -> Sheet {
         let mut next = self;
-        next.drawing = e;
+        next.count = drawing::add_edge(self.count, lines, one, two, self.at, a, b);
         next
     }
 
@@ -72,39 +71,43 @@ impl Sheet {
     fn spoilt(self) -> Sheet {
         let mut next = self;
         if self.unreadable == 0 {
-            next.unreadable = self.lines;
+            next.unreadable = self.at;
         }
         next
     }
 
     // After a line.
-    fn told(self, said: Said) -> Sheet {
+    fn told(self, said: Said, lines: &mut Lines, one: &mut Ends, two: &mut Ends) -> Sheet {
         let mut next = self;
-        next.lines = more(self.lines);
+        next.at = more(self.at);
         match said {
-            Said::Nothing => next.ended(),
-            Said::Edge(a, b) => next.begun().with_edge(a, b),
+            Said::Nothing => next.ended(lines, one, two),
+            Said::Edge(a, b) => next.begun().with_edge(lines, one, two, a, b),
             Said::Unreadable => next.begun().spoilt(),
         }
     }
 
     // After a read, if it brought a line to its end.
-    pub fn after(self, input: Input) -> Sheet {
+    pub fn after(self, input: Input, lines: &mut Lines, one: &mut Ends, two: &mut Ends) -> Sheet {
         if input.failed {
             return self;
         }
         if input.whole {
-            return self.told(input.said());
+            return self.told(input.said(), lines, one, two);
         }
         self
     }
 
     // The input is at its end, or failed: a drawing that may be cut is not judged.
-    pub fn closed(self, input: Input) {
+    pub fn closed(self, input: Input, lines: &Lines, one: &Ends, two: &Ends) {
         if input.failed {
             report::print_failure();
             return;
         }
-        self.ended();
+        if self.drawings == 0 {
+            report::print_none();
+            return;
+        }
+        self.ended(lines, one, two);
     }
 }

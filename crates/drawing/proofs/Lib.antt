@@ -1,5 +1,4 @@
-pub mod Laws
-pub mod Lines
 pub mod Plans
+pub mod Refusals
 pub mod Theorem
 pub mod Examples

@@ -13,23 +13,15 @@ use Rattle.base.specs.Limits.{maxRows}
 use Rattle.varint.specs.Varint.{pieces, varintBytes}
 use Rattle.edges.specs.Rows.{rows}
 use Rattle.plan.specs.Bytes.{edgeBytes}
-use Rattle.drawing.specs.declared.Drawing.{Drawing}
 use Rattle.drawing.specs.Drawing.{keptOf}
 
 -- how many edges are kept
-pub kept-all : (d : Drawing) → d .count ≤ maxRows → keptOf d ≡ d .count
-kept-all d l = go (decLt (d .count) maxRows)
+pub kept-all : (n : ℕ) → n ≤ maxRows → keptOf n ≡ n
+kept-all n l = go (decLt n maxRows)
   where
-    go : Dec (d .count < maxRows) → keptOf d ≡ d .count
-    go (yes p) = rw (lt-ltb (d .count) maxRows p)
-    go (no p) = rw (le-ltb (d .count) maxRows (omega arith)) (omega arith)
-
-pub kept-most : (d : Drawing) → keptOf d ≤ maxRows
-kept-most d = go (decLt (d .count) maxRows)
-  where
-    go : Dec (d .count < maxRows) → keptOf d ≤ maxRows
-    go (yes p) = rw (lt-ltb (d .count) maxRows p) (omega arith)
-    go (no p) = rw (le-ltb (d .count) maxRows (omega arith)) (omega arith)
+    go : Dec (n < maxRows) → keptOf n ≡ n
+    go (yes p) = rw (lt-ltb n maxRows p)
+    go (no p) = rw (le-ltb n maxRows (omega arith)) (omega arith)
 
 -- the kind of a tree is one byte
 pub kind-short : length (varintBytes 1) ≡ 1

@@ -1,4 +1,2 @@
-pub mod Lines
 pub mod Drawing
-pub mod Inner
 pub mod Statement

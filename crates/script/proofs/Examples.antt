@@ -8,7 +8,8 @@ use Rattle.script_numbers.specs.declared.Reading.{Reading}
 use Rattle.script.specs.declared.Step.{Step}
 use Rattle.script_commands.specs.Commands.{spelling, same, commandOf}
 use Rattle.script_numbers.specs.Numbers.{allDigits, valueFrom}
-use Rattle.script.specs.Script.{wordsFrom, says}
+use Rattle.script_words.specs.Words.{wordsFrom}
+use Rattle.script.specs.Script.{says}
 
 -- a line's bytes, and the step that it says
 pub record Sample : Type 0 where

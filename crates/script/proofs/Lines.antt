@@ -9,18 +9,21 @@ use Rattle.base.specs.Pick.{pick}
 use Rattle.script_commands.specs.declared.Command.{Command}
 use Rattle.script_commands.specs.declared.Command.the-variants.{Unknown, Boards, Agreement, Range, Start, Give}
 use Rattle.script_numbers.specs.declared.Number.{Number}
+use Rattle.script_words.specs.Words.{isBlank}
+use Rattle.script_words.specs.Scan.{upTo, hasNewline}
+use Rattle.script_words.proofs.Words.{wordAt, words-read}
+use Rattle.script_words.proofs.Scan.{read-more}
 use Rattle.script.specs.declared.Line.{Line}
 use Rattle.script_numbers.specs.declared.Reading.{Reading}
 use Rattle.script.specs.declared.Step.{Step}
 use Rattle.script.specs.declared.Scanned.{Scanned}
 use Rattle.script_commands.specs.Commands.{commandOf}
-use Rattle.script.specs.Script.{isBlank, natural, signed, withOne, withTwo, stepOf, says}
+use Rattle.script.specs.Script.{natural, signed, withOne, withTwo, stepOf, says}
 use Rattle.script_commands.specs.Inner.{noKeyword, commandNamed}
 use Rattle.script_numbers.specs.Inner.{noNumber, isNumber, isNatural, readingOf}
-use Rattle.script.specs.Inner.{noLine, lineWith, lineFrom, stepBy, lineStep, Tells, upTo, hasNewline, scanned, Scans}
+use Rattle.script.specs.Inner.{noLine, lineWith, lineFrom, stepBy, lineStep, Tells, scanned, Scans}
 use Rattle.script_numbers.proofs.Numbers.{numberFrom, number-more, readNumber, number-read}
 use Rattle.script_commands.proofs.Keywords.{keywordFrom, keyword-more, keyword-named}
-use Rattle.script.proofs.Words.{wordAt, words-read}
 
 -- ---- a line of some words
 
@@ -150,8 +153,8 @@ line-says (k ∷ x ∷ y ∷ z ∷ ws) inside = none-say (key k) 4 (num x) (num 
 
 -- what is read of a line's bytes is what the line says
 pub reads : (s : List ℕ) → lineStep (lineFrom noLine s) ≡ says s
-unfolding keywordFrom numberFrom lineFrom
-reads s = words-read lineOf lineWith lineFrom lineStep stepOf (λ l. refl) (λ l b s. refl) blank-with byte-begins byte-follows line-says [] [] s
+unfolding keywordFrom numberFrom
+reads s = words-read lineOf lineWith lineStep stepOf blank-with byte-begins byte-follows line-says [] [] s
 
 pub tells : (l : Line) {r : Step} → r ≡ lineStep l → Tells l r
 tells l e = record {
@@ -161,13 +164,8 @@ tells l e = record {
 
 -- ---- reading on
 
-line-more : (l : Line) (p s : List ℕ) → lineFrom l (p ++ s) ≡ lineFrom (lineFrom l p) s
-unfolding lineFrom
-line-more l [] s = refl
-line-more l (b ∷ p) s = line-more (lineWith l b) p s
-
 pub scans : (l : Line) (s : List ℕ) (i : ℕ) {r : Scanned} → r ≡ scanned l s i → Scans l s i r
 scans l s i e = record {
   found = e;
-  step = λ p f. ap (λ (r : Scanned). r .step) e ∙ ap (if-read (hasNewline s)) (ap (λ (k : Line). lineStep (lineFrom k (upTo s))) f ∙ ap lineStep (sym (line-more noLine p (upTo s))) ∙ reads (p ++ upTo s));
+  step = λ p f. ap (λ (r : Scanned). r .step) e ∙ ap (if-read (hasNewline s)) (ap (λ (k : Line). lineStep (lineFrom k (upTo s))) f ∙ ap lineStep (sym (read-more lineWith noLine p (upTo s))) ∙ reads (p ++ upTo s));
 }

@@ -1,20 +1,21 @@
 -- A line read byte by byte: what the functions of this crate compute. proofs/Lines.antt shows that it is what the line says.
 use mathlib.Core.Path.{_≡_}
-use mathlib.Core.Bool.{Bool, true, false, _&&_, _||_}
-use mathlib.Core.List.{List, [], _∷_, _++_}
+use mathlib.Core.Bool.{Bool, true, false, _&&_}
+use mathlib.Core.List.{List, _++_}
 use Prim.Native.Nat.{ℕ, _+_}
 use lib.Dec.{eqb, ltb}
-use lib.ListN.{length}
 use Rattle.base.specs.Pick.{pick}
 use Rattle.script_commands.specs.declared.Command.{Command}
 use Rattle.script_commands.specs.declared.Command.the-variants.{Unknown, Boards, Agreement, Range, Start, Give}
 use Rattle.script_commands.specs.Inner.{noKeyword, keywordWith, commandNamed}
 use Rattle.script_numbers.specs.declared.Number.{Number}
 use Rattle.script_numbers.specs.Inner.{noNumber, numberWith, isNumber, isNatural, readingOf}
+use Rattle.script_words.specs.Words.{isBlank}
+use Rattle.script_words.specs.Scan.{upTo, hasNewline, readFrom, scanBy}
 use Rattle.script.specs.declared.Line.{Line}
 use Rattle.script.specs.declared.Step.{Step}
 use Rattle.script.specs.declared.Scanned.{Scanned}
-use Rattle.script.specs.Script.{isBlank, says}
+use Rattle.script.specs.Script.{says}
 
 -- ---- lines
 
@@ -40,9 +41,8 @@ lineWith l b = pick (isBlank b) (record { words = l .words; inside = false; keyw
     }
 
 -- the line that is read from bytes
-unfoldable pub lineFrom : Line → List ℕ → Line
-lineFrom l [] = l
-lineFrom l (b ∷ s) = lineFrom (lineWith l b) s
+abbrev pub lineFrom : Line → List ℕ → Line
+lineFrom = readFrom lineWith
 
 -- the words that each step needs
 abbrev pub stepBy : Command → ℕ → Number → Number → Step
@@ -64,23 +64,13 @@ pub record Tells (l : Line) (r : Step) : Type 0 where
 
 -- ---- some bytes of a script
 
--- the bytes before the next newline, or to the end
-unfoldable pub upTo : List ℕ → List ℕ
-upTo [] = []
-upTo (b ∷ s) = pick (eqb b 10) [] (b ∷ upTo s)
-
--- is there a newline?
-unfoldable pub hasNewline : List ℕ → Bool
-hasNewline [] = false
-hasNewline (b ∷ s) = eqb b 10 || hasNewline s
+-- where a line ends its step is found, and another line begins
+abbrev pub found : Bool → Line → ℕ → Scanned
+found ended l next = record { step = pick ended (lineStep l) Step.Unreadable; line = pick ended noLine l; next = next }
 
 -- the line l goes on with the bytes s from place i on, up to the next newline
 abbrev pub scanned : Line → List ℕ → ℕ → Scanned
-scanned l s i = record {
-  step = pick (hasNewline s) (lineStep (lineFrom l (upTo s))) Step.Unreadable;
-  line = pick (hasNewline s) noLine (lineFrom l (upTo s));
-  next = i + length (upTo s) + pick (hasNewline s) 1 0;
-}
+scanned = scanBy lineWith found
 
 -- that is what reading on finds; after the bytes p of a line, the step is what the whole line says
 pub record Scans (l : Line) (s : List ℕ) (i : ℕ) (r : Scanned) : Type 0 where

@@ -1,6 +1,6 @@
 -- Document 01, "The bench program": what a line of the script says. A line is the bytes before its newline.
-use mathlib.Core.Bool.{Bool, not, _||_}
-use mathlib.Core.List.{List, [], _∷_, _++_}
+use mathlib.Core.Bool.{not, _||_}
+use mathlib.Core.List.{List, [], _∷_}
 use mathlib.Core.Option.{Option, none, some}
 use Prim.Native.Nat.{ℕ}
 use lib.Dec.{eqb}
@@ -10,29 +10,8 @@ use Rattle.script_commands.specs.declared.Command.the-variants.{Unknown, Boards
 use Rattle.script_commands.specs.Commands.{commandOf}
 use Rattle.script_numbers.specs.declared.Reading.{Reading}
 use Rattle.script_numbers.specs.Numbers.{numberOf}
+use Rattle.script_words.specs.Words.{words}
 use Rattle.script.specs.declared.Step.{Step}
-
--- ---- words
-
--- space, tab, carriage return
-abbrev pub isBlank : ℕ → Bool
-isBlank b = eqb b 32 || (eqb b 9 || eqb b 13)
-
--- a word in front of others; no byte is no word
-abbrev pub before : List ℕ → List (List ℕ) → List (List ℕ)
-before [] ws = ws
-before (b ∷ w) ws = (b ∷ w) ∷ ws
-
--- the words of a line, after the bytes w of its first one
-unfoldable pub wordsFrom : List ℕ → List ℕ → List (List ℕ)
-wordsFrom w [] = before w []
-wordsFrom w (b ∷ s) = pick (isBlank b) (before w (wordsFrom [] s)) (wordsFrom (w ++ (b ∷ [])) s)
-
--- the words of a line
-abbrev pub words : List ℕ → List (List ℕ)
-words s = wordsFrom [] s
-
--- ---- a line
 
 -- where a number of 0 or more stands
 abbrev pub natural : Option Reading → (ℕ → Step) → Step

@@ -4,10 +4,10 @@ use script_commands::Keyword;
 use script_numbers::Number;
 use script_numbers::Reading;
 use script_numbers::both;
+use script_words::is_blank;
 ghost use mathlib.Core.Path.{_≡_};
 ghost use lib.ListN.{drop};
 ghost use Rattle.base.specs.Pick.{pick};
-ghost use Rattle.script.specs.Script.{isBlank};
 ghost use Rattle.script.specs.Inner.{noLine, wordOf, lineWith, stepBy, Tells, Scans};
 
 // A line so far: how many words there are (4 stands for more), whether the last one goes on, and the first three.
@@ -34,19 +34,6 @@ pub struct Scanned {
     pub step: Step,
     pub line: Line,
     pub next: usize,
-}
-
-// Words are split at spaces, tabs and carriage returns.
-pub fn is_blank(b: u8) -> bool
-    ensures { λ r. ⌜ r ≡ isBlank b ⌝ }
-{
-    if b == b' ' {
-        return true;
-    }
-    if b == b'\t' {
-        return true;
-    }
-    b == b'\r'
 }
 
 // A step, if its words are there and can be read.

@@ -4,10 +4,10 @@ use Rattle.check_plan.proofs.main.Statement.{statement}
 use Rattle.check_plan.proofs.main.Tie as tie
 
 abbrev Inv-loop : tie.InvT-loop
-Inv-loop bytes₀ input₀ sheet₀ turns₀ bytes input sheet turns = Unit {0}
+Inv-loop bytes₀ input₀ sheet₀ lines₀ one₀ two₀ turns₀ bytes input sheet lines one two turns = Unit {0}
 
 abbrev μ-loop : tie.MeasureT-loop
-μ-loop bytes₀ input₀ sheet₀ turns₀ bytes input sheet turns = turns
+μ-loop bytes₀ input₀ sheet₀ lines₀ one₀ two₀ turns₀ bytes input sheet lines one two turns = turns
 
 new-requires : tie.Need-new-requires Inv-loop μ-loop
 new-requires c κs = search needs

@@ -4,8 +4,8 @@ use Prim.Native.Nat.{_-_}
 use native.Mathlib.Omega.{arith}
 use lib.ListN.{length, drop}
 use borrow.Author.Needs.{needs}
-use Rattle.script.specs.Inner.{scanned}
-use Rattle.script.proofs.Laws.{scan-ends, scan-goes-on, scan-stops}
+use Rattle.script_words.proofs.Scan.{scan-ends, scan-goes-on, scan-stops}
+use Rattle.script.specs.Inner.{lineWith, found, scanned}
 use Rattle.script.proofs.Lines.{scans}
 use Rattle.script.proofs.scan.Statement.{statement}
 use Rattle.script.proofs.scan.Tie as tie
@@ -36,7 +36,7 @@ returns c =
     let o = c .before .before .before .before .before .loop in
     scans _ _ _
     (rw (c .before .step .ensures .step, c .blank .ensures)
-    (sym (o .inv ∙ scan-ends (o .l) _ (o .i) (c .before .before .before .before .loop-test .taken) (c .before .before .if1 .taken))))
+    (sym (o .inv ∙ scan-ends lineWith found (o .l) _ (o .i) (c .before .before .before .before .loop-test .taken) (c .before .before .if1 .taken))))
 
 with-requires : tie.Need-with-requires Inv-loop μ-loop
 with-requires c κs = search needs
@@ -47,12 +47,12 @@ loop-less c = omega arith
 loop-again : tie.Need-loop-again Inv-loop μ-loop
 loop-again c =
     let o = c .before .before .before .before .loop in
-    rw (c .with .ensures) (o .inv ∙ scan-goes-on (o .l) _ (o .i) (c .before .before .before .loop-test .taken) (c .before .if1 .left))
+    rw (c .with .ensures) (o .inv ∙ scan-goes-on lineWith found (o .l) _ (o .i) (c .before .before .before .loop-test .taken) (c .before .if1 .left))
 
 returns-2 : tie.Need-returns-2 Inv-loop μ-loop
 returns-2 c =
     let o = c .before .loop in
-    scans _ _ _ (sym (o .inv ∙ scan-stops (o .l) _ (o .i) (c .loop-test .left)))
+    scans _ _ _ (sym (o .inv ∙ scan-stops lineWith found (o .l) _ (o .i) (c .loop-test .left)))
 
 pub scan-spec : {M : Type 1} → statement M
 scan-spec =
