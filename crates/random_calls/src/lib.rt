@@ -1,4 +1,5 @@
 // What calls are given and what they give, as plain numbers.
+use second_wire::num::Room;
 
 // The settings that a set-up or a restore is given.
 pub struct Terms {
@@ -37,4 +38,29 @@ pub fn place_of(v: base::Verdict) -> usize {
         base::Verdict::Accepted => 0,
         base::Verdict::Refused { number: _, place } => place,
     }
+}
+
+// So many bytes of a buffer from a place on, or none where there are not so many.
+pub fn lent(buffer: &mut [u8], from: usize, count: usize) -> &mut [u8] {
+    if from <= buffer.len() {
+        if count <= buffer.len() - from {
+            return &mut buffer[from..from + count];
+        }
+    }
+    &mut buffer[0..0]
+}
+
+// The same, only to be read.
+pub fn part(bytes: &[u8], from: usize, count: usize) -> &[u8] {
+    if from <= bytes.len() {
+        if count <= bytes.len() - from {
+            return &bytes[from..from + count];
+        }
+    }
+    &bytes[0..0]
+}
+
+// The first bytes of a room.
+pub fn first_of(room: &Room, count: usize) -> &[u8] {
+    part(room, 0, count)
 }

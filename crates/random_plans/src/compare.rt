@@ -1,4 +1,6 @@
 // What the two implementations gave is compared.
+use random_calls::number_of;
+use random_calls::place_of;
 use random_plans_draw::state;
 use random_plans_draw::state::State;
 use second_cycle::cycle;
@@ -8,22 +10,18 @@ use second_cycle::sets;
 // A column of the library's cycle.
 type Column = [u16; base::MAX_ROWS];
 
-// A difference, if it is one.
-pub fn differ_if(s: &mut State, is: bool) {
-    if is {
-        state::grow(s, state::DIFFERENCES, 1);
+// Whether both accept the plan, or refuse it by the same number at the same place.
+pub fn is_same_verdict(v: base::Verdict, c: &Cycle) -> bool {
+    if number_of(v) == cycle::number(c) {
+        return place_of(v) == cycle::place(c);
     }
+    false
 }
 
-// A number of a column.
-fn wide(x: u16) -> usize {
-    x as usize
-}
-
-// Whether a column is the same in all its places.
+// Whether a column is the same from end to end.
 fn is_same_column(first: &Column, c: &Cycle, column: usize) -> bool {
     for i in 0..base::MAX_ROWS {
-        if wide(first[i]) != cycle::at(c, column, i) {
+        if base::wide(first[i]) != cycle::at(c, column, i) {
             return false;
         }
     }
@@ -38,7 +36,7 @@ pub fn is_same(first: plan_cycle::Cycle, c: &Cycle) -> bool {
     let numbers = first.numbers;
     let one = first.one;
     let two = first.two;
-    if is_same_column(&numbers, c, cycle::PLACES) {
+    if is_same_column(&numbers, c, cycle::NUMBERS) {
         if is_same_column(&one, c, cycle::ONE) {
             return is_same_column(&two, c, cycle::TWO);
         }
@@ -53,7 +51,7 @@ pub fn try_sets(bytes: &[u8], c: &Cycle, s: &mut State) {
     }
     if sets::is_small(bytes, c) {
         let only = sets::is_only_smallest(bytes, c);
-        differ_if(s, !only);
+        state::count_if(s, state::DIFFERENCES, !only);
         state::grow(s, state::SMALL, 1);
     }
 }

@@ -2,6 +2,7 @@
 use random_plans_draw::state;
 use random_plans_draw::state::State;
 use random_report::line;
+use random_report::lines;
 use random_report::row;
 
 // The seed of a run.
@@ -21,7 +22,7 @@ fn write_plans(s: &State) {
     );
 }
 
-// How long the cycles are.
+// The cycles by length.
 fn write_lengths(s: &State) {
     row(
         s,
@@ -30,19 +31,30 @@ fn write_lengths(s: &State) {
         2,
         9,
     );
-    line(s, b"cycles of two edges", state::DOUBLE);
-    line(s, b"longest cycle", state::LONGEST);
 }
 
-// Where they lie.
+// What else is counted of the cycles, and what must be 0.
 fn write_cycles(s: &State) {
-    line(s, b"cycles without vertex 0", state::WITHOUT_ZERO);
-    line(
-        s,
-        b"cycles without the plan's first edge",
+    let places = [
+        state::DOUBLE,
+        state::LONGEST,
+        state::WITHOUT_ZERO,
         state::WITHOUT_FIRST,
+        state::GAPS,
+        state::SMALL,
+        state::DIFFERENCES,
+    ];
+    lines(
+        s,
+        b"cycles of two edges\n\
+        longest cycle\n\
+        cycles without vertex 0\n\
+        cycles without the plan's first edge\n\
+        cycles with other edges between theirs\n\
+        small plans of which all sets were tried\n\
+        differences",
+        &places,
     );
-    line(s, b"cycles with other edges between theirs", state::GAPS);
 }
 
 // The run.
@@ -50,6 +62,4 @@ pub fn write(s: &State) {
     write_plans(s);
     write_lengths(s);
     write_cycles(s);
-    line(s, b"small plans of which all sets were tried", state::SMALL);
-    line(s, b"differences", state::DIFFERENCES);
 }

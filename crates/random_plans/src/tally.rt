@@ -19,13 +19,6 @@ fn digits(length: usize) -> usize {
     count
 }
 
-// One more, if it is one.
-fn count_if(s: &mut State, i: usize, is: bool) {
-    if is {
-        state::grow(s, i, 1);
-    }
-}
-
 // Whether an edge of the cycle ends at vertex 0.
 fn has_zero(c: &Cycle) -> bool {
     let edges = cycle::count(c);
@@ -42,7 +35,7 @@ fn has_zero(c: &Cycle) -> bool {
 
 // Whether an edge between the cycle's first and the rejected one is not on it.
 fn has_gaps(c: &Cycle) -> bool {
-    let first = cycle::at(c, cycle::PLACES, 0);
+    let first = cycle::at(c, cycle::NUMBERS, 0);
     num::add(first, cycle::count(c)) != cycle::read(c)
 }
 
@@ -51,10 +44,14 @@ fn count_cycle(s: &mut State, c: &Cycle, length: usize) {
     let longest = state::get(s, state::LONGEST);
     state::grow(s, state::LONGEST, num::less(length, longest));
     state::count(s, state::LENGTHS, digits(length));
-    count_if(s, state::DOUBLE, length == 2);
-    count_if(s, state::WITHOUT_FIRST, cycle::at(c, cycle::PLACES, 0) != 0);
-    count_if(s, state::WITHOUT_ZERO, !has_zero(c));
-    count_if(s, state::GAPS, has_gaps(c));
+    state::count_if(s, state::DOUBLE, length == 2);
+    state::count_if(
+        s,
+        state::WITHOUT_FIRST,
+        cycle::at(c, cycle::NUMBERS, 0) != 0,
+    );
+    state::count_if(s, state::WITHOUT_ZERO, !has_zero(c));
+    state::count_if(s, state::GAPS, has_gaps(c));
 }
 
 // A plan is counted.

@@ -6,7 +6,7 @@ use second_wire::num;
 
 // The vertex to which vertex k is joined: a path; near to one; any tree; two at each; fifteen edges
 // at each; a star.
-fn older(s: &mut State, shape: usize, k: usize) -> usize {
+fn parent(s: &mut State, shape: usize, k: usize) -> usize {
     let last = num::less(k, 1);
     let back = state::below(s, 4);
     let any = state::below(s, k);
@@ -33,7 +33,7 @@ fn is_first(s: &mut State, parts: usize, k: usize) -> bool {
 // Joins vertex k, unless it begins a part.
 fn join(s: &mut State, shape: usize, parts: usize, k: usize) {
     let first = is_first(s, parts, k);
-    let to = older(s, shape, k);
+    let to = parent(s, shape, k);
     if !first {
         edges::add(s, to, k);
     }
@@ -47,8 +47,11 @@ pub fn grow(s: &mut State, shape: usize, parts: usize) {
     }
 }
 
-// An edge that is there is given again.
+// An edge that is there is given again, if there is one.
 fn add_again(s: &mut State) {
+    if edges::count(s) == 0 {
+        return;
+    }
     let i = edges::any(s);
     let a = edges::one(s, i);
     let b = edges::two(s, i);

@@ -14,13 +14,6 @@ use second_wire::num;
 // The journals of both implementations.
 pub type Journals = [u8; 2 * state::JOURNAL];
 
-// A difference, if it is one.
-pub fn differ_if(s: &mut State, is: bool) {
-    if is {
-        state::grow(s, state::DIFFERENCES, 1);
-    }
-}
-
 // The call on the library.
 fn call_first(p: Party, s: &mut State, journals: &mut Journals, out: &mut Out) -> Party {
     let c = calls::make_first(p, s, journals, out);
@@ -67,7 +60,7 @@ fn count_changed(s: &mut State) {
 // The call is compared and counted; an accepted one leaves the journal's used length.
 fn judge(s: &mut State, journals: &Journals, out: &Out) {
     let same = compare::is_same_call(s, journals, out);
-    differ_if(s, !same);
+    state::count_if(s, state::DIFFERENCES, !same);
     state::grow(s, state::CALLS, 1);
     if state::get(s, state::CHANGED) == 1 {
         count_changed(s);
@@ -81,7 +74,7 @@ fn judge(s: &mut State, journals: &Journals, out: &Out) {
 // The reading of what the call left is compared.
 fn judge_reading(p: Party, t: &Table, asked: u32, s: &mut State) {
     let same = compare::is_same_reading(p, t, asked);
-    differ_if(s, !same);
+    state::count_if(s, state::DIFFERENCES, !same);
 }
 
 // The call that the state describes, and a reading, on both: the party comes back, the table is

@@ -11,6 +11,7 @@ mod walk;
 use both::Journals;
 use party::Party;
 use random_buffers::Out;
+use random_calls::first_of;
 use random_calls::word;
 use random_records_draw::lead;
 use random_records_draw::plans;
@@ -81,23 +82,10 @@ fn vote(plan: &[u8], s: &mut State, journals: &mut Journals, out: &mut Out) {
 }
 
 // A set-up and a restore that may be refused, of the first bytes of the room.
-fn run_refused(whole: &Room, s: &mut State, journals: &mut Journals, out: &mut Out) {
-    let length = state::get(s, state::BAD_LENGTH);
-    let room = &whole[..];
-    if room.len() < length {
-        return;
-    }
-    refused::set_up(&room[0..length], s, journals, out);
-    refused::restore(&room[0..length], s, journals, out);
-}
-
-// A vote on the plan in the first bytes of the room.
-fn run_vote(whole: &Room, length: usize, s: &mut State, journals: &mut Journals, out: &mut Out) {
-    let room = &whole[..];
-    if room.len() < length {
-        return;
-    }
-    vote(&room[0..length], s, journals, out);
+fn run_refused(room: &Room, s: &mut State, journals: &mut Journals, out: &mut Out) {
+    let plan = first_of(room, state::get(s, state::BAD_LENGTH));
+    refused::set_up(plan, s, journals, out);
+    refused::restore(plan, s, journals, out);
 }
 
 // A vote is drawn and run.
@@ -107,13 +95,12 @@ fn run_one(s: &mut State, journals: &mut Journals, out: &mut Out) {
     let length = plans::draw(s, &mut room);
     refused::spoil(s, length);
     run_refused(&room, s, journals, out);
-    run_vote(&room, length, s, journals, out);
+    vote(first_of(&room, length), s, journals, out);
 }
 
 // A run of votes from a seed.
 fn run(seed: usize, journals: &mut Journals, out: &mut Out) {
-    let mut s = [0usize; 1024];
-    state::set(&mut s, state::SEED, seed);
+    let mut s = state::begin(seed);
     report::write_seed(&s);
     for _ in 0..VOTES {
         run_one(&mut s, journals, out);

@@ -1,11 +1,12 @@
 // Refused set-ups and restores.
 use crate::both::Journals;
-use crate::both::differ_if;
 use crate::walk;
 use random_buffers::OUTGOING;
 use random_buffers::Out;
 use random_calls::Terms;
+use random_calls::lent;
 use random_calls::number_of;
+use random_calls::part;
 use random_calls::place_of;
 use random_calls::wide;
 use random_calls::word;
@@ -68,8 +69,8 @@ fn given(s: &State) -> Terms {
 // Number and place of a refusal are noted on both sides and compared; whether it is one.
 fn is_refused(s: &mut State, a: base::Verdict, number: u32, place: usize) -> bool {
     let first = number_of(a);
-    differ_if(s, first != wide(number));
-    differ_if(s, place_of(a) != place);
+    state::count_if(s, state::DIFFERENCES, first != wide(number));
+    state::count_if(s, state::DIFFERENCES, place_of(a) != place);
     number != 0
 }
 
@@ -95,20 +96,9 @@ fn first_restore(
     left: usize,
     out: &mut [u8],
 ) -> board::Called {
-    if left <= journals.len() {
-        if OUTGOING <= out.len() {
-            return board::restore(
-                g.boards,
-                g.faults,
-                g.own,
-                g.number,
-                plan,
-                &journals[0..left],
-                &mut out[0..OUTGOING],
-            );
-        }
-    }
-    board::restore(g.boards, g.faults, g.own, g.number, plan, journals, out)
+    let journal = part(journals, 0, left);
+    let outgoing = lent(out, 0, OUTGOING);
+    board::restore(g.boards, g.faults, g.own, g.number, plan, journal, outgoing)
 }
 
 // The same of the second implementation, whose buffers stand after the library's.
@@ -120,24 +110,18 @@ fn second_restore(
     left: usize,
     out: &mut [u8],
 ) -> Done {
-    let end = num::add(state::JOURNAL, left);
-    if state::JOURNAL <= end {
-        if end <= journals.len() {
-            if OUTGOING <= out.len() {
-                return second::restore(
-                    t,
-                    g.boards,
-                    g.faults,
-                    g.own,
-                    g.number,
-                    plan,
-                    &journals[state::JOURNAL..end],
-                    &mut out[OUTGOING..],
-                );
-            }
-        }
-    }
-    second::restore(t, g.boards, g.faults, g.own, g.number, plan, journals, out)
+    let journal = part(journals, state::JOURNAL, left);
+    let outgoing = lent(out, OUTGOING, OUTGOING);
+    second::restore(
+        t,
+        g.boards,
+        g.faults,
+        g.own,
+        g.number,
+        plan,
+        journal,
+        outgoing,
+    )
 }
 
 // A restore from a few bytes of an earlier vote's journal.

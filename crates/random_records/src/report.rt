@@ -4,64 +4,38 @@ use random_records_draw::state;
 use random_records_draw::state::State;
 use random_report::end;
 use random_report::line;
+use random_report::lines;
 use random_report::number;
 use random_report::row;
 use random_report::text;
+use random_report::text_line;
 use second_wire::num;
 
-// The names of kinds of changes, a few in a function: one with all of them is dear to prove.
-fn write_setting_kind(kind: usize) {
-    match kind {
-        0 => text(b"several:"),
-        1 => text(b"n:"),
-        2 => text(b"t:"),
-        3 => text(b"own number:"),
-        _ => text(b"agreement number:"),
-    }
-}
-
-// Of the plan.
-fn write_plan_kind(kind: usize) {
-    match kind {
-        5 => text(b"plan kind:"),
-        6 => text(b"positions:"),
-        7 => text(b"low reading:"),
-        8 => text(b"plan row:"),
-        _ => text(b"unused plan row:"),
-    }
-}
-
-// Of senders, outputs and entries.
-fn write_level_kind(kind: usize) {
-    match kind {
-        10 => text(b"set of senders:"),
-        11 => text(b"many sets of senders:"),
-        12 => text(b"output:"),
-        13 => text(b"entered:"),
-        _ => text(b"side:"),
-    }
-}
-
-// Of positions and results.
-fn write_result_kind(kind: usize) {
-    match kind {
-        15 => text(b"position:"),
-        16 => text(b"first result:"),
-        17 => text(b"second result:"),
-        18 => text(b"flags and proposals:"),
-        _ => text(b"level entered:"),
-    }
-}
-
-// The name of a kind of change.
+// The names of the kinds of changes, from 0 on.
 fn write_kind(kind: usize) {
-    let group = kind / 5;
-    match group {
-        0 => write_setting_kind(kind),
-        1 => write_plan_kind(kind),
-        2 => write_level_kind(kind),
-        _ => write_result_kind(kind),
-    }
+    text_line(
+        b"several:\n\
+        n:\n\
+        t:\n\
+        own number:\n\
+        agreement number:\n\
+        plan kind:\n\
+        positions:\n\
+        low reading:\n\
+        plan row:\n\
+        unused plan row:\n\
+        set of senders:\n\
+        many sets of senders:\n\
+        output:\n\
+        entered:\n\
+        side:\n\
+        position:\n\
+        first result:\n\
+        second result:\n\
+        flags and proposals:\n\
+        level entered:",
+        kind,
+    );
 }
 
 // How many records with a change of this kind passed question 19, and how many failed.
@@ -88,17 +62,27 @@ pub fn write_seed(s: &State) {
 
 // How many records there were.
 fn write_records(s: &State) {
-    line(s, b"votes", state::VOTES);
-    line(s, b"records of refused set-ups", state::SET_UPS);
-    line(s, b"records of refused restores", state::RESTORES);
-    line(s, b"records changed", state::RECORDS);
+    let places = [
+        state::VOTES,
+        state::SET_UPS,
+        state::RESTORES,
+        state::RECORDS,
+    ];
+    lines(
+        s,
+        b"votes\n\
+        records of refused set-ups\n\
+        records of refused restores\n\
+        records changed",
+        &places,
+    );
 }
 
 // What was called.
 fn write_calls(s: &State) {
+    let places = [state::CALLS, state::CHANGED_CALLS];
     row(s, b"by levels entered:", state::DEPTHS, 0, 17);
-    line(s, b"calls compared", state::CALLS);
-    line(s, b"of these on changed records", state::CHANGED_CALLS);
+    lines(s, b"calls compared\nof these on changed records", &places);
     row(
         s,
         b"accepted or refused by question:",
@@ -110,10 +94,15 @@ fn write_calls(s: &State) {
 
 // What came of it.
 fn write_ends(s: &State) {
-    line(s, b"rules applied on changed records", state::RULES);
-    line(s, b"most rules in a call on one", state::MOST);
-    line(s, b"records compared as a whole", state::TABLES);
-    line(s, b"differences", state::DIFFERENCES);
+    let places = [state::RULES, state::MOST, state::TABLES, state::DIFFERENCES];
+    lines(
+        s,
+        b"rules applied on changed records\n\
+        most rules in a call on one\n\
+        records compared as a whole\n\
+        differences",
+        &places,
+    );
 }
 
 // The run.

@@ -1,7 +1,6 @@
 // Calls on records, changed and unchanged, and what is compared of them.
 use crate::both::Journals;
 use crate::both::call;
-use crate::both::differ_if;
 use crate::calls;
 use crate::compare;
 use party::Party;
@@ -25,9 +24,9 @@ fn inspect(p: Party, t: &mut Table) -> u32 {
 pub fn check(s: &mut State, p: Party, t: &Table) {
     let mut u = table::empty();
     let number = inspect(p, &mut u);
-    differ_if(s, number != 0);
+    state::count_if(s, state::DIFFERENCES, number != 0);
     let same = compare::is_same_table(&u, t);
-    differ_if(s, !same);
+    state::count_if(s, state::DIFFERENCES, !same);
     state::grow(s, state::TABLES, 1);
 }
 
@@ -56,7 +55,7 @@ fn refuse(p: Party, t: &mut Table, s: &mut State, journals: &mut Journals, out: 
     draw(s, p, t);
     let after = call(p, t, 19, s, journals, out);
     let y = random_records_sheet::sheet_of(after);
-    differ_if(s, !sheet::is_same(&x, &y));
+    state::count_if(s, state::DIFFERENCES, !sheet::is_same(&x, &y));
 }
 
 // A changed record is counted by the change and by question 19.
@@ -111,9 +110,9 @@ fn ask(p: Party) -> u32 {
 // the second implementation's own party.
 pub fn no_party(p: Party, t: &mut Table, s: &mut State, journals: &mut Journals, out: &mut Out) {
     let number = ask(p);
-    differ_if(s, number != 19);
+    state::count_if(s, state::DIFFERENCES, number != 19);
     draw(s, p, t);
     call(p, t, number, s, journals, out);
     let c = calls::make_second(t, 0, s, journals, out);
-    differ_if(s, c.number != 19);
+    state::count_if(s, state::DIFFERENCES, c.number != 19);
 }

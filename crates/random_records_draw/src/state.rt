@@ -1,10 +1,15 @@
-// The state of the run: one table of numbers, read and written within it, and pseudo-random numbers.
+// The places of the state of a run.
+pub use random_numbers::SEED;
+pub use random_numbers::State;
+pub use random_numbers::begin;
+pub use random_numbers::below;
+pub use random_numbers::count;
+pub use random_numbers::count_if;
+pub use random_numbers::get;
+pub use random_numbers::grow;
+pub use random_numbers::once_in;
+pub use random_numbers::set;
 use second_wire::num;
-
-pub type State = [usize; 1024];
-
-// The state of the pseudo-random numbers.
-pub const SEED: usize = 0;
 
 // The vote: boards, faults and agreement number; the plan's last position and low reading.
 pub const BOARDS: usize = 1;
@@ -116,54 +121,6 @@ pub const DEPTHS: usize = 160;
 
 // From here: the messages that the board made.
 pub const MESSAGES: usize = 512;
-
-// The number at place i.
-pub fn get(s: &State, i: usize) -> usize {
-    if i < 1024 {
-        return s[i];
-    }
-    0
-}
-
-// The number at place i becomes another.
-pub fn set(s: &mut State, i: usize, value: usize) {
-    if i < 1024 {
-        s[i] = value;
-    }
-}
-
-// The number at place i grows.
-pub fn grow(s: &mut State, i: usize, by: usize) {
-    let x = get(s, i);
-    set(s, i, num::add(x, by));
-}
-
-// One more at place k of an area.
-pub fn count(s: &mut State, area: usize, k: usize) {
-    grow(s, num::add(area, k % 32), 1);
-}
-
-// The next state of Marsaglia's xorshift with the shifts 13, 7 and 17.
-fn shifted(x: usize) -> usize {
-    let a = x ^ (x << 13);
-    let b = a ^ (a >> 7);
-    b ^ (b << 17)
-}
-
-// A random number below k, or 0.
-pub fn below(s: &mut State, k: usize) -> usize {
-    let x = shifted(get(s, SEED));
-    set(s, SEED, x);
-    if k == 0 {
-        return 0;
-    }
-    (x >> 20) % k
-}
-
-// Once in k times.
-pub fn once_in(s: &mut State, k: usize) -> bool {
-    below(s, k) == 0
-}
 
 // A number at x, mostly, or just beside it; now and then the least or greatest of a field.
 pub fn near(s: &mut State, x: usize) -> usize {

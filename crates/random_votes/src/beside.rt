@@ -1,9 +1,9 @@
 // The calls on the second implementation, after the library's.
 use crate::codes;
-use crate::given;
 use crate::given::Given;
 use crate::note;
 use random_buffers::OUTGOING;
+use random_calls::lent;
 use random_calls::wide;
 use random_votes_state::call;
 use random_votes_state::state;
@@ -26,8 +26,8 @@ pub fn make(
     journals: &mut [u8],
     buffers: &mut [u8],
 ) -> Done {
-    let journal = given::part(journals, num::add(call::SECOND_JOURNALS, g.at), g.room);
-    let out = given::part(buffers, OUTGOING, g.out_room);
+    let journal = lent(journals, num::add(call::SECOND_JOURNALS, g.at), g.room);
+    let out = lent(buffers, OUTGOING, g.out_room);
     let which = g.call;
     let t = g.terms;
     match which {

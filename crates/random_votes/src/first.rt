@@ -1,9 +1,9 @@
 // The calls on the library.
 use crate::codes;
-use crate::given;
 use crate::given::Given;
 use crate::note;
 use party::Party;
+use random_calls::lent;
 use random_calls::number_of;
 use random_calls::place_of;
 use random_calls::wide;
@@ -28,8 +28,8 @@ pub fn make(
     journals: &mut [u8],
     buffers: &mut [u8],
 ) -> board::Called {
-    let journal = given::part(journals, g.at, g.room);
-    let out = given::part(buffers, 0, g.out_room);
+    let journal = lent(journals, g.at, g.room);
+    let out = lent(buffers, 0, g.out_room);
     let which = g.call;
     let t = g.terms;
     match which {

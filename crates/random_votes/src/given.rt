@@ -6,7 +6,6 @@ use random_calls::word;
 use random_votes_state::call;
 use random_votes_state::state;
 use random_votes_state::state::State;
-use second_wire::num;
 ghost use Prim.Native.Nat.{_≤_};
 
 // The call, the settings of a set-up or a restore, the input of a start, the sender of a take, and the used length.
@@ -82,15 +81,4 @@ pub fn bytes(s: &State, length: usize) -> [u8; MOST] {
         return codes::load(s, state::MESSAGE, length);
     }
     codes::load(s, state::get(s, state::CALL_PLAN), length)
-}
-
-// What is lent of a buffer: so many bytes from a place on, or none where there are not so many.
-pub fn part(buffer: &mut [u8], from: usize, count: usize) -> &mut [u8] {
-    let to = num::add(from, count);
-    if from <= to {
-        if to <= buffer.len() {
-            return &mut buffer[from..to];
-        }
-    }
-    &mut buffer[0..0]
 }

@@ -1,8 +1,10 @@
 // What the run came to, in lines.
 use random_report::end;
 use random_report::line;
+use random_report::lines;
 use random_report::number;
 use random_report::row;
+use random_report::rows;
 use random_report::text;
 use random_votes_state::state;
 use random_votes_state::state::State;
@@ -21,10 +23,20 @@ fn fault(s: &State, words: &[u8], i: usize, first: usize) {
 
 // How many votes and calls there were.
 fn write_votes(s: &State) {
-    line(s, b"votes", state::VOTES);
-    line(s, b"votes on the widest range", state::WIDE_RANGES);
-    line(s, b"votes on a tree of 255 vertices", state::LARGE_TREES);
-    line(s, b"calls compared", state::CALLS);
+    let places = [
+        state::VOTES,
+        state::WIDE_RANGES,
+        state::LARGE_TREES,
+        state::CALLS,
+    ];
+    lines(
+        s,
+        b"votes\n\
+        votes on the widest range\n\
+        votes on a tree of 255 vertices\n\
+        calls compared",
+        &places,
+    );
 }
 
 // What was called.
@@ -41,25 +53,19 @@ fn write_calls(s: &State) {
 
 // Messages refused by 15 and 22, by the field at the place.
 fn write_broken(s: &State) {
-    row(
-        s,
-        b"refused by 15 at agreement number, level, kind, value:",
+    let areas = [
         state::CUT_AT,
-        1,
-        5,
-    );
-    row(
-        s,
-        b"of these with no byte of it there:",
         state::CUT_BEFORE,
-        1,
-        5,
-    );
-    row(s, b"refused by 22 at the same:", state::MALFORMED_AT, 1, 5);
-    row(
-        s,
-        b"of these with its last byte not there:",
+        state::MALFORMED_AT,
         state::MALFORMED_CUT,
+    ];
+    rows(
+        s,
+        b"refused by 15 at agreement number, level, kind, value:\n\
+        of these with no byte of it there:\n\
+        refused by 22 at the same:\n\
+        of these with its last byte not there:",
+        &areas,
         1,
         5,
     );
@@ -90,6 +96,7 @@ fn write_outside(s: &State) {
 
 // Lengths in bytes of positions and agreement numbers, and records at the border of question 17.
 fn write_lengths(s: &State) {
+    let areas = [state::LENGTHS, state::FILLED, state::BYTE_SHORT];
     row(
         s,
         b"starts by bytes of the position:",
@@ -97,24 +104,12 @@ fn write_lengths(s: &State) {
         1,
         4,
     );
-    row(
+    rows(
         s,
-        b"votes by bytes of the agreement number:",
-        state::LENGTHS,
-        1,
-        6,
-    );
-    row(
-        s,
-        b"records that filled the journal, by the same:",
-        state::FILLED,
-        1,
-        6,
-    );
-    row(
-        s,
-        b"records a byte too long for it, by the same:",
-        state::BYTE_SHORT,
+        b"votes by bytes of the agreement number:\n\
+        records that filled the journal, by the same:\n\
+        records a byte too long for it, by the same:",
+        &areas,
         1,
         6,
     );
@@ -122,37 +117,50 @@ fn write_lengths(s: &State) {
 
 // What rules did in starts and takes.
 fn write_rules(s: &State) {
-    row(s, b"rules applied by boards:", state::BOARD_RULES, 1, 15);
-    row(s, b"rules applied by the bench:", state::BENCH_RULES, 1, 15);
+    let areas = [state::BOARD_RULES, state::BENCH_RULES];
+    rows(
+        s,
+        b"rules applied by boards:\nrules applied by the bench:",
+        &areas,
+        1,
+        15,
+    );
     row(s, b"levels entered by boards:", state::ENTERED, 0, 16);
     row(s, b"results by grade:", state::GRADES, 0, 3);
 }
 
-// What was said and not said.
+// What was said.
 fn write_messages(s: &State) {
     row(s, b"messages handed over by kind:", state::KINDS, 1, 7);
     row(s, b"lies taken by level:", state::LIES_TAKEN, 0, 15);
-    line(
-        s,
-        b"lies told otherwise to another board",
-        state::TWO_TONGUED,
-    );
-    line(s, b"lies among the last deliveries", state::LAST_LIES);
 }
 
-// What happened to boards.
-fn write_cuts(s: &State) {
-    line(s, b"cuts", state::CUTS);
-    line(s, b"cuts after a reading", state::READ_CUTS);
-    line(s, b"cuts while down", state::DOWN_CUTS);
-    line(s, b"torn records dropped", state::TORN);
-}
-
-// How votes ended.
+// What else happened, and how votes ended.
 fn write_ends(s: &State) {
-    line(s, b"starts lost", state::LOST);
-    line(s, b"answers", state::ANSWERS);
-    line(s, b"votes with answers one edge apart", state::SPLIT_VOTES);
+    let places = [
+        state::TWO_TONGUED,
+        state::LAST_LIES,
+        state::CUTS,
+        state::READ_CUTS,
+        state::DOWN_CUTS,
+        state::TORN,
+        state::LOST,
+        state::ANSWERS,
+        state::SPLIT_VOTES,
+    ];
+    lines(
+        s,
+        b"lies told otherwise to another board\n\
+        lies among the last deliveries\n\
+        cuts\n\
+        cuts after a reading\n\
+        cuts while down\n\
+        torn records dropped\n\
+        starts lost\n\
+        answers\n\
+        votes with answers one edge apart",
+        &places,
+    );
 }
 
 // What must be 0.
@@ -186,7 +194,6 @@ pub fn write(s: &State) {
     write_lengths(s);
     write_rules(s);
     write_messages(s);
-    write_cuts(s);
     write_ends(s);
     write_faults(s);
 }

@@ -1,23 +1,15 @@
-// Pseudo-random numbers: Marsaglia's xorshift with the shifts 13, 7 and 17.
+// Pseudo-random numbers.
 use crate::state;
 use crate::state::State;
+use random_numbers::drawn;
+use random_numbers::shifted;
 use second_wire::num;
-
-// The next state.
-fn shifted(x: usize) -> usize {
-    let a = x ^ (x << 13);
-    let b = a ^ (a >> 7);
-    b ^ (b << 17)
-}
 
 // A number below k, or 0.
 pub fn below(s: &mut State, k: usize) -> usize {
     let x = shifted(state::get(s, state::SEED));
     state::set(s, state::SEED, x);
-    if k == 0 {
-        return 0;
-    }
-    (x >> 20) % k
+    drawn(x, k)
 }
 
 // Once in k times.

@@ -1,20 +1,22 @@
-// What is found of a plan: the number of its refusal, and the edges of the cycle, in plan order.
+// What is found of a plan: number and place of its refusal, and the edges of the cycle, in plan order.
 use second_wire::num;
 
 const SIZE: usize = 1024;
 
 pub type Cycle = [usize; SIZE];
 
-// How many edges the cycle has, the number of the plan's refusal, and how many edges were read, up to
-// the rejected one, it included, where the number is 8.
+// How many edges the cycle has, number and place of the plan's refusal, and how many edges were read,
+// up to the rejected one, it included, where the number is 8.
 const COUNT: usize = 0;
 
 const NUMBER: usize = 1;
 
-const READ: usize = 2;
+const PLACE: usize = 2;
 
-// From here: the places of the cycle's edges among the plan's; their first and second ends.
-pub const PLACES: usize = 256;
+const READ: usize = 3;
+
+// From here: the numbers of the cycle's edges in the plan; their first and second ends.
+pub const NUMBERS: usize = 256;
 
 pub const ONE: usize = 512;
 
@@ -25,7 +27,7 @@ pub fn none() -> Cycle {
     [0usize; SIZE]
 }
 
-// The number at place i of a column, or 0.
+// The i-th number of a column, or 0.
 pub fn at(c: &Cycle, column: usize, i: usize) -> usize {
     if column < SIZE {
         if i < SIZE - column {
@@ -35,7 +37,7 @@ pub fn at(c: &Cycle, column: usize, i: usize) -> usize {
     0
 }
 
-// The number at place i of a column becomes another.
+// The i-th number of a column becomes another.
 fn put(c: &mut Cycle, column: usize, i: usize, value: usize) {
     if column < SIZE {
         if i < SIZE - column {
@@ -54,14 +56,20 @@ pub fn number(c: &Cycle) -> usize {
     at(c, NUMBER, 0)
 }
 
+// The place of the plan's refusal, 0 if there is none.
+pub fn place(c: &Cycle) -> usize {
+    at(c, PLACE, 0)
+}
+
 // How many edges were read.
 pub fn read(c: &Cycle) -> usize {
     at(c, READ, 0)
 }
 
-// Keeps the number of the plan's refusal.
-pub fn set_number(c: &mut Cycle, number: usize) {
+// Keeps number and place of the plan's refusal.
+pub fn set_refusal(c: &mut Cycle, number: usize, place: usize) {
     put(c, NUMBER, 0, number);
+    put(c, PLACE, 0, place);
 }
 
 // Keeps how many edges were read.
@@ -70,9 +78,9 @@ pub fn set_read(c: &mut Cycle, edges: usize) {
 }
 
 // Lists an edge after the others.
-pub fn list(c: &mut Cycle, place: usize, one: usize, two: usize) {
+pub fn list(c: &mut Cycle, number: usize, one: usize, two: usize) {
     let i = count(c);
-    put(c, PLACES, i, place);
+    put(c, NUMBERS, i, number);
     put(c, ONE, i, one);
     put(c, TWO, i, two);
     put(c, COUNT, 0, num::next(i));

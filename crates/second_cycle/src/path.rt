@@ -72,11 +72,11 @@ fn wide(x: u32) -> usize {
     x as usize
 }
 
-// The number of the plan's refusal; where that is 8, the cycle.
+// Number and place of the plan's refusal; where the number is 8, the cycle.
 pub fn find(bytes: &[u8], c: &mut Cycle) {
     let mut t = table::empty();
     let v = plans::read(bytes, &mut t);
-    cycle::set_number(c, wide(v.number));
+    cycle::set_refusal(c, wide(v.number), v.place);
     if v.number == 8 {
         list_cycle(bytes, &t, c);
     }

@@ -75,7 +75,7 @@ fn set_of(c: &Cycle) -> usize {
     let edges = cycle::count(c);
     let mut set = 0;
     for i in 0..edges {
-        set = bits::with(set, cycle::at(c, cycle::PLACES, i));
+        set = bits::with(set, cycle::at(c, cycle::NUMBERS, i));
     }
     set
 }
