@@ -53,13 +53,18 @@ lastLevel = sendingLevels - 1
 abbrev pub levelCount : ℕ
 levelCount = sendingLevels + 1
 
--- at one level: the most rules, the most messages; and the bytes of a message at most
+-- at one level: the most rules, and the most messages, whoever is faulty
 abbrev pub levelRules : ℕ
 levelRules = 26
 
-abbrev pub levelMessages : ℕ
-levelMessages = 22
+abbrev pub levelMessagesWorst : ℕ
+levelMessagesWorst = 22
 
+-- "With at most t faulty boards, a sound board makes at most 7 different messages .. at each level" (document 02, Q-7)
+abbrev pub levelMessages : ℕ
+levelMessages = 7
+
+-- the bytes of a message at most
 abbrev pub messageSize : ℕ
 messageSize = 8
 
@@ -69,4 +74,4 @@ maxRules = sendingLevels * levelRules
 
 -- "2,640 bytes (15 × 22 × 8)"
 abbrev pub outgoingSize : ℕ
-outgoingSize = sendingLevels * levelMessages * messageSize
+outgoingSize = sendingLevels * levelMessagesWorst * messageSize

@@ -1,5 +1,5 @@
 -- How the code's limits stand for the definitions'.
-use Rattle.base.specs.Limits.{maxNumber, maxBoards, maxSender, maxVertices, maxRows, maxDegree, noneValue, maxWidth, offsetZero, maxReading, maxPosition, sendingLevels, lastLevel, levelCount, levelRules, levelMessages, messageSize, maxRules, outgoingSize}
+use Rattle.base.specs.Limits.{maxNumber, maxBoards, maxSender, maxVertices, maxRows, maxDegree, noneValue, maxWidth, offsetZero, maxReading, maxPosition, sendingLevels, lastLevel, levelCount, messageSize}
 use Rattle.base.specs.declared.Limits as Code
 
 -- the limits that the code has by name
@@ -19,9 +19,5 @@ limits = record {
   «sending_levels» = sendingLevels;
   «last_level» = lastLevel;
   levels = levelCount;
-  «level_rules» = levelRules;
-  «level_messages» = levelMessages;
   «message_size» = messageSize;
-  rules = maxRules;
-  outgoing = outgoingSize;
 }

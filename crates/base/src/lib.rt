@@ -40,19 +40,10 @@ pub const LAST_LEVEL: u32 = SENDING_LEVELS - 1;
 
 pub const LEVELS: usize = SENDING_LEVELS as usize + 1;
 
-// At one level, in a party's life: the most rules, the most messages, and the bytes of a message at most.
-pub const LEVEL_RULES: u32 = 26;
-
-pub const LEVEL_MESSAGES: usize = 22;
-
+// The bytes of a message at most.
 pub const MESSAGE_SIZE: usize = 8;
 
-// In a party's life: the most rules, and the outgoing bytes that a call may need.
-pub const MAX_RULES: u32 = SENDING_LEVELS * LEVEL_RULES;
-
-pub const OUTGOING: usize = SENDING_LEVELS as usize * LEVEL_MESSAGES * MESSAGE_SIZE;
-
-// The limits as the code has them.
+// The limits as the code has them. Those of a level, and of a party's life, stand with the level's record (crates level and level_limits).
 pub struct Limits {
     pub number: u32,
     pub boards: u32,
@@ -68,11 +59,7 @@ pub struct Limits {
     pub sending_levels: u32,
     pub last_level: u32,
     pub levels: usize,
-    pub level_rules: u32,
-    pub level_messages: usize,
     pub message_size: usize,
-    pub rules: u32,
-    pub outgoing: usize,
 }
 
 // They are those of the definitions.
@@ -94,11 +81,7 @@ pub fn all_limits() -> Limits
         sending_levels: SENDING_LEVELS,
         last_level: LAST_LEVEL,
         levels: LEVELS,
-        level_rules: LEVEL_RULES,
-        level_messages: LEVEL_MESSAGES,
         message_size: MESSAGE_SIZE,
-        rules: MAX_RULES,
-        outgoing: OUTGOING,
     }
 }
 

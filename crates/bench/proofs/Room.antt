@@ -4,7 +4,7 @@ use Prim.Native.Nat.{ℕ, _+_, _*_, _≤_}
 use native.Mathlib.Omega.{arith}
 use lib.Dec.{T}
 use lib.ListN.{length, length-append}
-use Rattle.base.specs.Limits.{lastLevel, sendingLevels, levelMessages}
+use Rattle.base.specs.Limits.{lastLevel, sendingLevels, levelMessagesWorst}
 use Rattle.plan.specs.Plan.{Plan}
 use Rattle.plan.specs.Valid.{planValid}
 use Rattle.journal.specs.declared.Record.{Record}
@@ -28,7 +28,7 @@ made-left p z (r ∷ rs) l =
 
 -- over all starts and takes from set-up
 pub made-most : (n t own a : ℕ) (plan : Plan) → T (settingsPass (newParty n t own a plan)) → T (planValid plan) → (rs : List Record)
-    → Life (newParty n t own a plan) rs → length (madeAlong (newParty n t own a plan) rs) ≤ sendingLevels * levelMessages
+    → Life (newParty n t own a plan) rs → length (madeAlong (newParty n t own a plan) rs) ≤ sendingLevels * levelMessagesWorst
 made-most n t own a plan s h rs l =
     let p : Party = newParty n t own a plan in
     omega (arith, made-left p (sized-new n t own a plan s h) rs l, messages-most (lastLevel + 1) p)

@@ -13,7 +13,7 @@ mod vote;
 fn main() {
     let mut bytes = [0u8; BYTES];
     let mut wire = [0u8; bench_wire::SIZE];
-    let mut out = [0u8; base::OUTGOING];
+    let mut out = [0u8; level_limits::OUTGOING];
     let mut input = Input::new();
     let mut vote = Vote::new();
     let nobody = vote.set_up(0);

@@ -79,7 +79,7 @@ impl Vote {
         self,
         i: usize,
         v: base::Verdict,
-        out: &[u8; base::OUTGOING],
+        out: &[u8; level_limits::OUTGOING],
         sent: usize,
         wire: &mut [u8; bench_wire::SIZE],
     ) -> Vote

@@ -49,7 +49,7 @@ impl Call {
         self,
         p: party::Party,
         wire: &[u8; bench_wire::SIZE],
-        out: &mut [u8; base::OUTGOING],
+        out: &mut [u8; level_limits::OUTGOING],
     ) -> board::Called
         ensures { λ r. ⌜ HasRoom (r .verdict) ⌝ }
     {

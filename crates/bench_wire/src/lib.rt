@@ -5,10 +5,10 @@ ghost use lib.ListN.{length};
 ghost use Rattle.base.specs.Limits.{messageSize};
 ghost use Rattle.bench_wire.specs.Wire.{messageRoom, wireSize};
 
-// The messages of all boards: each makes at most 22 at each of 15 levels.
+// The messages of all boards, whoever is faulty.
 const MESSAGES: usize = base::MAX_BOARDS as usize
     * base::SENDING_LEVELS as usize
-    * base::LEVEL_MESSAGES;
+    * level::Level::MESSAGES_WORST as usize;
 // The maker, and a message's bytes.
 const ENTRY: usize = 1 + base::MESSAGE_SIZE;
 

@@ -20,7 +20,7 @@ fn at_door(valid: bool, room: usize, used: usize, out: usize) -> u8
     if !valid {
         return 19;
     }
-    if out < base::OUTGOING {
+    if out < level_limits::OUTGOING {
         return 18;
     }
     if room < used {

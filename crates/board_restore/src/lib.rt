@@ -176,7 +176,7 @@ struct Asked {
 fn ask(v: party::Vote, bytes: &[u8], journal: &[u8], room: usize) -> Asked
     ensures { λ a. ⌜ Answers v (now (bytes .entry)) (now (journal .entry)) room (asPlan (a .plan)) (a .end) (a .verdict) ⌝ }
 {
-    if room < base::OUTGOING {
+    if room < level_limits::OUTGOING {
         let short = base::Verdict::Refused {
             number: 18,
             place: 0,

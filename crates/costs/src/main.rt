@@ -171,7 +171,7 @@ fn start_all(
     s: &[u8],
     journals: &mut [u8; JOURNALS],
     wire: &mut [u8; bench_wire::SIZE],
-    out: &mut [u8; base::OUTGOING],
+    out: &mut [u8; level_limits::OUTGOING],
 ) -> Boards
     requires { ⌜ (4 ≤ v .«plan_end») × (v .«plan_end» ≤ length (now s)) × (v .«plan_end» < inputLimit) × (v .boards ≤ maxBoards) ⌝ }
 {
@@ -202,7 +202,7 @@ fn give_all(
     boards: Boards,
     journals: &mut [u8; JOURNALS],
     wire: &mut [u8; bench_wire::SIZE],
-    out: &mut [u8; base::OUTGOING],
+    out: &mut [u8; level_limits::OUTGOING],
 ) -> Boards
     requires { ⌜ (1 ≤ v .boards) × (v .boards ≤ maxBoards) ⌝ }
 {
@@ -337,7 +337,7 @@ fn call_again(
     used: usize,
     wire: &[u8; bench_wire::SIZE],
     journals: &mut [u8; JOURNALS],
-    out: &mut [u8; base::OUTGOING],
+    out: &mut [u8; level_limits::OUTGOING],
 ) -> u64
     requires { ⌜ (4 ≤ v .«plan_end») × (v .«plan_end» ≤ length (now s)) × (v .boards ≤ maxBoards) × (i < maxBoards) ⌝ }
     ensures { λ r. ⌜ r ≤ 1 ⌝ }
@@ -349,7 +349,7 @@ fn call_again(
 }
 
 // Board i is restored from an empty journal, and is read; 1 for an answer.
-fn call_empty(v: Vote, s: &[u8], i: usize, out: &mut [u8; base::OUTGOING]) -> u64
+fn call_empty(v: Vote, s: &[u8], i: usize, out: &mut [u8; level_limits::OUTGOING]) -> u64
     requires { ⌜ (4 ≤ v .«plan_end») × (v .«plan_end» ≤ length (now s)) × (v .boards ≤ maxBoards) × (i < maxBoards) ⌝ }
     ensures { λ r. ⌜ r ≤ 1 ⌝ }
 {
@@ -364,7 +364,7 @@ fn call_all_again(
     b: Boards,
     wire: &[u8; bench_wire::SIZE],
     journals: &mut [u8; JOURNALS],
-    out: &mut [u8; base::OUTGOING],
+    out: &mut [u8; level_limits::OUTGOING],
 ) -> u64
     requires { ⌜ (4 ≤ v .«plan_end») × (v .«plan_end» ≤ length (now s)) × (v .boards ≤ maxBoards) ⌝ }
 {
@@ -396,7 +396,7 @@ fn run(s: &[u8])
     };
     let mut journals = [0u8; JOURNALS];
     let mut wire = [0u8; bench_wire::SIZE];
-    let mut out = [0u8; base::OUTGOING];
+    let mut out = [0u8; level_limits::OUTGOING];
     let started = start_all(v, s, &mut journals, &mut wire, &mut out);
     let ended = give_all(v, started, &mut journals, &mut wire, &mut out);
     let answers = call_all_again(v, s, ended, &wire, &mut journals, &mut out);

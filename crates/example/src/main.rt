@@ -60,7 +60,7 @@ fn take_own(
     called: board::Called,
     m: [u8; 4],
     journal: &mut [u8; 64],
-    out: &mut [u8; base::OUTGOING],
+    out: &mut [u8; level_limits::OUTGOING],
 ) -> board::Called {
     let next = board::take(called.party, 0, &m, journal, called.used, out);
     print_call(called.used, next, journal, out);
@@ -69,7 +69,7 @@ fn take_own(
 
 // Power went after the second record and tore the third.
 fn print_restored() {
-    let mut out = [0u8; base::OUTGOING];
+    let mut out = [0u8; level_limits::OUTGOING];
     let left = [1u8, 1, 1, 2, 0, 1, 0, 1, 0, 2, 0, 1];
     let back = board::restore(1, 0, 0, 1, &[2u8, 0, 2], &left, &mut out);
     io::write_all(STDOUT_FILENO, b"restored ");
@@ -83,7 +83,7 @@ fn print_restored() {
 
 fn main() {
     let mut journal = [0u8; 64];
-    let mut out = [0u8; base::OUTGOING];
+    let mut out = [0u8; level_limits::OUTGOING];
     let made = board::set_up(1, 0, 0, 1, &[2u8, 0, 2]);
     let started = board::start(made.party, 1, &mut journal, 0, &mut out);
     print_call(0, started, &journal, &out);

@@ -85,6 +85,13 @@ pub fn applies(e: Effect) -> bool
 }
 
 impl Level {
+    // At one level, in a party's life: the most different messages that a sound board makes with at most t faulty boards; the most messages, whoever is faulty; the most rules.
+    pub const MESSAGES: u32 = 7;
+
+    pub const MESSAGES_WORST: u32 = 22;
+
+    pub const RULES: u32 = 26;
+
     // A level that was not entered: the blank one where nothing was heard.
     pub fn blank() -> Level
         ensures { λ r. ⌜ asLevel (replicate slotCount 0) r ≡ blankLevel ⌝ }

@@ -14,7 +14,7 @@ use lib.ListN.{length, getD, set}
 use lib.Seq.{getD-set-same, getD-set-other}
 use Rattle.base.specs.Pick.{pick}
 use Rattle.base.specs.Sets.{bit, count}
-use Rattle.base.specs.Limits.{levelRules, levelMessages}
+use Rattle.base.specs.Limits.{levelRules, levelMessagesWorst}
 use Rattle.base.proofs.Bools.{T→true}
 use Rattle.base.proofs.Counts.{count-lt, count-le}
 use Rattle.message.specs.Message.{noneValue}
@@ -125,7 +125,7 @@ last-most next l = go (missing (l .result)) (aside l) (resultNone l)
     go false false true = bit-le (not (l .toldCentre))
     go false false false = omega arith
 
-pub messages-most : (next : Bool) (l : Level) → messagesLeft next l ≤ levelMessages
+pub messages-most : (next : Bool) (l : Level) → messagesLeft next l ≤ levelMessagesWorst
 unfolding messagesLeft unechoed
 messages-most next l =
     omega (

@@ -7,7 +7,7 @@ use native.Mathlib.Omega.{arith}
 use lib.Dec.{T, leb, le→leb}
 use lib.ListN.{length}
 use Rattle.base.specs.Sets.{bit}
-use Rattle.base.specs.Limits.{lastLevel, levelRules, levelMessages}
+use Rattle.base.specs.Limits.{lastLevel, levelRules, levelMessagesWorst}
 use Rattle.base.proofs.Bools.{T-and, T→true}
 use Rattle.message.specs.declared.Body.the-variants.{Side}
 use Rattle.message.specs.declared.Message.{Message}
@@ -38,8 +38,8 @@ messagesLeft L p = total Bounds.messagesLeft L p
 pub rules-most : (L : ℕ) (p : Party) → rulesLeft L p ≤ levelRules * L
 rules-most L p = total-most Bounds.rulesLeft levelRules Bounds.rules-most L p
 
-pub messages-most : (L : ℕ) (p : Party) → messagesLeft L p ≤ levelMessages * L
-messages-most L p = total-most Bounds.messagesLeft levelMessages Bounds.messages-most L p
+pub messages-most : (L : ℕ) (p : Party) → messagesLeft L p ≤ levelMessagesWorst * L
+messages-most L p = total-most Bounds.messagesLeft levelMessagesWorst Bounds.messages-most L p
 
 -- ---- a message taken, and a start
 

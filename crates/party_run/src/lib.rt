@@ -74,7 +74,7 @@ fn back(i: usize) -> usize
 }
 
 // Rules until none applies. The messages are written from the buffer's first byte on where `loud`, else nowhere.
-// No rule applies below level i; a rule at level i opens none but at i - 1, i and i + 1. At most base::MAX_RULES rules apply.
+// No rule applies below level i; a rule at level i opens none but at i - 1, i and i + 1. At most level_limits::MAX_RULES rules apply.
 pub fn run(
     v: party::Vote,
     shape: plan::Shape,
