@@ -28,7 +28,7 @@ use Rattle.party_bounds.proofs.Laws.{Sized, sized-new, sized-hearing, Within, r
 use Rattle.board_calls.specs.Answers.{positionOf}
 use Rattle.board_calls.specs.Calls.{Entry, again, fresh, startQuestions, takeQuestions, calledOf}
 use Rattle.board_calls.specs.Restore.{Replay, onPlanRead, restoreQuestions, restoredOf}
-use Rattle.board_promises.specs.Outgoing.{Typed}
+use Rattle.party.specs.Typed.{Typed}
 use Rattle.board_laws.specs.Inner.{New}
 use Rattle.board_laws.proofs.Questions.{take-held}
 use Rattle.board_laws.proofs.Kept.{replay-keeps}

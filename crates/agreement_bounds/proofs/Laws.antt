@@ -20,7 +20,7 @@ use Rattle.party_life.specs.Life.{lived}
 use Rattle.party_bounds.proofs.Laws.{rules-most, run-quiescent, runs-same, set-up-rules}
 use Rattle.board_calls.specs.Calls.{again, fresh, startQuestions, takeQuestions, calledOf}
 use Rattle.board_calls.specs.Restore.{Replay, restoreQuestions, restoredOf}
-use Rattle.board_promises.specs.Outgoing.{Typed}
+use Rattle.party.specs.Typed.{Typed}
 use Rattle.agreement.specs.History.{Instance, Lent, restore, restoreFinds, calls, History, boardAfter}
 use Rattle.agreement.specs.Allowed.{Sound, Refuses, Accepts, Allowed}
 use Rattle.agreement.specs.Demand.{Shared}

@@ -6,3 +6,4 @@ pub mod Ranks
 pub mod Puts
 pub mod Parts
 pub mod Loops
+pub mod Distinct

@@ -6,3 +6,4 @@ pub mod Limits
 pub mod Found
 pub mod Inner
 pub mod Tie
+pub mod Distinct

@@ -9,8 +9,6 @@ use lib.IntN.{ℤ}
 use lib.ListN.{length, take, drop, length-append}
 use lib.Seq.{take-at}
 use borrow.Author.Tests.{eq-eqb, ne-eqb}
-use mir.Val.{Val}
-use denote.Laws.{Is}
 use Rattle.base.specs.Limits.{maxNumber, lastLevel, outgoingSize}
 use Rattle.base.specs.Put.{putAt}
 use Rattle.base.specs.Found.{Found, found, refused}
@@ -30,17 +28,13 @@ use Rattle.message.proofs.RoundTrip.{message-read}
 use Rattle.journal.specs.declared.Record.{Record}
 use Rattle.party.specs.Party.{Party, newParty}
 use Rattle.party.specs.Run.{Ran, resting, bytesOf}
-use Rattle.party.specs.Valid.{partyValid}
-use Rattle.party.specs.Tie.{asParty}
-use Rattle.party.specs.declared.Party as Code
-use Rattle.party.proofs.Party as PartyType
-use Rattle.party_step.proofs.Typed.{typed-sized}
 use Rattle.party_life.specs.Life.{replayed, following, Fits}
 use Rattle.party_bounds.proofs.Laws.{Sized, Within, replayed-within, sized-replayed}
 use Rattle.board_calls.specs.Calls.{Called, Entry, fresh, startQuestions, takeQuestions, calledOf, outgoingAfter}
 use Rattle.board_calls.specs.Restore.{Replay, onPlanRead, restoreQuestions, restoredOf, restoreOutgoing}
 use Rattle.board_calls.specs.Results.{CallGives, RestoreGives}
-use Rattle.board_promises.specs.Outgoing.{withRest, messagesFrom, messagesOf, AllWritable, Typed}
+use Rattle.board_promises.specs.Outgoing.{withRest, messagesFrom, messagesOf, AllWritable}
+use Rattle.party.specs.Typed.{Typed}
 use Rattle.board_laws.proofs.Replays.{new-sized}
 use Rattle.board_laws.proofs.Kept.{replay-keeps}
 use Rattle.board_laws.proofs.Recorded.{Recorded, start-recorded, take-recorded}
@@ -110,12 +104,6 @@ pub written-read : (out : List ℕ) (ms : List Message) → AllWritable ms → m
 written-read out ms w = ap messagesOf (sent-bytes out (bytesOf ms)) ∙ messages-read ms w
 
 -- ---- start and take
-
--- every party that is passed to a call has its type's shape
-pub typed-party : (p : Code.Party) (vs : List Val) → Is PartyType.the-row p vs → T (partyValid (asParty p)) → Typed (asParty p)
-typed-party p vs h v =
-    let z = typed-sized p vs h v in
-    record { levels = z .formed .full; echoes = z .echoes; agreement = omega (arith, h .1 .1 .1 .1 .1 .0 .1) }
 
 -- the messages of a vote can be written
 proper-writable : (a : ℕ) → a ≤ maxNumber → (ms : List Message) → ((m : Message) → List·Memᴰ m ms → T (inTable m) × (m .number ≡ a)) → AllWritable ms

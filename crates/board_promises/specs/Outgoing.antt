@@ -1,18 +1,14 @@
 -- "An accepted call writes its messages from the outgoing buffer's first byte": the messages that bytes are, read one after the other.
-use mathlib.Core.Path.{_≡_}
 use mathlib.Core.List.{List, [], _∷_, List·Memᴰ}
 use mathlib.Core.Option.{Option, none, some}
-use Prim.Native.Nat.{ℕ, zero, suc, _≤_, _<_}
+use Prim.Native.Nat.{ℕ, zero, suc}
 use lib.Dec.{eqb}
 use lib.ListN.{length}
 use Rattle.base.specs.Pick.{pick}
-use Rattle.base.specs.Limits.{maxNumber, levelCount}
 use Rattle.message.specs.declared.Message.{Message}
 use Rattle.message.specs.declared.MessageRead.{MessageRead}
 use Rattle.message.specs.Message.{InLimits}
 use Rattle.message.specs.Reading.{messageAt}
-use Rattle.level.specs.Level.{valueCount}
-use Rattle.party.specs.Party.{Party, levelAt}
 
 -- a message, and then the rest if that is messages
 abbrev pub withRest : Message → Option (List Message) → Option (List Message)
@@ -36,9 +32,3 @@ messagesOf s = messagesFrom (length s) s 0
 -- messages that can be written
 abbrev pub AllWritable : List Message → Type 0
 AllWritable ms = (m : Message) → List·Memᴰ m ms → InLimits m
-
--- what a party has by its type: all levels, in each a place for every second echo, and an agreement number in its limits
-pub record Typed (p : Party) : Type 0 where
-  pub levels : length (p .levels) ≡ levelCount
-  pub echoes : (i : ℕ) → i < levelCount → length (levelAt p i .echoed) ≡ valueCount
-  pub agreement : p .agreement ≤ maxNumber

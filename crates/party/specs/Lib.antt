@@ -3,3 +3,4 @@ pub mod Run
 pub mod Valid
 pub mod Inner
 pub mod Tie
+pub mod Typed

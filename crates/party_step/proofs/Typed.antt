@@ -20,6 +20,7 @@ use Rattle.level.proofs.Level as LevelType
 use Rattle.party.specs.declared.Chart.{Chart}
 use Rattle.party.specs.declared.Party as Code
 use Rattle.party.specs.Inner.{Whole}
+use Rattle.party.specs.Typed.{Typed}
 use Rattle.party.specs.Valid.{partyValid}
 use Rattle.party.specs.Tie.{voteOf, asParty}
 use Rattle.party.proofs.Ties.{length-tied, level-in}
@@ -64,13 +65,18 @@ module _ (p : Code.Party) (vs : List Val) (h : Is PartyType.the-row p vs) where
   pub typed-whole : Whole p
   typed-whole = record { levels = full; sets = sym (length-map (p .sets) _) ∙ h .1 .1 .1 .1 .1 .1 .1 .1 .0 .1 .0 .1 }
 
-  -- that passes question 19
-  pub typed-sized : T (partyValid (asParty p)) → Sized (asParty p)
-  typed-sized v = record {
-    formed = record { valid = v; full = length-tied slotCount (p .levels) (p .sets) ∙ full };
+  -- and stands for a party that has what its type says
+  pub typed-party : Typed (asParty p)
+  typed-party = record {
+    levels = length-tied slotCount (p .levels) (p .sets) ∙ full;
     echoes = λ i l.
         let a = h .1 .1 .1 .1 .1 .1 .1 .0 in
         let e = each-in _ _ (p .levels) (a .0) noCodeLevel (a .1 .1) i (omega (arith, full)) in
         ap (λ (m : Level). length (m .echoed)) (level-in (voteOf p) (asPlan (p .plan)) (p .levels) (p .sets) i (omega (arith, full)))
         ∙ level-echoes (getD (p .levels) i noCodeLevel) (e .0 ∷ []) (e .1);
+    agreement = omega (arith, h .1 .1 .1 .1 .1 .0 .1);
   }
+
+  -- that passes question 19
+  pub typed-sized : T (partyValid (asParty p)) → Sized (asParty p)
+  typed-sized v = record { formed = record { valid = v; full = typed-party .levels }; echoes = typed-party .echoes }
