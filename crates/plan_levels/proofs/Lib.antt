@@ -1,0 +1,9 @@
+pub mod Levels
+pub mod Chains
+pub mod Theorem
+pub mod Rounds
+pub mod Halvings
+pub mod Ranges
+pub mod Stars
+pub mod ExampleTrees
+pub mod Examples

@@ -1,0 +1,4 @@
+pub mod Levels
+pub mod Statement
+pub mod Inner
+pub mod Examples

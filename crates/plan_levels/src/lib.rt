@@ -1,0 +1,1 @@
+// How many levels of a plan send messages. Definitions and laws for every plan, no code.

@@ -1,0 +1,4 @@
+pub mod Blocks
+pub mod BlockSizes
+pub mod BlockCentres
+pub mod Split
