@@ -106,7 +106,7 @@ module _ (p : Plan) (v : T (planValid p)) where
       go (tree i t) = tree-parts p t .most
       go (range i t) = absurd (omega arith)
 
-  tree-rows : p .kind ≡ 1 → Lent p → Rows (p .parent) (p .child) (p .count) (p .count - 1)
+  pub tree-rows : p .kind ≡ 1 → Lent p → Rows (p .parent) (p .child) (p .count) (p .count - 1)
   tree-rows k q = go (kinds p v)
     where
       go : Kinds p → Rows (p .parent) (p .child) (p .count) (p .count - 1)

@@ -8,14 +8,10 @@ use Rattle.base.specs.Found.{Found, found, refused}
 use Rattle.base.specs.declared.Verdict.{Verdict}
 use Rattle.plan.specs.Plan.{Plan}
 use Rattle.plan.specs.Reading.{PlanRead, planOf, answered}
+use Rattle.plan_reader.proofs.Answers.{verdict-refused}
 use Rattle.plan_cycle.specs.Cycle.{edgesToRejected, cycleAmong, noCycle, cycleBy, cycleOf}
 
--- the plan is refused as the verdict says
-verdict-refused : (f : Found Plan) (r : PlanRead) {number place : ℕ} → r ≡ answered f → r .verdict ≡ Verdict.Refused number place → f ≡ refused number place
-verdict-refused (found p) r e v = let i = ap (λ (q : PlanRead). q .verdict) e in let z : _≡_ {A = ℕ} 0 1 = cc in absurd (omega arith)
-verdict-refused (refused n p) r e v = let i = ap (λ (q : PlanRead). q .verdict) e in cc
-
--- or it is accepted
+-- an accepted plan gives no edges
 empty-accepted : (s : List ℕ) (f : Found Plan) (r : PlanRead) → r ≡ answered f → r .verdict ≡ Verdict.Accepted → cycleBy s f ≡ noCycle
 empty-accepted s (found p) r e v = refl
 empty-accepted s (refused n p) r e v = let i = ap (λ (q : PlanRead). q .verdict) e in let z : _≡_ {A = ℕ} 0 1 = cc in absurd (omega arith)

@@ -45,7 +45,7 @@ module _ (ins sub light : List ℕ) (s p v : ℕ) where
   unfolding cleared
   cleared-second i = rw (not-second ins p v i)
 
-and-true : (a : Bool) → a ≡ a && true
+pub and-true : (a : Bool) → a ≡ a && true
 and-true true = refl
 and-true false = refl
 
@@ -69,7 +69,7 @@ half s a =
     (λ h. let k : s < (s - a) * 2 = ltb→lt s ((s - a) * 2) h in lt→ltb (a * 2) s (omega arith))
 
 -- the row clears the marks of what it shows
-cleared-shows : (ins sub light : List ℕ) (s : ℕ) (e : Edge) → e .one < length light → e .two < length light → (x : ℕ)
+pub cleared-shows : (ins sub light : List ℕ) (s : ℕ) (e : Edge) → e .one < length light → e .two < length light → (x : ℕ)
     → marked (cleared ins sub light s (e .one) (e .two)) x ≡ marked light x && not (shows (marked ins) (λ y. getD sub y 0) s e x)
 unfolding cleared shows
 cleared-shows ins sub light s e lp lv x = go (inside (marked ins) e) ∙ ap (λ (t : Bool). marked light x && not (inside (marked ins) e && ((eqb x p && ltb s (a * 2)) || (eqb x v && t)))) (half s a)

@@ -13,7 +13,7 @@ ghost use Rattle.tree_pass.specs.Inner.{Rows};
 ghost use Rattle.tree_pass_centre.specs.Inner.{raised, Room, cleared};
 
 // What v holds goes up to p, if both are in the set.
-fn raise(ins: &[u8], sub: &mut [u8], p: usize, v: usize)
+pub fn raise(ins: &[u8], sub: &mut [u8], p: usize, v: usize)
     requires { ⌜ (p < length (now ins)) × (v < length (now ins)) × (p < length (now sub)) × (v < length (now sub)) × Room (now ins) (now sub) p v ⌝ }
     ensures { λ _. ⌜ now (sub .exit) ≡ raised (now (ins .entry)) (now (sub .entry)) p v ⌝ }
 {
@@ -25,7 +25,7 @@ fn raise(ins: &[u8], sub: &mut [u8], p: usize, v: usize)
 }
 
 // The end beyond which more than half of the s members lie loses its mark.
-fn clear(ins: &[u8], sub: &[u8], light: &mut [u8], s: usize, p: usize, v: usize)
+pub fn clear(ins: &[u8], sub: &[u8], light: &mut [u8], s: usize, p: usize, v: usize)
     requires { ⌜ (p < length (now ins)) × (v < length (now ins)) × (v < length (now sub)) × (p < length (now light)) × (v < length (now light)) ⌝ }
     ensures { λ _. ⌜ now (light .exit) ≡ cleared (now (ins .entry)) (now (sub .entry)) (now (light .entry)) s p v ⌝ }
 {

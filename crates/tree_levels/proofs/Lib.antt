@@ -1,0 +1,3 @@
+pub mod TakeOut
+pub mod RoundLaws
+pub mod LevelLaws
