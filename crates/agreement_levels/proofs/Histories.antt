@@ -41,7 +41,8 @@ use Rattle.agreement.proofs.Tied.{set-up-found}
 use Rattle.agreement.proofs.Boards.{state-records, running-state, state-formed, state-board, records-of}
 use Rattle.agreement.proofs.Steps.{start-newest, start-makes, start-posts, take-newest, take-makes, take-posts}
 use Rattle.agreement.proofs.Accepted.{can-hand}
-use Rattle.agreement_levels.specs.Alone.{aloneInstance, nobody, Own}
+use Rattle.agreement_levels.specs.Alone.{aloneInstance, nobody}
+use Rattle.agreement_levels.specs.Inner.{Own}
 
 module _ (a : ℕ) (bytes : List ℕ) (plan : Plan) (f : Shared (aloneInstance a bytes) plan) where
   abbrev v : Instance

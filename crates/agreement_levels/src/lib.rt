@@ -1,1 +1,1 @@
-// Theorems only: 65,536 positions need all fifteen levels.
+// Theorems only: which levels of a plan the boards use, on every plan; 65,536 positions need all fifteen.

@@ -71,7 +71,7 @@ module _ (p : Party) (v : Valid p) (full : length (p .levels) ≡ levelCount) wh
       go (no d) ih = ih (omega arith) (sending-entered p j (entered-before j h))
 
   -- an entered level's component is nested in those before it
-  entered-nested : (i : ℕ) → T (levelAt p i .entered) → Nested (p .plan) i (componentOf p i)
+  pub entered-nested : (i : ℕ) → T (levelAt p i .entered) → Nested (p .plan) i (componentOf p i)
   unfolding componentOf
   entered-nested zero h = whole
   entered-nested (suc i) h =

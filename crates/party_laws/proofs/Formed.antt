@@ -9,7 +9,7 @@ use Rattle.plan.specs.Plan.{Plan}
 use Rattle.plan.specs.Valid.{planValid}
 use Rattle.component.specs.Component.{sizeOf, centreOf, degreeOf, portOf}
 use Rattle.component.specs.Inner.{OfPlan}
-use Rattle.component_laws.proofs.Laws.{centre-in}
+use Rattle.component_laws.proofs.Laws.{centre-in, Nested}
 use Rattle.message.specs.declared.Message.{Message}
 use Rattle.message.specs.Message.{inTable}
 use Rattle.level.specs.Level.{notYet, noOutput, blankLevel}
@@ -87,6 +87,10 @@ module _ (p : Party) (w : Formed p) where
     degree = components.level-degree p v (w .full) i;
     port = components.entered-port p v (w .full) i h;
   }
+
+  -- its component is nested in those before it
+  pub entered-nested : (i : ℕ) → T (levelAt p i .entered) → Nested (p .plan) i (componentOf p i)
+  entered-nested i h = components.entered-nested p v (w .full) i h
 
   pub sending-level : (i : ℕ) → T (sending p i) → SendingLevel p i
   sending-level i h =

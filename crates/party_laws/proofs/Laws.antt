@@ -25,7 +25,7 @@ pub use Rattle.party_laws.proofs.Formed.{EnteredLevel, SendingLevel}
 -- levels that send are a prefix, and so are those that are entered; the level before an entered one sends
 pub use Rattle.party_laws.proofs.Formed.{sending-before, entered-before, entered-down}
 -- what is known of each level
-pub use Rattle.party_laws.proofs.Formed.{level-holds, first-limit, result-limit, level-limits, entered-level, sending-level, position-output, context-centre}
+pub use Rattle.party_laws.proofs.Formed.{level-holds, first-limit, result-limit, level-limits, entered-level, entered-nested, sending-level, position-output, context-centre}
 -- ---- question 19 is kept
 
 pub use Rattle.party_laws.proofs.Formed.{formed-new, formed-hearing, formed-entered, formed-step, formed-runs, formed-run, formed-starting, formed-taking}
