@@ -1,0 +1,6 @@
+pub mod Bodies
+pub mod Echoes
+pub mod Messages
+pub mod Once
+pub mod Theorem
+pub mod Tied

@@ -1,0 +1,4 @@
+pub mod Spent
+pub mod Made
+pub mod Once
+pub mod Examples
