@@ -1,11 +1,28 @@
 // What the two implementations gave is compared.
 use random_calls::number_of;
 use random_calls::place_of;
+use random_calls::wide;
 use random_plans_draw::state;
 use random_plans_draw::state::State;
 use second_cycle::cycle;
 use second_cycle::cycle::Cycle;
 use second_cycle::sets;
+use second_levels::Bound;
+
+// Whether verdicts, levels and messages are the same.
+pub fn is_same_bound(first: plan_messages::Bound, second: Bound) -> bool {
+    let v = first.verdict;
+    if number_of(v) != wide(second.number) {
+        return false;
+    }
+    if place_of(v) != second.place {
+        return false;
+    }
+    if wide(first.levels) != second.levels {
+        return false;
+    }
+    wide(first.messages) == second.messages
+}
 
 // A column of the library's cycle.
 type Column = [u16; base::MAX_ROWS];

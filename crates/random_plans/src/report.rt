@@ -10,15 +10,22 @@ pub fn write_seed(s: &State) {
     line(s, b"seed", state::SEED);
 }
 
-// The plans.
-fn write_plans(s: &State) {
-    line(s, b"plans", state::PLANS);
+// The plans, after a name of them.
+fn write_plans(s: &State, words: &[u8]) {
+    line(s, words, state::PLANS);
     row(
         s,
         b"accepted or refused by question:",
         state::REFUSED,
         0,
         12,
+    );
+    row(
+        s,
+        b"plans that pass by sending levels:",
+        state::SENDING,
+        0,
+        16,
     );
 }
 
@@ -57,9 +64,15 @@ fn write_cycles(s: &State) {
     );
 }
 
+// The run of plans that pass.
+pub fn write_passing(s: &State, words: &[u8]) {
+    write_plans(s, words);
+    line(s, b"differences", state::DIFFERENCES);
+}
+
 // The run.
 pub fn write(s: &State) {
-    write_plans(s);
+    write_plans(s, b"plans");
     write_lengths(s);
     write_cycles(s);
 }

@@ -1,4 +1,4 @@
-// What is counted of plans and of their cycles.
+// What is counted of plans, of their cycles and of their levels.
 use random_plans_draw::state;
 use random_plans_draw::state::State;
 use second_cycle::cycle;
@@ -61,5 +61,12 @@ pub fn count(s: &mut State, c: &Cycle) {
     state::count(s, state::REFUSED, cycle::number(c));
     if 0 < length {
         count_cycle(s, c, length);
+    }
+}
+
+// A plan that passes is counted by its sending levels.
+pub fn count_levels(s: &mut State, number: u32, levels: usize) {
+    if number == 0 {
+        state::count(s, state::SENDING, levels);
     }
 }

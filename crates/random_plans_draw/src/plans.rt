@@ -58,15 +58,25 @@ fn draw_shape(s: &mut State) {
     draw_edges(s);
 }
 
-// A tree, mostly with cycles, in the room; its length.
-fn draw_tree(s: &mut State, room: &mut Room) -> usize {
-    let count = vertices(s);
+// So many vertices, and no edges.
+pub fn begin(s: &mut State, count: usize) {
     state::set(s, state::VERTICES, count);
     state::set(s, state::EDGES, 0);
-    draw_shape(s);
+}
+
+// The tree drawn gets names and an order, and is written into the room; its length.
+pub fn spell(s: &mut State, room: &mut Room) -> usize {
     names::draw(s);
     order::draw(s);
     write::tree(s, room)
+}
+
+// A tree, mostly with cycles, in the room; its length.
+fn draw_tree(s: &mut State, room: &mut Room) -> usize {
+    let count = vertices(s);
+    begin(s, count);
+    draw_shape(s);
+    spell(s, room)
 }
 
 // Any plan in the room; its length.

@@ -4,8 +4,20 @@ use crate::state;
 use crate::state::State;
 use second_wire::num;
 
+// The shapes with one vertex of many edges: all of them, or the last fifteen at most.
+pub const STAR: usize = 5;
+
+pub const BROOM: usize = 6;
+
+// The vertex to which the one after the last is joined in a broom: the last or, from there on, that to
+// which the last fourteen are joined.
+fn handle(s: &State, last: usize) -> usize {
+    let end = num::less(state::get(s, state::VERTICES), 15);
+    num::less(last, num::less(last, end))
+}
+
 // The vertex to which vertex k is joined: a path; near to one; any tree; two at each; fifteen edges
-// at each; a star.
+// at each; a star; a broom.
 fn parent(s: &mut State, shape: usize, k: usize) -> usize {
     let last = num::less(k, 1);
     let back = state::below(s, 4);
@@ -16,7 +28,8 @@ fn parent(s: &mut State, shape: usize, k: usize) -> usize {
         2 => any,
         3 => last / 2,
         4 => last / 14,
-        _ => 0,
+        STAR => 0,
+        _ => handle(s, last),
     }
 }
 

@@ -37,10 +37,12 @@ pub const SMALL: usize = 14;
 pub const DIFFERENCES: usize = 15;
 
 // From here: plans by the number of their refusal, 0 where they were accepted; cycles by the binary
-// digits of their length.
+// digits of their length; accepted plans by the number of their sending levels.
 pub const REFUSED: usize = 32;
 
 pub const LENGTHS: usize = 64;
+
+pub const SENDING: usize = 96;
 
 // From here: the first and the second ends of the edges drawn; the names of vertices.
 pub const ONE: usize = 512;

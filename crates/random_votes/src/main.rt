@@ -13,6 +13,7 @@ use random_buffers::Out;
 use random_votes_draw::draw;
 use random_votes_judge::demand;
 use random_votes_judge::judge;
+use random_votes_rules::messages;
 use random_votes_state::call;
 use random_votes_state::call::Journals;
 use random_votes_state::state;
@@ -94,6 +95,7 @@ fn run(s: &mut State, journals: &mut Journals, out: &mut Out) {
 fn run_votes(s: &mut State, journals: &mut Journals, out: &mut Out) {
     for _ in 0..VOTES {
         draw::draw(s);
+        messages::keep_sending(s);
         run(s, journals, out);
         state::count(s, state::VOTES);
     }

@@ -135,7 +135,7 @@ fn write_messages(s: &State) {
     row(s, b"lies taken by level:", state::LIES_TAKEN, 0, 15);
 }
 
-// What else happened, and how votes ended.
+// What else happened, how votes ended, and how many messages sound boards made: the last count must be 0.
 fn write_ends(s: &State) {
     let places = [
         state::TWO_TONGUED,
@@ -147,6 +147,8 @@ fn write_ends(s: &State) {
         state::LOST,
         state::ANSWERS,
         state::SPLIT_VOTES,
+        state::MOST_MESSAGES,
+        state::BEYOND,
     ];
     lines(
         s,
@@ -158,7 +160,9 @@ fn write_ends(s: &State) {
         torn records dropped\n\
         starts lost\n\
         answers\n\
-        votes with answers one edge apart",
+        votes with answers one edge apart\n\
+        messages of a sound board at one level at most\n\
+        messages beyond 7 at a level, or beyond the plan's levels",
         &places,
     );
 }

@@ -1,4 +1,5 @@
-// Which rules a start or take applied, read off the library's party before and after it: each rule leaves its own mark in a level's record, once, but for rule 6.
+// Which rules a start or take applied, read off the library's party before and after it: each rule leaves its own mark in a level's record, once, but for rule 6. And how many messages its levels made.
+pub mod messages;
 pub mod traces;
 
 use level::Level;
@@ -71,7 +72,7 @@ fn count_reach(s: &mut State, i: usize, old: Level, new: Level) {
     count_grade(s, old, new);
 }
 
-// Level i of a seat whose party was p and is q: its rules and, for a board, what it reached.
+// Level i of a seat whose party was p and is q: its rules and messages and, for a board, what it reached. A last level has no next one.
 fn count_at(s: &mut State, p: Party, q: Party, i: usize, seat: usize) {
     if i < 16 {
         let old = p.levels[i];
@@ -83,6 +84,9 @@ fn count_at(s: &mut State, p: Party, q: Party, i: usize, seat: usize) {
             let old_next = p.levels[i + 1];
             let next = q.levels[i + 1];
             count_level(s, old, new, old_next, next);
+            messages::count(s, i, seat, old, new, old_next, next);
+        } else {
+            messages::count(s, i, seat, old, new, old, new);
         }
     }
 }

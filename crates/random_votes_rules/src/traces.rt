@@ -11,7 +11,7 @@ fn there(value: u8) -> usize {
 }
 
 // How many second echoes the level made.
-fn echoes(l: Level) -> usize {
+pub fn echoes(l: Level) -> usize {
     let mut count = 0;
     for w in 0usize..17 {
         count = num::add(count, l.echoed[w] as usize);
@@ -32,6 +32,14 @@ pub fn of(l: Level, rule: usize) -> usize {
         11 => l.told_centre as usize,
         _ => 0,
     }
+}
+
+// Has the level a result other than none?
+pub fn is_graded(l: Level) -> bool {
+    if l.result == NONE {
+        return false;
+    }
+    l.result != level::NOT_YET
 }
 
 // The result's grade.

@@ -238,6 +238,13 @@ pub const JOURNALS_ABOVE: usize = 2832;
 // How many bytes of the message there are up to the end of its last spoilt field.
 pub const SPOILT_LENGTH: usize = 2833;
 
+// How many levels of the vote's plan send. Over the whole run, of sound boards: the most different messages at a level, and how many were beyond 7 there or at levels beyond the plan's.
+pub const SENDING: usize = 2834;
+
+pub const MOST_MESSAGES: usize = 2835;
+
+pub const BEYOND: usize = 2836;
+
 // The plan's bytes, and those of a plan that may be damaged.
 pub const PLAN: usize = 4096;
 

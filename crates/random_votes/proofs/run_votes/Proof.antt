@@ -16,6 +16,9 @@ loop-holds c = search needs
 draw-requires : tie.Need-draw-requires Inv-loop μ-loop
 draw-requires c κs = search needs
 
+keep-sending-requires : tie.Need-keep-sending-requires Inv-loop μ-loop
+keep-sending-requires c κs = search needs
+
 run-requires : tie.Need-run-requires Inv-loop μ-loop
 run-requires c κs = search needs
 
@@ -42,6 +45,7 @@ run-votes-spec =
     μ-loop
     loop-holds
     draw-requires
+    keep-sending-requires
     run-requires
     count-requires
     add-counter
