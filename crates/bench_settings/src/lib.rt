@@ -1,17 +1,9 @@
-// The settings of a vote, the plan that a range makes, and readings of the script as numbers.
+// The settings of a vote, and readings of the script as numbers.
+use range_plan::Fields;
+use range_plan::PLAN_SIZE;
 use script_numbers::Reading;
 ghost use mathlib.Core.Path.{_≡_};
-ghost use lib.ListN.{length};
-ghost use Rattle.base.specs.Put.{putAt};
-ghost use Rattle.signed.specs.Signed as Signed;
-ghost use Rattle.io.specs.Counts.{Counts};
-ghost use Rattle.bench_settings.specs.Settings.{integer, rangePlan};
-
-// The longest plan of a range: its kind, and two varints.
-const PLAN: usize = 11;
-
-// The largest number that a varint holds.
-const MOST: u64 = base::MAX_NUMBER as u64;
+ghost use Rattle.range_plan.specs.Range.{integer};
 
 // What the settings lines said.
 pub struct Settings {
@@ -44,35 +36,11 @@ fn passes(n: u32, t: u32, plan: &[u8]) -> bool {
     accepted(v)
 }
 
-// The plan of a range is written; its length.
-fn write_plan(out: &mut [u8; PLAN], low: u32, width: u32) -> usize
-    ensures { λ r. ⌜ Counts r (now (out .exit)) ⌝ }
-    ensures { λ r. ⌜ (r ≡ length (rangePlan low width)) × (now (out .exit) ≡ putAt (now (out .entry)) 0 (rangePlan low width)) ⌝ }
-{
-    let a = varint::put(out, 0, 2);
-    let b = varint::put(out, a, low);
-    varint::put(out, b, width)
-}
-
 // Does one board on this range pass?
 fn range_passes(low: u32, width: u32) -> bool {
-    let mut plan = [0u8; PLAN];
-    let end = write_plan(&mut plan, low, width);
+    let mut plan = [0u8; PLAN_SIZE];
+    let end = range_plan::write_plan(&mut plan, low, width);
     passes(1, 0, &plan[..end])
-}
-
-// The number whose varint stands for a reading: 2z, or -2z-1 of a negative z.
-fn zigzag(r: Reading) -> u64
-    ensures { λ v. ⌜ v ≡ Signed.zigzag (integer r) ⌝ }
-{
-    let m = r.magnitude as u64;
-    if m == 0 {
-        return 0;
-    }
-    if r.negative {
-        return 2 * m - 1;
-    }
-    2 * m
 }
 
 // A reading as a start takes it.
@@ -87,15 +55,6 @@ pub fn value(r: Reading) -> i64
         return -1 - (m - 1) as i64;
     }
     m as i64
-}
-
-// A reading plus 2^32.
-fn raised(r: Reading) -> u64 {
-    let m = r.magnitude as u64;
-    if r.negative {
-        return 4294967296 - m;
-    }
-    4294967296 + m
 }
 
 impl Settings {
@@ -133,20 +92,9 @@ impl Settings {
 
     // `range low high`, if low and width have varints and one board on the range passes.
     pub fn with_range(self, low: Reading, high: Reading) -> Settings {
-        let z = zigzag(low);
-        let a = raised(low);
-        let b = raised(high);
-        if MOST < z {
+        let Fields::Varints { low: least, width } = range_plan::fields_of(low, high) else {
             return self;
-        }
-        if b < a {
-            return self;
-        }
-        if MOST < b - a {
-            return self;
-        }
-        let least = z as u32;
-        let width = (b - a) as u32;
+        };
         if !range_passes(least, width) {
             return self;
         }
@@ -170,8 +118,8 @@ impl Settings {
 
     // A board, or no party: where a setting is missing, and past the last board.
     pub fn set_up(self, own: u32) -> party::Party {
-        let mut plan = [0u8; PLAN];
-        let end = write_plan(&mut plan, self.low, self.width);
+        let mut plan = [0u8; PLAN_SIZE];
+        let end = range_plan::write_plan(&mut plan, self.low, self.width);
         let r = board::set_up(self.boards(), self.t, own, self.agreement, &plan[..end]);
         r.party
     }

@@ -1,4 +1,5 @@
-// For an installer: each drawing on standard input is made a plan; its bytes are printed, or why it is refused.
+// For an installer: each drawing of a tree on standard input, and each range, is made a plan; its bytes are printed and how busy a vote on it makes the
+// wire, or why it is refused.
 use drawing::Ends;
 use drawing::Lines;
 use input::BYTES;

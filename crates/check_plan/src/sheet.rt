@@ -4,6 +4,7 @@ use crate::report;
 use drawing::Ends;
 use drawing::Lines;
 use drawing_lines::Said;
+use script_numbers::Reading;
 
 // How many lines and drawings there are, and the drawing that is being read: its first line, 0 where none is being read; the first line of it that cannot be
 // read, or 0; and how many edges it has, whose lines and ends are in the columns that the caller lends.
@@ -35,12 +36,8 @@ impl Sheet {
         }
     }
 
-    // A line without words ends the drawing, if there is one.
-    fn ended(self, lines: &Lines, one: &Ends, two: &Ends) -> Sheet {
-        if self.first == 0 {
-            return self;
-        }
-        report::print_report(self, lines, one, two);
+    // No drawing is being read.
+    fn cleared(self) -> Sheet {
         Sheet {
             at: self.at,
             drawings: self.drawings,
@@ -48,6 +45,15 @@ impl Sheet {
             unreadable: 0,
             count: 0,
         }
+    }
+
+    // A line without words ends the drawing, if there is one.
+    fn ended(self, lines: &Lines, one: &Ends, two: &Ends) -> Sheet {
+        if self.first == 0 {
+            return self;
+        }
+        report::print_report(self, lines, one, two);
+        self.cleared()
     }
 
     // This line belongs to a drawing.
@@ -76,6 +82,13 @@ impl Sheet {
         next
     }
 
+    // This line has the two readings of a range, which is a drawing by itself: the drawing before it ends, if there is one.
+    fn ranged(self, low: Reading, high: Reading, lines: &Lines, one: &Ends, two: &Ends) -> Sheet {
+        let next = self.ended(lines, one, two).begun();
+        report::print_range(next, range_plan::fields_of(low, high));
+        next.cleared()
+    }
+
     // After a line.
     fn told(self, said: Said, lines: &mut Lines, one: &mut Ends, two: &mut Ends) -> Sheet {
         let mut next = self;
@@ -83,6 +96,7 @@ impl Sheet {
         match said {
             Said::Nothing => next.ended(lines, one, two),
             Said::Edge(a, b) => next.begun().with_edge(lines, one, two, a, b),
+            Said::Range(low, high) => next.ranged(low, high, lines, one, two),
             Said::Unreadable => next.begun().spoilt(),
         }
     }

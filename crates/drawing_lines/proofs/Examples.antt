@@ -1,7 +1,11 @@
 -- What some lines say.
 use mathlib.Core.Path.{_≡_, refl}
+use mathlib.Core.Bool.{true, false}
 use mathlib.Core.List.{List, [], _∷_, _++_}
 use Prim.Native.Nat.{ℕ}
+use Rattle.script_commands.specs.declared.Command.the-variants.{Range, Start}
+use Rattle.script_commands.specs.Commands.{spelling, same, commandOf}
+use Rattle.script_numbers.specs.declared.Reading.{Reading}
 use Rattle.script_numbers.specs.Numbers.{allDigits, valueFrom}
 use Rattle.script_words.specs.Words.{wordsFrom}
 use Rattle.drawing_lines.specs.declared.Said.{Said}
@@ -15,6 +19,12 @@ pub record Sample : Type 0 where
 infix 70 _is_
 abbrev pub _is_ : List ℕ → Said → Sample
 s is r = record { line = s; said = r }
+
+abbrev plus : ℕ → Reading
+plus m = record { negative = false; magnitude = m }
+
+abbrev minus : ℕ → Reading
+minus m = record { negative = true; magnitude = m }
 
 -- ten digits, 4294967290 and more
 abbrev large : ℕ → List ℕ
@@ -37,6 +47,16 @@ samples =
     ∷ (49 ∷ 32 ∷ 45 ∷ 50 ∷ []) is Said.Unreadable
     ∷ (45 ∷ 48 ∷ 32 ∷ 50 ∷ []) is Said.Unreadable
     ∷ (49 ∷ 32 ∷ 120 ∷ []) is Said.Unreadable
+    -- `range -5 3`, `range 3 -5`; two tabs, a blank and a carriage return
+    ∷ (spelling Range ++ (32 ∷ 45 ∷ 53 ∷ 32 ∷ 51 ∷ [])) is Said.Range (minus 5) (plus 3)
+    ∷ (spelling Range ++ (32 ∷ 51 ∷ 32 ∷ 45 ∷ 53 ∷ [])) is Said.Range (plus 3) (minus 5)
+    ∷ (9 ∷ spelling Range ++ (9 ∷ 48 ∷ 55 ∷ 32 ∷ 56 ∷ 13 ∷ [])) is Said.Range (plus 7) (plus 8)
+    -- `range`, `range 1`, `range 1 2 3`, `range 1 x`, `start 1 2`
+    ∷ spelling Range is Said.Unreadable
+    ∷ (spelling Range ++ (32 ∷ 49 ∷ [])) is Said.Unreadable
+    ∷ (spelling Range ++ (32 ∷ 49 ∷ 32 ∷ 50 ∷ 32 ∷ 51 ∷ [])) is Said.Unreadable
+    ∷ (spelling Range ++ (32 ∷ 49 ∷ 32 ∷ 120 ∷ [])) is Said.Unreadable
+    ∷ (spelling Start ++ (32 ∷ 49 ∷ 32 ∷ 50 ∷ [])) is Said.Unreadable
     ∷ []
 
 abbrev pub expected : List Sample → List Said
@@ -48,5 +68,5 @@ read [] = []
 read (s ∷ rest) = says (s .line) ∷ read rest
 
 pub all-read : read samples ≡ expected samples
-unfolding wordsFrom allDigits valueFrom
+unfolding same commandOf wordsFrom allDigits valueFrom
 all-read = refl

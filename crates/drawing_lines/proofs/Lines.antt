@@ -5,9 +5,14 @@ use mathlib.Core.List.{List, [], _∷_, _++_}
 use mathlib.Core.Option.{Option, none, some}
 use Prim.Native.Nat.{ℕ}
 use Rattle.base.specs.Pick.{pick}
+use Rattle.script_commands.specs.declared.Command.{Command}
+use Rattle.script_commands.specs.declared.Command.the-variants.{Unknown, Boards, Agreement, Range, Start, Give}
+use Rattle.script_commands.specs.Commands.{commandOf}
+use Rattle.script_commands.specs.Inner.{noKeyword, commandNamed}
+use Rattle.script_commands.proofs.Keywords.{keywordFrom, keyword-more, keyword-named}
 use Rattle.script_numbers.specs.declared.Number.{Number}
 use Rattle.script_numbers.specs.declared.Reading.{Reading}
-use Rattle.script_numbers.specs.Inner.{noNumber, isNumber}
+use Rattle.script_numbers.specs.Inner.{noNumber, isNumber, readingOf}
 use Rattle.script_numbers.proofs.Numbers.{numberFrom, number-more, readNumber, number-read}
 use Rattle.script_words.specs.Words.{isBlank}
 use Rattle.script_words.specs.Scan.{upTo}
@@ -16,24 +21,36 @@ use Rattle.script_words.proofs.Scan.{read-more}
 use Rattle.drawing_lines.specs.declared.Line.{Line}
 use Rattle.drawing_lines.specs.declared.Said.{Said}
 use Rattle.drawing_lines.specs.declared.Scanned.{Scanned}
-use Rattle.drawing_lines.specs.Lines.{vertex, saidBy, says}
-use Rattle.drawing_lines.specs.Inner.{noLine, isVertex, lineWith, lineFrom, lineSaid, Tells, scanned, Scans}
+use Rattle.drawing_lines.specs.Lines.{vertex, reading, rangeBy, saidBy, says}
+use Rattle.drawing_lines.specs.Inner.{noLine, isVertex, isRange, lineWith, lineFrom, lineSaid, Tells, scanned, Scans}
 
 -- ---- a line of some words
 
--- how many there are; 3 stands for more
+-- how many there are; 4 stands for more
 abbrev howMany : List (List ℕ) → ℕ
 howMany [] = 0
 howMany (x ∷ []) = 1
 howMany (x ∷ y ∷ []) = 2
-howMany (x ∷ y ∷ z ∷ ws) = 3
+howMany (x ∷ y ∷ z ∷ []) = 3
+howMany (x ∷ y ∷ z ∷ u ∷ ws) = 4
+
+-- a word as the command and as the number that it is read as
+abbrev key : List ℕ → Command
+key w = commandNamed (keywordFrom noKeyword w)
 
 abbrev num : List ℕ → Number
 num w = numberFrom noNumber w
 
 -- the line of these words
 abbrev lineOf : List (List ℕ) → Bool → Line
-lineOf ws inside = record { words = howMany ws; inside = inside; first = num (wordAt ws 0); second = num (wordAt ws 1) }
+lineOf ws inside = record {
+  words = howMany ws;
+  inside = inside;
+  keyword = keywordFrom noKeyword (wordAt ws 0);
+  first = num (wordAt ws 0);
+  second = num (wordAt ws 1);
+  third = num (wordAt ws 2);
+}
 
 -- ---- a byte more
 
@@ -42,18 +59,21 @@ unfolding lineWith
 blank-with ws inside b e = rw e
 
 byte-begins : (ws : List (List ℕ)) (b : ℕ) → isBlank b ≡ false → lineWith (lineOf ws false) b ≡ lineOf (ws ++ ((b ∷ []) ∷ [])) true
-unfolding lineWith numberFrom
+unfolding lineWith keywordFrom numberFrom
 byte-begins [] b e = rw e
 byte-begins (x ∷ []) b e = rw e
 byte-begins (x ∷ y ∷ []) b e = rw e
-byte-begins (x ∷ y ∷ z ∷ ws) b e = rw e
+byte-begins (x ∷ y ∷ z ∷ []) b e = rw e
+byte-begins (x ∷ y ∷ z ∷ u ∷ ws) b e = rw e
 
 byte-follows : (ws : List (List ℕ)) (w : List ℕ) (b : ℕ) → isBlank b ≡ false → lineWith (lineOf (ws ++ (w ∷ [])) true) b ≡ lineOf (ws ++ ((w ++ (b ∷ [])) ∷ [])) true
 unfolding lineWith
-byte-follows [] w b e = rw (e, number-more noNumber w b)
+byte-follows [] w b e = rw (e, keyword-more noKeyword w b, number-more noNumber w b)
 byte-follows (x ∷ []) w b e = rw (e, number-more noNumber w b)
-byte-follows (x ∷ y ∷ []) w b e = rw e
-byte-follows (x ∷ y ∷ z ∷ ws) w b e = rw e
+byte-follows (x ∷ y ∷ []) w b e = rw (e, number-more noNumber w b)
+byte-follows (x ∷ y ∷ z ∷ []) w b e = rw e
+byte-follows (x ∷ y ∷ z ∷ u ∷ []) w b e = rw e
+byte-follows (x ∷ y ∷ z ∷ u ∷ v ∷ ws) w b e = rw e
 
 -- ---- what the line says
 
@@ -71,17 +91,37 @@ two-say x y = go (isNumber x) (x .negative) (isNumber y) (y .negative)
     go true false true true = refl
     go true false true false = refl
 
+-- a word that is read as the command c, and two that are read as the numbers x and y
+three-say : (c : Command) (x y : Number) → pick (isRange c && (isNumber x && isNumber y)) (Said.Range (readingOf x) (readingOf y)) Said.Unreadable
+    ≡ rangeBy c (readNumber x) (readNumber y)
+three-say Unknown x y = refl
+three-say Boards x y = refl
+three-say Agreement x y = refl
+three-say Range x y = go (isNumber x) (isNumber y)
+  where
+    go : (t u : Bool) → pick (t && u) (Said.Range (readingOf x) (readingOf y)) Said.Unreadable
+        ≡ reading (pick t (some (readingOf x)) none) (λ low. reading (pick u (some (readingOf y)) none) (λ high. Said.Range low high))
+    go false u = refl
+    go true false = refl
+    go true true = refl
+three-say Start x y = refl
+three-say Give x y = refl
+
 line-says : (ws : List (List ℕ)) (inside : Bool) → lineSaid (lineOf ws inside) ≡ saidBy ws
 unfolding lineSaid
 line-says [] inside = refl
 line-says (x ∷ []) inside = refl
 line-says (x ∷ y ∷ []) inside =
     two-say (num x) (num y) ∙ ap₂ (λ (p q : Option Reading). vertex p (λ a. vertex q (λ b. Said.Edge a b))) (number-read x) (number-read y)
-line-says (x ∷ y ∷ z ∷ ws) inside = refl
+line-says (k ∷ x ∷ y ∷ []) inside =
+    three-say (key k) (num x) (num y)
+    ∙ ap (λ (c : Command). rangeBy c (readNumber (num x)) (readNumber (num y))) (keyword-named k)
+    ∙ ap₂ (rangeBy (commandOf k)) (number-read x) (number-read y)
+line-says (k ∷ x ∷ y ∷ z ∷ ws) inside = refl
 
 -- what is read of a line's bytes is what the line says
 reads : (s : List ℕ) → lineSaid (lineFrom noLine s) ≡ says s
-unfolding numberFrom
+unfolding keywordFrom numberFrom
 reads s = words-read lineOf lineWith lineSaid saidBy blank-with byte-begins byte-follows line-says [] [] s
 
 pub tells : (l : Line) {r : Said} → r ≡ lineSaid l → Tells l r

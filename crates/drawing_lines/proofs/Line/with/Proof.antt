@@ -21,9 +21,15 @@ with-if-requires c κs = search needs
 with-if-requires-2 : tie.Need-with-if-requires-2
 with-if-requires-2 c κs = search needs
 
+with-if-requires-3 : tie.Need-with-if-requires-3
+with-if-requires-3 c κs = search needs
+
+with-if-requires-4 : tie.Need-with-if-requires-4
+with-if-requires-4 c κs = search needs
+
 returns-2 : tie.Need-returns-2
 unfolding lineWith
-returns-2 c = rw (sym (c .before .before .before .before .is-blank .ensures) ∙ c .before .before .before .if1 .left, c .before .with-if .ensures, c .with-if2 .ensures, c .before .before .word .ensures)
+returns-2 c = rw (sym (c .before .before .before .before .before .before .is-blank .ensures) ∙ c .before .before .before .before .before .if1 .left, c .before .before .before .with-if .ensures, c .before .before .with-if2 .ensures, c .before .with-if3 .ensures, c .with-if4 .ensures, c .before .before .before .before .word .ensures)
 
 pub with-spec : {M : Type 1} → statement M
 with-spec =
@@ -34,4 +40,6 @@ with-spec =
     word-requires
     with-if-requires
     with-if-requires-2
+    with-if-requires-3
+    with-if-requires-4
     returns-2)

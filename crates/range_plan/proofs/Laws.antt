@@ -8,7 +8,7 @@ use lib.IntN.{pos, negsuc, negℤ}
 use Rattle.base.specs.Pick.{pick}
 use Rattle.varint.specs.Varint.{pieces, varintBytes}
 use Rattle.script_numbers.specs.declared.Reading.{Reading}
-use Rattle.bench_settings.specs.Settings.{integer}
+use Rattle.range_plan.specs.Range.{integer}
 
 -- ---- the number of a reading
 

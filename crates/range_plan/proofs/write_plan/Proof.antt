@@ -1,4 +1,4 @@
--- `bench_settings::write_plan` meets its contract.
+-- `range_plan::write_plan` meets its contract.
 use mathlib.Core.List.{List, _++_}
 use Prim.Native.Nat.{ℕ}
 use native.Mathlib.Omega.{arith}
@@ -8,9 +8,9 @@ use Rattle.base.proofs.Puts.{then-put}
 use Rattle.varint.specs.Varint.{varintBytes}
 use Rattle.varint.proofs.Lengths.{length-limits}
 use Rattle.io.proofs.Counting.{counts}
-use Rattle.bench_settings.proofs.Laws.{kind-short}
-use Rattle.bench_settings.proofs.write_plan.Statement.{statement}
-use Rattle.bench_settings.proofs.write_plan.Tie as tie
+use Rattle.range_plan.proofs.Laws.{kind-short}
+use Rattle.range_plan.proofs.write_plan.Statement.{statement}
+use Rattle.range_plan.proofs.write_plan.Tie as tie
 
 put-requires : tie.Need-put-requires
 put-requires c κs = omega (arith, kind-short)

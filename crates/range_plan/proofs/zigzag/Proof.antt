@@ -1,9 +1,9 @@
--- `bench_settings::zigzag` meets its contract.
+-- `range_plan::zigzag` meets its contract.
 use native.Mathlib.Omega.{arith}
-use Rattle.bench_settings.proofs.Laws.{integer-zero, integer-negative, integer-positive}
+use Rattle.range_plan.proofs.Laws.{integer-zero, integer-negative, integer-positive}
 use borrow.Author.Needs.{needs}
-use Rattle.bench_settings.proofs.zigzag.Statement.{statement}
-use Rattle.bench_settings.proofs.zigzag.Tie as tie
+use Rattle.range_plan.proofs.zigzag.Statement.{statement}
+use Rattle.range_plan.proofs.zigzag.Tie as tie
 
 cast-m : tie.Need-cast-m
 cast-m c = search needs
