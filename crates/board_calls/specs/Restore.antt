@@ -1,4 +1,5 @@
--- "Restore gives the party of the whole records, in order, their length in bytes, and the messages of the last whole record again."
+-- "Restore gives the party of the whole records, in order, their length in bytes"; document 02, Q-5: it "hands over every message of the whole records'
+-- history, each once, in the first order".
 use mathlib.Core.List.{List}
 use Prim.Native.Nat.{ℕ, zero, suc}
 use lib.Dec.{leb, eqb}
@@ -29,7 +30,6 @@ pub record Replay : Type 0 where
   pub used : ℕ
 
 -- the records from `at` on, at most f; "A torn last record .. is dropped"
-
 unfoldable pub replayFrom : ℕ → List ℕ → ℕ → Ran → Found Replay
 replayFrom zero j at r = found (record { ran = r; used = at })
 replayFrom (suc f) j at r = pick (leb (length j) at) (found (record { ran = r; used = at })) (go (recordAt j at) (λ next q. replayFrom f j next q))
@@ -59,6 +59,7 @@ restoredOf (found r) = record {
 }
 restoredOf (refused number place) = record { verdict = Verdict.Refused number place; party = noParty; used = 0; sent = 0; rules = 0 }
 
+-- the outgoing buffer after it: the messages from the first byte on, and no other byte changed
 abbrev pub restoreOutgoing : List ℕ → Found Replay → List ℕ
 restoreOutgoing out (found r) = putAt out 0 (bytesOf (r .ran .made))
 restoreOutgoing out (refused number place) = out

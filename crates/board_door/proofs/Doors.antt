@@ -3,9 +3,11 @@ use mathlib.Core.Path.{_≡_, sym, ap, _∙_, subst, subst₂}
 use mathlib.Core.Bool.{Bool, true}
 use mathlib.Core.List.{List}
 use Prim.Native.Nat.{ℕ, _+_, _≤_}
+use native.Mathlib.Nat.{zero-add}
+use native.Mathlib.Omega.{arith}
 use lib.Dec.{T}
 use lib.ListN.{length}
-use Rattle.base.specs.Limits.{maxRows, maxBoards}
+use Rattle.base.specs.Limits.{maxRows, maxBoards, lastLevel}
 use Rattle.base.specs.declared.Verdict.{Verdict}
 use Rattle.base.specs.Put.{putAt}
 use Rattle.base.specs.Found.{Found}
@@ -25,10 +27,12 @@ use Rattle.party.specs.Tie.{voteOf, partyIn, asParty}
 use Rattle.party.specs.Inner.{Charts}
 use Rattle.party_laws.proofs.Valid.{valid→}
 use Rattle.party_life.specs.Life.{replayed, Fits}
+use Rattle.party_bounds.proofs.Laws.{Sized, replayed-within}
 use Rattle.party_run.specs.declared.Ran as CodeRan
-use Rattle.party_run.specs.Inner.{Ready, asOutcome, Gives}
+use Rattle.party_run.specs.Inner.{Ready, Room, asOutcome, Gives}
 use Rattle.board_calls.specs.Calls.{Entry, calledOf, journalAfter, outgoingAfter}
 use Rattle.board_calls.specs.Results.{CallGives}
+use Rattle.board_laws.proofs.Replays.{outgoing-most}
 use Rattle.board_questions.specs.declared.Asked.{Asked}
 use Rattle.board_questions.specs.Inner.{foundBy, Recordable, Asks}
 use Rattle.board_door.specs.declared.Carried.{Carried}
@@ -40,12 +44,13 @@ boards-most p e i = valid→ p (true→T (sym e ∙ i)) .settings .most
 
 -- ---- what was found is carried out
 
--- it asks for what the record and the chart say
-pub carried-asks : {p : Party} {chart : Chart} {ports : List ℕ} {room used out : ℕ} {a : Asked} {r : Record} → a ≡ Asked.Fresh r
-    → Carriable p chart ports room used out a → Ready p chart ports out × Fits p r × (used + length (recordBytes r) ≤ room)
-carried-asks {p} {chart} {ports} {room} {used} {out} e h =
+-- it asks for what the record and the chart say; all that a call can make fits the outgoing buffer
+pub carried-asks : {p : Party} {chart : Chart} {ports : List ℕ} {room used out : ℕ} {a : Asked} {r : Record} → a ≡ Asked.Fresh r → (T (partyValid p) → Sized p)
+    → Carriable p chart ports room used out a → Ready p chart ports × Room (replayed p r) 0 out × Fits p r × (used + length (recordBytes r) ≤ room)
+carried-asks {p} {chart} {ports} {room} {used} {out} {r = r} e z h =
     let f = subst (Recordable p room used out) e (h .fits) in
-    (record { valid = f .0; rows = h .charted (f .0) .0; charts = h .charted (f .0) .1; room = f .1 }, f .2, f .3)
+    let w = replayed-within (lastLevel + 1) (omega arith) p (z (f .0)) r (f .2) in
+    (record { valid = f .0; rows = h .charted (f .0) .0; charts = h .charted (f .0) .1 }, omega (arith, f .1, outgoing-most p (replayed p r) w), f .2, f .3)
 
 module _ {p : Party} {used : ℕ} {j out : List ℕ} {a : Asked} where
   pub refusal-carried : {number place : ℕ} → a ≡ Asked.Refused number place
@@ -66,11 +71,11 @@ module _ {p : Party} {used : ℕ} {j out : List ℕ} {a : Asked} where
 
   pub record-carried : {r : Record} (v : Vote) (plan : Plan) (sets : List ℕ) (g : CodeRan.Ran) {ports : List ℕ} {end : ℕ} {jThen outThen : List ℕ}
       → a ≡ Asked.Fresh r
-      → end ≡ used + length (recordBytes r) → jThen ≡ putAt j used (recordBytes r) → Gives (replayed p r) true out (asOutcome v plan sets ports g) outThen
+      → end ≡ used + length (recordBytes r) → jThen ≡ putAt j used (recordBytes r) → Gives (replayed p r) 0 out (asOutcome v plan sets ports g) outThen
       → CallGives (foundBy p a) p used j out (record { verdict = Verdict.Accepted; party = partyIn v plan (g .levels) sets; used = end; sent = g .sent; rules = g .rules }) jThen outThen
   record-carried v plan sets g e k l w = record {
     result =
-        (λ z. record { verdict = Verdict.Accepted; party = w .party z; used = k z; sent = w .sent z; rules = w .rules z })
+        (λ z. record { verdict = Verdict.Accepted; party = w .party z; used = k z; sent = (w .sent ∙ zero-add _) z; rules = w .rules z })
         ∙ ap (λ (a : Asked). calledOf p used (foundBy p a)) (sym e);
     journal = l ∙ ap (λ (a : Asked). journalAfter j used (foundBy p a)) (sym e);
     outgoing = w .outgoing ∙ ap (λ (a : Asked). outgoingAfter out (foundBy p a)) (sym e);

@@ -62,19 +62,7 @@ fn carry_out(
         }
         Asked::Fresh(r) => {
             let end = journal::append(journal, used, r);
-            let ran = party_replay::replay(
-                v,
-                shape,
-                ps,
-                cs,
-                sets,
-                levels,
-                chart,
-                ports,
-                r,
-                out,
-                true,
-            );
+            let ran = party_replay::replay(v, shape, ps, cs, sets, levels, chart, ports, r, out, 0);
             let verdict = base::Verdict::Accepted;
             let ls = ran.levels;
             Carried {

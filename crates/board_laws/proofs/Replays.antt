@@ -8,9 +8,12 @@ use lib.Dec.{T, ltb, eqb}
 use lib.ListN.{length}
 use borrow.Author.Tests.{le-leb, lt-leb, ne-eqb}
 use Rattle.base.specs.Pick.{pick}
-use Rattle.base.specs.Limits.{levelCount, maxRules}
+use Rattle.base.specs.Limits.{lastLevel, levelCount, maxRules, outgoingSize}
 use Rattle.base.specs.Found.{Found, found, refused, ask}
+use Rattle.base.proofs.Bools.{T→true}
 use Rattle.message.specs.declared.Message.{Message}
+use Rattle.message.specs.Message.{inTable}
+use Rattle.message.proofs.RoundTrip.{message-length-most}
 use Rattle.level.specs.Level.{Level, withHeard}
 use Rattle.level_laws.proofs.Grows.{move-unmoved}
 use Rattle.journal.specs.declared.Record.{Record}
@@ -19,12 +22,12 @@ use Rattle.journal.specs.declared.RecordRead.{RecordRead}
 use Rattle.journal.specs.Reading.{recordAt}
 use Rattle.journal.proofs.RoundTrip.{record-place}
 use Rattle.party.specs.Party.{Party, newParty, levelAt, contextOf, started, entered, hearing}
-use Rattle.party.specs.Run.{Ran, resting, openAt, stepAt}
+use Rattle.party.specs.Run.{Ran, resting, openAt, stepAt, bytesOf}
 use Rattle.party_life.specs.Life.{replayed, following, lived, faultOf, fault, Fits, Life}
 use Rattle.party_life.proofs.Fits.{fits-start, fits-fault}
 use Rattle.party_laws.proofs.Laws.{SameBoard, board-refl, board-trans, Step, changes, enters, open-step, level-field, entry-other, entry-level, starting-kept, taking-kept, starting-keeps, taking-keeps}
 use Rattle.party_laws.proofs.Calls.{new-level}
-use Rattle.party_bounds.proofs.Laws.{Sized, sized-new, sized-replayed, set-up-rules}
+use Rattle.party_bounds.proofs.Laws.{Sized, sized-new, sized-replayed, set-up-rules, Within, lived-within, within-outgoing}
 use Rattle.board_calls.specs.Restore.{recordFits, Replay, replayFrom}
 use Rattle.board_laws.specs.Inner.{New, startedBy, One, one, Many, none, more}
 
@@ -211,6 +214,18 @@ module _ {j : List ℕ} where
 pub many-rules : (p : Party) → New p → {j : List ℕ} {end : ℕ} {q : Ran} → Many j 0 (resting p) end q → q .rules ≤ maxRules
 unfolding lived
 many-rules p w m = let l = many-life p m [] tt refl in subst (λ (z : Ran). z .rules ≤ maxRules) (sym (l .2)) (new-rules p w (l .0) (l .1))
+
+-- what is made within the bounds fits the outgoing buffer
+pub outgoing-most : (p : Party) (r : Ran) → Within (lastLevel + 1) p r → length (bytesOf (r .made)) ≤ outgoingSize
+outgoing-most p r w = within-outgoing (λ m h. message-length-most m (T→true (inTable m) h)) p r w
+
+-- so do the messages of some records after a set-up, all together
+pub many-outgoing : (p : Party) → New p → {j : List ℕ} {end : ℕ} {q : Ran} → Many j 0 (resting p) end q → length (bytesOf (q .made)) ≤ outgoingSize
+unfolding lived
+many-outgoing p w m =
+    let l = many-life p m [] tt refl in
+    subst (λ (z : Ran). length (bytesOf (z .made)) ≤ outgoingSize) (sym (l .2))
+    (outgoing-most p (lived p (l .0)) (lived-within (lastLevel + 1) (omega arith) p (new-sized p w) (l .0) (l .1)))
 
 -- ---- replaying goes on where some records end
 

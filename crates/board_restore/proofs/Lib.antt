@@ -1,3 +1,4 @@
 pub mod Faults
+pub mod Replaying
 pub mod Restores
 pub mod Scans

@@ -108,7 +108,8 @@ fn scan_journal(v: party::Vote, count: u32, journal: &[u8]) -> Scan
     }
 }
 
-// The records up to the place `end`, replayed one after the other, with the messages of the last. The two columns are lent from one plan, for one lifetime.
+// The records up to the place `end`, replayed one after the other, the messages of each after those before. The two columns are lent from one plan, for one
+// lifetime.
 fn replay_all<'a>(
     v: party::Vote,
     shape: plan::Shape,
@@ -138,19 +139,7 @@ fn replay_all<'a>(
                 sent: sent,
             };
         };
-        let g = party_replay::replay(
-            v,
-            shape,
-            ps,
-            cs,
-            sets,
-            ls,
-            chart,
-            &mut ports,
-            r,
-            out,
-            next == end,
-        );
+        let g = party_replay::replay(v, shape, ps, cs, sets, ls, chart, &mut ports, r, out, sent);
         ls = g.levels;
         chart = g.chart;
         rules += g.rules;
@@ -222,7 +211,8 @@ fn ask(v: party::Vote, bytes: &[u8], journal: &[u8], room: usize) -> Asked
     }
 }
 
-// "Restore gives the party of the whole records, in order, their length in bytes, and the messages of the last whole record again."
+// "Restore gives the party of the whole records, in order, their length in bytes", and, by document 02, Q-5, "hands over every message of the whole
+// records' history, each once, in the first order".
 // A refusal builds a record of no party, and every exit that does so takes room in the frame: all questions are asked first, and one exit refuses.
 // For the same reason the restored party's parts are put together at the end.
 pub fn restore(

@@ -1,6 +1,7 @@
 -- Reading a record by its format, and the records of given bytes. `Reads` (Statement.antt) says what is found, so that nobody needs to believe these definitions.
-use mathlib.Core.List.{List, _∷_}
+use mathlib.Core.List.{List, [], _∷_}
 use Prim.Native.Nat.{ℕ, zero, suc}
+use lib.ListN.{length}
 use Rattle.format.specs.declared.Fault.{Fault}
 use Rattle.format.specs.Reading.{Read, whole, failed, readAt}
 use Rattle.journal.specs.declared.Record.{Record}
@@ -33,3 +34,7 @@ withRecord RecordRead.Bad rs more = rs
 unfoldable pub recordsFrom : ℕ → List ℕ → ℕ → List Record → List Record
 recordsFrom zero j at rs = rs
 recordsFrom (suc f) j at rs = withRecord (recordAt j at) rs (λ r next. recordsFrom f j next (r ∷ rs))
+
+-- the whole records that a journal begins with, the latest first
+abbrev pub recordsIn : List ℕ → List Record
+recordsIn j = recordsFrom (length j) j 0 []

@@ -1,7 +1,7 @@
 -- What reading a record, and the records of given bytes, finds, in terms of what is written: `reads` (proofs/Theorem.antt) proves it of the definitions of reading.
 use mathlib.Core.Path.{_≡_}
 use mathlib.Core.Logic.{_⊎_}
-use mathlib.Core.List.{List, [], _++_}
+use mathlib.Core.List.{List, _++_}
 use Prim.Native.Nat.{ℕ, _+_, _≤_}
 use lib.ListN.{length, take, drop}
 use Rattle.varint.specs.Varint.{AllBytes}
@@ -10,7 +10,7 @@ use Rattle.journal.specs.declared.Record.{Record}
 use Rattle.journal.specs.declared.RecordRead.{RecordRead}
 use Rattle.journal.specs.Journal.{recordBytes}
 use Rattle.journal.specs.Records.{InLimits, AllInLimits, ProperBeginning, journalBytes}
-use Rattle.journal.specs.Reading.{recordAt, recordsFrom}
+use Rattle.journal.specs.Reading.{recordAt, recordsIn}
 
 -- The bytes j begin with the records rs, and what stands after them is torn, which nothing at all is too, or bad.
 pub record Begins (j : List ℕ) (rs : List Record) : Type 0 where
@@ -31,6 +31,6 @@ pub record Reads : Type 0 where
   pub torn-only : (s : List ℕ) (at : ℕ) → AllBytes s → at ≤ length s → recordAt s at ≡ RecordRead.Torn → (r : Record) × InLimits r × ProperBeginning r (drop at s)
   -- "the whole records, in order", and a torn last record "is dropped"
   pub records : (rs : List Record) (r : Record) (tail : List ℕ) → AllInLimits rs → InLimits r → ProperBeginning r tail
-      → recordsFrom (length (journalBytes rs ++ tail)) (journalBytes rs ++ tail) 0 [] ≡ rs
+      → recordsIn (journalBytes rs ++ tail) ≡ rs
   -- of any bytes, the whole records that they begin with
-  pub begins : (j : List ℕ) → AllBytes j → Begins j (recordsFrom (length j) j 0 [])
+  pub begins : (j : List ℕ) → AllBytes j → Begins j (recordsIn j)

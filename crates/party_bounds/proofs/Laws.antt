@@ -1,7 +1,7 @@
 -- The bounds that other crates use, gathered from the files of this folder.
 
 -- what the bounds ask of a party: question 19, all its levels, and in each a place for every second echo; everything that a board does keeps it
-pub use Rattle.party_bounds.proofs.Sized.{Sized, sized-new, sized-hearing, sized-entered, sized-step}
+pub use Rattle.party_bounds.proofs.Sized.{Sized, typed-sized, sized-new, sized-hearing, sized-entered, sized-step}
 pub use Rattle.party_bounds.proofs.Life.{sized-run, sized-starting, sized-taking, sized-replayed, sized-lived}
 -- ---- the measures of a party's first L levels
 
@@ -13,7 +13,6 @@ pub use Rattle.party_bounds.proofs.Sized.{aged-hearing, aged-entered}
 pub use Rattle.party_bounds.proofs.Steps.{aged-rules, aged-messages}
 -- one rule takes one from the first, and from the second the message that it makes, which is of the table and of the vote
 pub use Rattle.party_bounds.proofs.Steps.{open-last, step-rules, step-messages, Proper, step-proper}
-pub use Rattle.party_bounds.proofs.Runs.{step-bytes}
 -- ---- runs of rules, calls and lives
 
 -- rules made and left, messages made and left

@@ -1,11 +1,12 @@
 -- Starts, messages taken, and whole lives: within the bounds, and in the end no rule applies.
 use mathlib.Core.Path.{_≡_, _∙_, subst}
+use mathlib.Core.Logic.{_⊎_, inl, inr}
 use mathlib.Core.Bool.{Bool, true, false}
-use mathlib.Core.List.{List, [], _∷_}
+use mathlib.Core.List.{List, [], _∷_, List·Memᴰ, List·Memᴰ·append-cases}
 use Prim.Native.Nat.{ℕ, _+_, _*_, _≤_, _<_}
 use native.Mathlib.Omega.{arith}
 use lib.Dec.{T}
-use lib.ListN.{length}
+use lib.ListN.{length, length-append}
 use Rattle.base.specs.Pick.{pick}
 use Rattle.base.specs.Limits.{lastLevel, maxRules, outgoingSize, messageSize}
 use Rattle.plan.specs.Plan.{Plan}
@@ -58,14 +59,18 @@ within-aged L p q a e r w = record {
   agreement = w .agreement ∙ e;
 }
 
--- one call after another; the messages are those of the latest
+-- one call after another
 within-following : (L : ℕ) (p : Party) (r s : Ran) → Within L p r → Within L (r .party) s → Within L p (following r s)
 within-following L p r s a b = record {
   rules = omega (arith, a .rules, b .rules);
-  messages = omega (arith, a .messages, b .messages);
-  proper = λ m h. let x = b .proper m h in (x .0, x .1 ∙ a .agreement);
+  messages = omega (arith, a .messages, b .messages, length-append (r .made) (s .made));
+  proper = λ m h. of m (List·Memᴰ·append-cases (r .made) h);
   agreement = b .agreement ∙ a .agreement;
 }
+  where
+    of : (m : Message) → List·Memᴰ m (r .made) ⊎ List·Memᴰ m (s .made) → T (inTable m) × (m .number ≡ p .agreement)
+    of m (inl h) = a .proper m h
+    of m (inr h) = let x = b .proper m h in (x .0, x .1 ∙ a .agreement)
 
 module _ (L : ℕ) (all : lastLevel < L) where
   pub run-within : (p : Party) → Sized p → Within L p (run p)

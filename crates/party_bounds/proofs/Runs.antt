@@ -178,12 +178,6 @@ module _ (b : ℕ) (short : (m : Message) → T (inTable m) → length (messageB
   room ms k n t h =
       omega (arith, bytes-most b ms (λ m x. short m (t m x)), mul-le-mul-left b h, mul-add b (length ms) k)
 
-  -- one rule's message, and all that may come after it
-  pub step-bytes : (L : ℕ) (p : Party) → Sized p → (i : ℕ) → T (openAt p i) → i < L
-      → length (bytesOf (madeBy (p .agreement) i (ruleAt p i .effect))) + b * messagesLeft L (stepAt p i) ≤ b * messagesLeft L p
-  step-bytes L p z i o l =
-      room (madeBy (p .agreement) i (ruleAt p i .effect)) (messagesLeft L (stepAt p i)) (messagesLeft L p) (λ m h. step-proper p z i o m h .0) (step-messages p z i o L l)
-
   -- the messages of a run, and all that may come after it
   pub within-bytes : (L : ℕ) (p : Party) (r : Ran) → Within L p r
       → length (bytesOf (r .made)) + b * messagesLeft L (r .party) ≤ b * messagesLeft L p

@@ -27,7 +27,8 @@ use Rattle.level_laws.proofs.Moves.{port-echo, none-echo, first-proposal, first
 use Rattle.level_laws.proofs.Grows.{move-unmoved}
 use Rattle.party.specs.Party.{Party, newParty, levelAt, withLevel, componentOf, contextOf, sending, entering, entered, started, hearing}
 use Rattle.party.specs.Run.{ruleAt, openAt, descend, gate, afterRule, stepAt}
-use Rattle.party.specs.Valid.{settingsPass}
+use Rattle.party.specs.Typed.{Typed}
+use Rattle.party.specs.Valid.{settingsPass, partyValid}
 use Rattle.party_laws.proofs.Laws.{Formed, valid→, shape, entered-level, sending-level, level-same, level-other, level-field, level-past, board-with, entry-level, entry-other, open-sending, open-move, formed-new, formed-hearing, formed-entered, formed-step}
 use Rattle.party_laws.proofs.Calls.{new-level}
 use Rattle.party_bounds.proofs.Measures.{Later, same, heard, entry, Aged, Ruled}
@@ -36,6 +37,10 @@ use Rattle.party_bounds.proofs.Measures.{Later, same, heard, entry, Age
 pub record Sized (p : Party) : Type 0 where
   pub formed : Formed p
   pub echoes : (i : ℕ) → i < levelCount → length (levelAt p i .echoed) ≡ valueCount
+
+-- what the types give, and question 19
+pub typed-sized : (p : Party) → Typed p → T (partyValid p) → Sized p
+typed-sized p t v = record { formed = record { valid = v; full = t .levels }; echoes = t .echoes }
 
 -- ---- positions
 

@@ -16,11 +16,11 @@ unfoldable pub replayed : Party → Record → Ran
 replayed p (Start a x) = starting p x
 replayed p (Taken s m) = taking p s m
 
--- the record after those that led to r: rules add up, and only the last record's messages stay
+-- the record after those that led to r: rules add up, and messages follow those before them
 abbrev pub following : Ran → Ran → Ran
-following r next = record { party = next .party; rules = r .rules + next .rules; made = next .made }
+following r next = record { party = next .party; rules = r .rules + next .rules; made = r .made ++ next .made }
 
--- the party after some records, the latest first; the rules of all of them; the messages of the latest
+-- the party after some records, the latest first; the rules and the messages of all of them, in the order in which the calls made them
 unfoldable pub lived : Party → List Record → Ran
 lived p [] = resting p
 lived p (r ∷ rs) = following (lived p rs) (replayed (lived p rs .party) r)
@@ -52,6 +52,5 @@ Life p [] = Unit {0}
 Life p (r ∷ rs) = Fits (lived p rs .party) r × Life p rs
 
 -- the messages that the calls of some records made, in order
-unfoldable pub madeAlong : Party → List Record → List Message
-madeAlong p [] = []
-madeAlong p (r ∷ rs) = madeAlong p rs ++ replayed (lived p rs .party) r .made
+abbrev pub madeAlong : Party → List Record → List Message
+madeAlong p rs = lived p rs .made

@@ -56,5 +56,5 @@ taken = Taken 0 (record { number = 0; level = 0; body = Centre }) ∷ []
 -- the record passes question 19 and has all its levels, and the take makes one second echo after the other
 pub echoed-again : T (partyValid lone) × (length (lone .levels) ≡ levelCount) × Life lone taken × (Distinct (madeAlong lone taken) → ⊥)
 unfolding
-    ones onesIn smallest count label joined adjacent ends upto without part heavy light centre neighbours degree rank neighbour side gateway port pathEdges edgesOf allZero planValid isIn withSender unionOver slot senders held withHeard otherEchoes mayPropose proposed digitEchoes splitAt split echoedBy secondProposed echoedValues sided rule1 rule2 rule3 rule4 rule5 rule6 rule7 rule8 rule9 rule10 rule11 rule12 rule13 rule14 lowestRule levelAt withLevel componentOf sending contextOf entering entered heldBy hearing ruleAt openAt openLevel afterRule runUpTo run starting taking everyLevel setsPass levelPasses partyValid replayed lived madeAlong
+    ones onesIn smallest count label joined adjacent ends upto without part heavy light centre neighbours degree rank neighbour side gateway port pathEdges edgesOf allZero planValid isIn withSender unionOver slot senders held withHeard otherEchoes mayPropose proposed digitEchoes splitAt split echoedBy secondProposed echoedValues sided rule1 rule2 rule3 rule4 rule5 rule6 rule7 rule8 rule9 rule10 rule11 rule12 rule13 rule14 lowestRule levelAt withLevel componentOf sending contextOf entering entered heldBy hearing ruleAt openAt openLevel afterRule runUpTo run starting taking everyLevel setsPass levelPasses partyValid replayed lived
 echoed-again = (tt, refl, (tt, tt), λ d. d .0 (List·Memᴰ·head refl))

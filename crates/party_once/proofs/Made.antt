@@ -59,7 +59,7 @@ made-aged p q a =
     (stays-later (levelAt p i) (levelAt q i) (a .levels i)) (m .body) h))
 
 -- what was made before is not made again
-pub made-apart : (p q r : Party) (ms ns : List Message) → Made p ms q → Made q ns r → (m : Message) → List·Memᴰ m ms → List·Memᴰ m ns → ⊥
+made-apart : (p q r : Party) (ms ns : List Message) → Made p ms q → Made q ns r → (m : Message) → List·Memᴰ m ms → List·Memᴰ m ns → ⊥
 made-apart p q r ms ns a b m h k = b .new m k (a .spent m h)
 
 -- one after the other

@@ -1,6 +1,6 @@
 -- No message twice: along a run of rules, in a call, and in a life.
 use mathlib.Core.Bool.{Bool, true, false}
-use mathlib.Core.List.{List, [], _∷_, List·Memᴰ}
+use mathlib.Core.List.{List, [], _∷_}
 use Prim.Native.Nat.{ℕ, _<_}
 use lib.Dec.{T}
 use Rattle.base.specs.Pick.{pick}
@@ -10,15 +10,13 @@ use Rattle.message.specs.Message.{inTable}
 use Rattle.journal.specs.declared.Record.{Record}
 use Rattle.journal.specs.declared.Record.the-variants.{Start, Taken}
 use Rattle.party.specs.Party.{Party, started, entered, heldBy, hearing}
-use Rattle.party.specs.Typed.{Typed}
 use Rattle.party.specs.Run.{ruleAt, madeBy, stepAt, resting, run, starting, taking}
-use Rattle.party.specs.Valid.{partyValid}
 use Rattle.party_life.specs.Life.{replayed, lived, Fits, Life, madeAlong}
 use Rattle.party_life.proofs.Fits.{fits-start, fits-taken}
 use Rattle.party_bounds.proofs.Runs.{runs-all}
-use Rattle.party_bounds.proofs.Laws.{Sized, sized-hearing, sized-entered, sized-step, sized-lived, aged-hearing, aged-entered}
+use Rattle.party_bounds.proofs.Laws.{Sized, typed-sized, sized-hearing, sized-entered, sized-step, sized-lived, aged-hearing, aged-entered}
 use Rattle.party_once.specs.Statement.{Once}
-use Rattle.party_once.proofs.Made.{Made, made-refl, made-aged, made-apart, made-trans, step-made}
+use Rattle.party_once.proofs.Made.{Made, made-refl, made-aged, made-trans, step-made}
 
 -- ---- runs and calls
 
@@ -55,24 +53,12 @@ replayed-made p z (Taken s m) f = let g = fits-taken p s m f in taking-made p z 
 -- ---- lives
 
 pub lived-made : (p : Party) → Sized p → (rs : List Record) → Life p rs → Made p (madeAlong p rs) (lived p rs .party)
-unfolding lived madeAlong
+unfolding lived
 lived-made p z [] l = made-refl p
 lived-made p z (r ∷ rs) l =
     let q : Party = lived p rs .party in
     made-trans p q (replayed q r .party) (madeAlong p rs) (replayed q r .made) (lived-made p z rs (l .1))
     (replayed-made q (sized-lived p z rs (l .1)) r (l .0))
 
-sized : (p : Party) → Typed p → T (partyValid p) → Sized p
-sized p t v = record { formed = record { valid = v; full = t .levels }; echoes = t .echoes }
-
--- a call makes no message that a call before it made
-pub made-fresh : (p : Party) → Typed p → T (partyValid p) → (r : Record) (rs : List Record) → Life p (r ∷ rs) → (m : Message)
-    → List·Memᴰ m (replayed (lived p rs .party) r .made) → List·Memᴰ m (madeAlong p rs) → ⊥
-made-fresh p t v r rs l m h k =
-    let z = sized p t v in
-    let q : Party = lived p rs .party in
-    made-apart p q (replayed q r .party) (madeAlong p rs) (replayed q r .made) (lived-made p z rs (l .1))
-    (replayed-made q (sized-lived p z rs (l .1)) r (l .0)) m k h
-
 pub once : Once
-once p t v rs l = lived-made p (sized p t v) rs l .distinct
+once p t v rs l = lived-made p (typed-sized p t v) rs l .distinct

@@ -2,12 +2,12 @@
 use mathlib.Core.Path.{_≡_, sym, ap, _∙_, subst}
 use mathlib.Core.Bool.{Bool, true, false}
 use mathlib.Core.List.{List}
-use Prim.Native.Nat.{ℕ, _+_, _*_, _≤_, _<_}
+use Prim.Native.Nat.{ℕ, _+_, _*_, _<_}
 use native.Mathlib.Omega.{arith}
 use lib.Dec.{T}
 use lib.ListN.{length, getD, set}
 use Rattle.base.specs.Pick.{pick}
-use Rattle.base.specs.Limits.{maxBoards, levelCount, outgoingSize}
+use Rattle.base.specs.Limits.{maxBoards, levelCount}
 use Rattle.base.proofs.Bools.{true→T, false→not-T}
 use Rattle.plan.specs.Plan.{Plan}
 use Rattle.plan.specs.Valid.{planValid}
@@ -36,7 +36,7 @@ use Rattle.party_step.specs.declared.Entered.{Entered}
 use Rattle.party_step.specs.Inner.{Enters, chartWith}
 use Rattle.party_step.proofs.Entries.{holds-enterable}
 use Rattle.party_step.proofs.Charts.{charts-hearing, new-charted, entered-charts, entered-party}
-use Rattle.party_run.specs.Inner.{Ready, Outcome, Gives}
+use Rattle.party_run.specs.Inner.{Ready}
 
 -- a valid party's plan, and how many boards there are
 pub valid-plan : (p : Party) → T (partyValid p) → T (planValid (p .plan))
@@ -77,19 +77,16 @@ module _ (v : Vote) (plan : Plan) (ls : List CodeLevel.Level) (s : List ℕ) (c 
         let at : c .sending ≡ 0 = omega (arith, new-charted p c ports h 0 (omega arith) new) in
         entered-charts p c ports 0 (wholeOf plan) 0 x w h at new (entry-whole p 0 (wholeOf plan) 0 x) (getD ls 0 noCodeLevel) e after g formed f
 
-    pub start-ready : length (c .surveys) ≡ levelCount → (d : Chart) → d ≡ chartWith c 0 e → Lent plan → (out : ℕ) → outgoingSize ≤ out
-        → Ready (partyIn v plan (set ls 0 (e .level)) s) d after out
-    start-ready f d q r out room = record {
+    pub start-ready : length (c .surveys) ≡ levelCount → (d : Chart) → d ≡ chartWith c 0 e → Lent plan → Ready (partyIn v plan (set ls 0 (e .level)) s) d after
+    start-ready f d q r = record {
       valid = subst (λ (y : Party). T (partyValid y)) (sym start-party) (formed .valid);
       rows = r;
       charts = subst (λ (y : Party). Charts y d after) (sym start-party) (subst (λ (y : Chart). Charts (entered p x) y after) (sym q) (charts f));
-      room = room;
     }
 
-    pub start-gives : (loud : Bool) (before : List ℕ) (r : Outcome) (out : List ℕ) → Gives (run (partyIn v plan (set ls 0 (e .level)) s)) loud before r out
-        → Gives (starting (partyIn v plan ls s) x) loud before r out
+    pub start-runs : starting (partyIn v plan ls s) x ≡ run (partyIn v plan (set ls 0 (e .level)) s)
     unfolding starting
-    start-gives loud before r out k = subst (λ (q : Party). Gives (run q) loud before r out) start-party k
+    start-runs = ap run (sym start-party)
 
   -- ---- a message taken, whose set of senders lies at k
 
@@ -109,17 +106,13 @@ module _ (v : Vote) (plan : Plan) (ls : List CodeLevel.Level) (s : List ℕ) (c 
           ap (λ (j : ℕ). partyIn v plan ls (set s k j)) e ∙ ap (λ (j : ℕ). partyIn v plan ls (set s j (withSender (getD s j 0) sender))) at
           ∙ hearing-in v plan ls s m t level sender
 
-      pub taken-ready : Lent plan → (out : ℕ) → outgoingSize ≤ out → Ready (partyIn v plan ls (set s k n)) c ports out
-      taken-ready r out room = record {
+      pub taken-ready : Lent plan → Ready (partyIn v plan ls (set s k n)) c ports
+      taken-ready r = record {
         valid = subst (λ (y : Party). T (partyValid y)) (sym taken-party) (formed-hearing p w sender m below (true→T t) .valid);
         rows = r;
         charts = subst (λ (y : Party). Charts y c ports) (sym taken-party) (charts-hearing p c ports sender m h);
-        room = room;
       }
 
-      pub taken-gives : heldBy (partyIn v plan ls s) sender m ≡ false → (loud : Bool) (before : List ℕ) (r : Outcome) (out : List ℕ)
-          → Gives (run (partyIn v plan ls (set s k n))) loud before r out → Gives (taking (partyIn v plan ls s) sender m) loud before r out
+      pub taken-runs : heldBy (partyIn v plan ls s) sender m ≡ false → taking (partyIn v plan ls s) sender m ≡ run (partyIn v plan ls (set s k n))
       unfolding taking
-      taken-gives f loud before r out g =
-          subst (λ (b : Bool). Gives (pick b (resting p) (run (hearing p sender m))) loud before r out) (sym f)
-          (subst (λ (q : Party). Gives (run q) loud before r out) taken-party g)
+      taken-runs f = ap (λ (b : Bool). pick b (resting p) (run (hearing p sender m))) f ∙ ap run (sym taken-party)

@@ -1,8 +1,9 @@
 -- What a record's call gives when it is made again.
 use mathlib.Core.Path.{_≡_, refl, sym, ap, _∙_, subst}
-use mathlib.Core.Bool.{Bool, true}
+use mathlib.Core.Bool.{true}
 use mathlib.Core.List.{List}
 use Prim.Native.Nat.{ℕ}
+use native.Mathlib.Omega.{arith}
 use lib.ListN.{length}
 use Rattle.base.specs.Put.{putAt}
 use Rattle.base.proofs.Puts.{put-none}
@@ -14,8 +15,8 @@ use Rattle.party.specs.Party.{Party, heldBy}
 use Rattle.party.specs.Run.{Ran, resting, starting, taking}
 use Rattle.party.specs.Inner.{Charts}
 use Rattle.party_life.specs.Life.{replayed}
-use Rattle.party_run.specs.Inner.{Outcome, Gives}
-use Rattle.party_run.proofs.Going.{voiced-none}
+use Rattle.party_run.specs.Inner.{Outcome, Gives, Room}
+use Rattle.party_run.proofs.Going.{bytes-none}
 
 module _ (p : Party) (x : Record) where
   pub replayed-start : {a y : ℕ} → x ≡ Start a y → replayed p x ≡ starting p y
@@ -31,17 +32,21 @@ pub taking-held : (p : Party) (s : ℕ) (m : Message) → heldBy p s m ≡ true 
 unfolding taking
 taking-held p s m h = rw h
 
-module _ {loud : Bool} {out outThen : List ℕ} {g : Outcome} where
-  pub gives-same : {x y : Ran} → x ≡ y → Gives y loud out g outThen → Gives x loud out g outThen
-  gives-same e h = subst (λ (z : Ran). Gives z loud out g outThen) (sym e) h
+-- what is run is the same
+module _ {x y : Ran} (e : x ≡ y) where
+  pub gives-same : {from : ℕ} {out outThen : List ℕ} {g : Outcome} → Gives y from out g outThen → Gives x from out g outThen
+  gives-same {from} {out} {outThen} {g} h = subst (λ (z : Ran). Gives z from out g outThen) (sym e) h
+
+  pub room-same : (from out : ℕ) → Room y from out → Room x from out
+  room-same from out h = subst (λ (z : Ran). Room z from out) (sym e) h
 
 -- nothing is done
-pub gives-rest : (p : Party) (c : Chart) (ports : List ℕ) (loud : Bool) (out : List ℕ) → Charts p c ports
-    → Gives (resting p) loud out (record { party = p; chart = c; ports = ports; rules = 0; sent = 0 }) out
-gives-rest p c ports loud out h = record {
+pub gives-rest : (p : Party) (c : Chart) (ports : List ℕ) (from : ℕ) (out : List ℕ) → Charts p c ports
+    → Gives (resting p) from out (record { party = p; chart = c; ports = ports; rules = 0; sent = from }) out
+gives-rest p c ports from out h = record {
   party = refl;
   chart = h;
   rules = refl;
-  sent = ap length (sym (voiced-none loud));
-  outgoing = sym (ap (putAt out 0) (voiced-none loud) ∙ put-none out 0);
+  sent = omega (arith, ap length bytes-none);
+  outgoing = sym (ap (putAt out from) bytes-none ∙ put-none out from);
 }

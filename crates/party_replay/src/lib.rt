@@ -9,7 +9,7 @@ ghost use Rattle.party.specs.Party.{started};
 ghost use Rattle.party.specs.Run as Rules;
 ghost use Rattle.party.specs.Tie.{partyIn};
 ghost use Rattle.party_life.specs.Life.{replayed, Fits};
-ghost use Rattle.party_run.specs.Inner.{asOutcome, Gives, Ready};
+ghost use Rattle.party_run.specs.Inner.{asOutcome, Gives, Ready, Room};
 
 // Level 0 is entered at x, and rules are applied.
 fn start(
@@ -23,10 +23,10 @@ fn start(
     ports: &mut [u8; base::MAX_VERTICES],
     x: base::Position,
     out: &mut [u8],
-    loud: bool,
+    from: usize,
 ) -> party_run::Ran
-    requires { ⌜ Ready (partyIn v (shaped shape (now ps) (now cs)) levels (now sets)) chart (now ports) (length (now out)) × (started (partyIn v (shaped shape (now ps) (now cs)) levels (now sets)) ≡ false) × (x < shape .count) ⌝ }
-    ensures { λ g. ⌜ Gives (Rules.starting (partyIn v (shaped shape (now (ps .entry)) (now (cs .entry))) levels (now (sets .entry))) x) loud (now (out .entry)) (asOutcome v (shaped shape (now (ps .entry)) (now (cs .entry))) (now (sets .entry)) (now (ports .exit)) g) (now (out .exit)) ⌝ }
+    requires { ⌜ Ready (partyIn v (shaped shape (now ps) (now cs)) levels (now sets)) chart (now ports) × Room (Rules.starting (partyIn v (shaped shape (now ps) (now cs)) levels (now sets)) x) from (length (now out)) × (started (partyIn v (shaped shape (now ps) (now cs)) levels (now sets)) ≡ false) × (x < shape .count) ⌝ }
+    ensures { λ g. ⌜ Gives (Rules.starting (partyIn v (shaped shape (now (ps .entry)) (now (cs .entry))) levels (now (sets .entry))) x) from (now (out .entry)) (asOutcome v (shaped shape (now (ps .entry)) (now (cs .entry))) (now (sets .entry)) (now (ports .exit)) g) (now (out .exit)) ⌝ }
 {
     let span = component::whole(shape, ps, cs, ports);
     let mut ls = levels;
@@ -41,7 +41,7 @@ fn start(
         d.surveys[0] = survey;
         d.deepest = deepest;
     }
-    party_run::run(v, shape, ps, cs, sets, ls, d, ports, out, loud)
+    party_run::run(v, shape, ps, cs, sets, ls, d, ports, out, from)
 }
 
 // A message is taken from s, and rules are applied; one that is held changes nothing.
@@ -57,10 +57,10 @@ fn take(
     s: u8,
     m: message::Message,
     out: &mut [u8],
-    loud: bool,
+    from: usize,
 ) -> party_run::Ran
-    requires { ⌜ Ready (partyIn v (shaped shape (now ps) (now cs)) levels (now sets)) chart (now ports) (length (now out)) × (s < v .n) × (inTable m ≡ true) ⌝ }
-    ensures { λ g. ⌜ Gives (Rules.taking (partyIn v (shaped shape (now (ps .entry)) (now (cs .entry))) levels (now (sets .entry))) s m) loud (now (out .entry)) (asOutcome v (shaped shape (now (ps .entry)) (now (cs .entry))) (now (sets .exit)) (now (ports .exit)) g) (now (out .exit)) ⌝ }
+    requires { ⌜ Ready (partyIn v (shaped shape (now ps) (now cs)) levels (now sets)) chart (now ports) × Room (Rules.taking (partyIn v (shaped shape (now ps) (now cs)) levels (now sets)) s m) from (length (now out)) × (s < v .n) × (inTable m ≡ true) ⌝ }
+    ensures { λ g. ⌜ Gives (Rules.taking (partyIn v (shaped shape (now (ps .entry)) (now (cs .entry))) levels (now (sets .entry))) s m) from (now (out .entry)) (asOutcome v (shaped shape (now (ps .entry)) (now (cs .entry))) (now (sets .exit)) (now (ports .exit)) g) (now (out .exit)) ⌝ }
 {
     let k = party::place(m);
     let mask = sets[k];
@@ -69,14 +69,14 @@ fn take(
             levels: levels,
             chart: chart,
             rules: 0,
-            sent: 0,
+            sent: from,
         };
     }
     sets[k] = senders::add(mask, s);
-    party_run::run(v, shape, ps, cs, sets, levels, chart, ports, out, loud)
+    party_run::run(v, shape, ps, cs, sets, levels, chart, ports, out, from)
 }
 
-// What a record's call does: a start, or a message taken.
+// What a record's call does: a start, or a message taken. Its messages are written from the place `from` on.
 pub fn replay(
     v: party::Vote,
     shape: plan::Shape,
@@ -88,16 +88,16 @@ pub fn replay(
     ports: &mut [u8; base::MAX_VERTICES],
     r: journal::Record,
     out: &mut [u8],
-    loud: bool,
+    from: usize,
 ) -> party_run::Ran
-    requires { ⌜ Ready (partyIn v (shaped shape (now ps) (now cs)) levels (now sets)) chart (now ports) (length (now out)) × Fits (partyIn v (shaped shape (now ps) (now cs)) levels (now sets)) r ⌝ }
-    ensures { λ g. ⌜ Gives (replayed (partyIn v (shaped shape (now (ps .entry)) (now (cs .entry))) levels (now (sets .entry))) r) loud (now (out .entry)) (asOutcome v (shaped shape (now (ps .entry)) (now (cs .entry))) (now (sets .exit)) (now (ports .exit)) g) (now (out .exit)) ⌝ }
+    requires { ⌜ Ready (partyIn v (shaped shape (now ps) (now cs)) levels (now sets)) chart (now ports) × Room (replayed (partyIn v (shaped shape (now ps) (now cs)) levels (now sets)) r) from (length (now out)) × Fits (partyIn v (shaped shape (now ps) (now cs)) levels (now sets)) r ⌝ }
+    ensures { λ g. ⌜ Gives (replayed (partyIn v (shaped shape (now (ps .entry)) (now (cs .entry))) levels (now (sets .entry))) r) from (now (out .entry)) (asOutcome v (shaped shape (now (ps .entry)) (now (cs .entry))) (now (sets .exit)) (now (ports .exit)) g) (now (out .exit)) ⌝ }
 {
     match r {
         journal::Record::Start {
             agreement: _,
             position: x,
-        } => start(v, shape, ps, cs, sets, levels, chart, ports, x, out, loud),
+        } => start(v, shape, ps, cs, sets, levels, chart, ports, x, out, from),
         journal::Record::Taken {
             sender: s,
             message: m,
@@ -113,7 +113,7 @@ pub fn replay(
             s,
             m,
             out,
-            loud,
+            from,
         ),
     }
 }

@@ -1,6 +1,6 @@
--- The message of one rule as bytes, written or not.
+-- The message of one rule as bytes, written.
 use mathlib.Core.Path.{_≡_, refl, sym, ap, _∙_, subst}
-use mathlib.Core.Bool.{Bool, true, false}
+use mathlib.Core.Bool.{Bool}
 use mathlib.Core.List.{List, [], _∷_, append-nil}
 use Prim.Native.Nat.{ℕ, _+_}
 use native.Mathlib.Nat.{add-zero}
@@ -14,8 +14,7 @@ use Rattle.message.specs.Message.{messageBytes}
 use Rattle.level.specs.declared.Effect.{Effect}
 use Rattle.level.specs.declared.Effect.the-variants.{Nothing, Quiet, Send, Enter, SendEnter}
 use Rattle.party.specs.Run.{madeBy, bytesOf}
-use Rattle.party_run.specs.Inner.{voiced}
-use Rattle.party_run.proofs.Going.{voiced-none}
+use Rattle.party_run.proofs.Going.{bytes-none}
 
 -- from `at` on the buffer `after` has bs, and r is the place past them
 abbrev pub Written : List ℕ → ℕ → List ℕ → ℕ → List ℕ → Type 0
@@ -27,25 +26,20 @@ none-written l at e = subst (λ (bs : List ℕ). Written l at bs at l) (sym e) (
 pub some-written : (before : List ℕ) (at r : ℕ) (after : List ℕ) {bs cs : List ℕ} → bs ≡ cs → Written before at cs r after → Written before at bs r after
 some-written before at r after e w = subst (λ (bs : List ℕ). Written before at bs r after) (sym e) w
 
--- nothing is said where the call is not loud
-pub silent : (loud : Bool) (ms : List Message) → loud ≡ false → voiced loud ms ≡ []
-silent loud ms e = ap (λ (b : Bool). voiced b ms) e
-
 -- the bytes of each effect
-module _ (loud : Bool) (a i : ℕ) (e : Effect) where
-  none : (f : Effect) → madeBy a i f ≡ [] → e ≡ f → voiced loud (madeBy a i e) ≡ []
-  none f h g = ap (λ (x : Effect). voiced loud (madeBy a i x)) g ∙ ap (voiced loud) h ∙ voiced-none loud
-
-  pub nothing-voiced : e ≡ Nothing → voiced loud (madeBy a i e) ≡ []
-  nothing-voiced g = none Nothing refl g
-
-  pub quiet-voiced : e ≡ Quiet → voiced loud (madeBy a i e) ≡ []
-  quiet-voiced g = none Quiet refl g
-
-  pub enter-voiced : (k : ℕ) (keep : Bool) → e ≡ Enter k keep → voiced loud (madeBy a i e) ≡ []
-  enter-voiced k keep g = none (Enter k keep) refl g
-
 module _ (a i : ℕ) (e : Effect) where
+  none : (f : Effect) → madeBy a i f ≡ [] → e ≡ f → bytesOf (madeBy a i e) ≡ []
+  none f h g = ap (λ (x : Effect). bytesOf (madeBy a i x)) g ∙ ap bytesOf h ∙ bytes-none
+
+  pub nothing-bytes : e ≡ Nothing → bytesOf (madeBy a i e) ≡ []
+  nothing-bytes g = none Nothing refl g
+
+  pub quiet-bytes : e ≡ Quiet → bytesOf (madeBy a i e) ≡ []
+  quiet-bytes g = none Quiet refl g
+
+  pub enter-bytes : (k : ℕ) (keep : Bool) → e ≡ Enter k keep → bytesOf (madeBy a i e) ≡ []
+  enter-bytes k keep g = none (Enter k keep) refl g
+
   one : (m : Message) → bytesOf (m ∷ []) ≡ messageBytes m
   unfolding bytesOf
   one m = append-nil (messageBytes m)
@@ -55,7 +49,3 @@ module _ (a i : ℕ) (e : Effect) where
 
   pub side-bytes : (k : ℕ) → e ≡ SendEnter k → bytesOf (madeBy a i e) ≡ messageBytes (record { number = a; level = i; body = Side k })
   side-bytes k g = ap (λ (x : Effect). bytesOf (madeBy a i x)) g ∙ one (record { number = a; level = i; body = Side k })
-
--- all is said where it is
-pub voiced-loud : (loud : Bool) (ms : List Message) → loud ≡ true → voiced loud ms ≡ bytesOf ms
-voiced-loud loud ms e = ap (λ (b : Bool). voiced b ms) e

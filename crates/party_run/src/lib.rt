@@ -11,9 +11,9 @@ ghost use Rattle.level.specs.Tie.{asLevel, asApplied};
 ghost use Rattle.party.specs.Run as Rules;
 ghost use Rattle.party.specs.Tie.{partyIn, setsAt};
 ghost use Rattle.party.specs.Inner.{setCount};
-ghost use Rattle.party_run.specs.Inner.{voiced, asOutcome, Gives, Ready};
+ghost use Rattle.party_run.specs.Inner.{asOutcome, Gives, Ready, Room};
 
-// What applying rules gave: the levels with their chart, how many rules, and how many outgoing bytes.
+// What applying rules gave: the levels with their chart, how many rules, and the place past the outgoing bytes.
 pub struct Ran {
     pub levels: party::Levels,
     pub chart: party::Chart,
@@ -21,14 +21,11 @@ pub struct Ran {
     pub sent: usize,
 }
 
-// The message that a rule at level i makes is written from `at` on, where `loud`; the place past it.
-fn emit(out: &mut [u8], at: usize, number: u32, i: usize, e: level::Effect, loud: bool) -> usize
+// The message that a rule at level i makes is written from `at` on; the place past it.
+fn emit(out: &mut [u8], at: usize, number: u32, i: usize, e: level::Effect) -> usize
     requires { ⌜ (at + length (Rules.bytesOf (Rules.madeBy number i e)) ≤ length (now out)) × (i < 256) ⌝ }
-    ensures { λ r. ⌜ (r ≡ at + length (voiced loud (Rules.madeBy number i e))) × (now (out .exit) ≡ putAt (now (out .entry)) at (voiced loud (Rules.madeBy number i e))) ⌝ }
+    ensures { λ r. ⌜ (r ≡ at + length (Rules.bytesOf (Rules.madeBy number i e))) × (now (out .exit) ≡ putAt (now (out .entry)) at (Rules.bytesOf (Rules.madeBy number i e))) ⌝ }
 {
-    if !loud {
-        return at;
-    }
     match e {
         level::Effect::Nothing => at,
         level::Effect::Quiet => at,
@@ -73,7 +70,7 @@ fn back(i: usize) -> usize
     i - 1
 }
 
-// Rules until none applies. The messages are written from the buffer's first byte on where `loud`, else nowhere.
+// Rules until none applies. The messages are written into the buffer from the place `from` on.
 // No rule applies below level i; a rule at level i opens none but at i - 1, i and i + 1. At most level_limits::MAX_RULES rules apply.
 pub fn run(
     v: party::Vote,
@@ -85,14 +82,14 @@ pub fn run(
     chart: party::Chart,
     ports: &mut [u8; base::MAX_VERTICES],
     out: &mut [u8],
-    loud: bool,
+    from: usize,
 ) -> Ran
-    requires { ⌜ Ready (partyIn v (shaped shape (now ps) (now cs)) levels (now sets)) chart (now ports) (length (now out)) ⌝ }
-    ensures { λ g. ⌜ Gives (Rules.run (partyIn v (shaped shape (now (ps .entry)) (now (cs .entry))) levels (now (sets .entry)))) loud (now (out .entry)) (asOutcome v (shaped shape (now (ps .entry)) (now (cs .entry))) (now (sets .entry)) (now (ports .exit)) g) (now (out .exit)) ⌝ }
+    requires { ⌜ Ready (partyIn v (shaped shape (now ps) (now cs)) levels (now sets)) chart (now ports) × Room (Rules.run (partyIn v (shaped shape (now ps) (now cs)) levels (now sets))) from (length (now out)) ⌝ }
+    ensures { λ g. ⌜ Gives (Rules.run (partyIn v (shaped shape (now (ps .entry)) (now (cs .entry))) levels (now (sets .entry)))) from (now (out .entry)) (asOutcome v (shaped shape (now (ps .entry)) (now (cs .entry))) (now (sets .entry)) (now (ports .exit)) g) (now (out .exit)) ⌝ }
 {
     let mut ls = levels;
     let mut d = chart;
-    let mut sent: usize = 0;
+    let mut sent = from;
     let mut rules: u32 = 0;
     let mut i: usize = 0;
     while i < d.sending {
@@ -102,7 +99,7 @@ pub fn run(
         let a = rule_at(sets, i, l, party_step::context(v.n, v.t, s, next));
         let e = a.effect;
         if level::applies(e) {
-            sent = emit(out, sent, v.agreement, i, e, loud);
+            sent = emit(out, sent, v.agreement, i, e);
             let k = a.level;
             ls[i] = k;
             let deepest = d.deepest;

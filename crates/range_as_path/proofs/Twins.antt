@@ -2,7 +2,7 @@
 use mathlib.Core.Path.{_≡_, refl, sym, ap, ap₂, _∙_, subst}
 use mathlib.Core.Logic.{_↔_}
 use mathlib.Core.Bool.{_&&_}
-use mathlib.Core.List.{List, [], _∷_}
+use mathlib.Core.List.{List, [], _∷_, _++_}
 use Prim.Native.Nat.{ℕ, _+_}
 use lib.Dec.{T, ltb, eqb}
 use Rattle.base.specs.Pick.{pick}
@@ -128,7 +128,7 @@ module _ (p p′ : Party) (w : TwinParties p p′) where
 -- ---- lives
 
 pub twin-following : (a b a′ b′ : Ran) → TwinRan a b → TwinRan a′ b′ → TwinRan (following a a′) (following b b′)
-twin-following a b a′ b′ w w′ = record { party = w′ .party; rules = ap₂ _+_ (w .rules) (w′ .rules); made = w′ .made }
+twin-following a b a′ b′ w w′ = record { party = w′ .party; rules = ap₂ _+_ (w .rules) (w′ .rules); made = ap₂ _++_ (w .made) (w′ .made) }
 
 -- after the same records
 pub twin-lived : (p p′ : Party) → TwinParties p p′ → (rs : List Record) → TwinRan (lived p rs) (lived p′ rs)

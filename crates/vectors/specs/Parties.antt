@@ -3,7 +3,7 @@
 use mathlib.Core.Path.{_≡_}
 use mathlib.Core.Bool.{Bool, true, false}
 use mathlib.Core.List.{List, [], _∷_}
-use Prim.Native.Nat.{ℕ, zero, suc, _+_}
+use Prim.Native.Nat.{ℕ, zero, suc}
 use Rattle.base.specs.Pick.{pick}
 use Rattle.base.specs.Found.{Found, found, refused}
 use Rattle.base.specs.Limits.{offsetZero, levelCount}
@@ -57,6 +57,10 @@ said b rs = Taken 0 (says 0 b) ∷ rs
 abbrev pub voted : List Record → List Record
 voted rs = said (SecondProposal 1) (said (SecondEcho 1) (said (FirstProposal 1) (said (FirstEcho 1) rs)))
 
+-- the messages that such a board makes at the level
+abbrev pub saidThen : List Message
+saidThen = says 0 (FirstEcho 1) ∷ says 0 (FirstProposal 1) ∷ says 0 (SecondEcho 1) ∷ says 0 (SecondProposal 1) ∷ []
+
 -- a board that started at x on such a range, and its record at level 0, the port's echo made
 abbrev pub board : ℕ → ℕ → Level → Party
 board width x l = withLevel (ofFour width) 0 (withPortEcho (withEntry l 0 x noOutput))
@@ -75,7 +79,7 @@ pub data Case : Type 0 where
   runs : Party → List ℕ → List Message → Case
   -- a party at whose level 0 a rule enters a side of the next level, at a position and with an output, and the rule's messages
   enters : Party → ℕ → ℕ → ℕ → List Message → Case
-  -- a party, records of its calls, the latest first, the messages of the latest, and level 0's output then
+  -- a party, records of its calls, the latest first, all messages that the calls made, in order, and level 0's output then
   lives : Party → List Record → List Message → ℕ → Case
   -- a party that takes a message from a sender, keeps it, and applies no rule
   keeps : Party → ℕ → Message → Case
@@ -112,9 +116,9 @@ cases =
     -- "counts are counts of senders in such sets, also of messages that came before the level was entered"
     ∷ lives (ofFour 6) (Start 9 0 ∷ Taken 3 (says 0 (FirstEcho 1)) ∷ Taken 2 (says 0 (FirstEcho 1)) ∷ Taken 1 (says 0 (FirstEcho 1)) ∷ []) (says 0 (FirstEcho 1) ∷ says 0 (FirstProposal 1) ∷ []) noOutput
     -- "Level 0's output is the answer; the board goes on taking part afterwards.": one board, the centre is 1; a centre message after the answer 0, and before
-    ∷ lives (onRange 1 0 2) (said Centre (voted (Start 9 0 ∷ []))) [] 0
-    ∷ lives (onRange 1 0 2) (said (SecondEcho 1) (said (FirstProposal 1) (said (FirstEcho 1) (said Centre (Start 9 0 ∷ []))))) (says 0 (SecondProposal 1) ∷ []) 1
-    ∷ lives (onRange 1 0 2) (voted (said Centre (Start 9 0 ∷ []))) [] 1
+    ∷ lives (onRange 1 0 2) (said Centre (voted (Start 9 0 ∷ []))) saidThen 0
+    ∷ lives (onRange 1 0 2) (said (SecondEcho 1) (said (FirstProposal 1) (said (FirstEcho 1) (said Centre (Start 9 0 ∷ []))))) saidThen 1
+    ∷ lives (onRange 1 0 2) (voted (said Centre (Start 9 0 ∷ []))) saidThen 1
     -- "Values above d at that level, none excepted, are kept and never counted."
     ∷ keeps (board 6 0 (two (FirstProposal 3) blankLevel)) 2 (says 0 (FirstProposal 3))
     ∷ []

@@ -70,7 +70,7 @@ module _ (p : Party) where
 
   -- the messages that the records' calls made
   pub made-lived : Regular p → (rs : List Record) → Life p rs → (m : Message) → List·Memᴰ m (madeAlong p rs) → Sent (lived p rs .party) m
-  unfolding lived madeAlong
+  unfolding lived
   made-lived v [] l m h = absurd (List·Memᴰ·not-nil h)
   made-lived v (r ∷ rs) l m h = go (made-lived v rs (l .1) m) (List·Memᴰ·append-cases (madeAlong p rs) h)
     where
@@ -80,7 +80,7 @@ module _ (p : Party) where
       go ih (inr x) = tells-replayed (lived p rs .party) r (l .0) (regular-lived v rs (l .1)) .made m x
 
   pub lived-made : Regular p → (rs : List Record) → Life p rs → (m : Message) → Sent (lived p rs .party) m → Sent p m ⊎ List·Memᴰ m (madeAlong p rs)
-  unfolding lived madeAlong
+  unfolding lived
   lived-made v [] l m s = inl s
   lived-made v (r ∷ rs) l m s = go (lived-made v rs (l .1) m) (tells-replayed (lived p rs .party) r (l .0) (regular-lived v rs (l .1)) .back m s)
     where

@@ -1,11 +1,11 @@
--- `board_restore::replay_all` meets its contract: the records so far are replayed, and the last one's messages written.
+-- `board_restore::replay_all` meets its contract: the records so far are replayed, and their messages written one after the other.
 use mathlib.Core.Path.{sym, _∙_, subst}
 use Prim.Native.Nat.{_-_}
 use native.Mathlib.Omega.{arith}
 use Rattle.journal.proofs.RoundTrip.{record-place}
 use Rattle.plan.specs.Tie.{shaped}
 use Rattle.party.specs.Tie.{partyIn}
-use Rattle.board_restore.proofs.Restores.{NoRecord, Replaying, replaying-start, replaying-read, replaying-asks, replaying-sum, replaying-next, replaying-end}
+use Rattle.board_restore.proofs.Replaying.{NoRecord, Replaying, replaying-start, replaying-read, replaying-asks, replaying-sum, replaying-next, replaying-end}
 use borrow.Author.Needs.{needs}
 use Rattle.board_restore.proofs.replay_all.Statement.{statement}
 use Rattle.board_restore.proofs.replay_all.Tie as tie
@@ -33,21 +33,43 @@ same-length : tie.Need-same-length Inv-loop μ-loop
 same-length c = c .before .before .before .loop .inv .long
 
 returns : tie.Need-returns Inv-loop μ-loop
-returns c = absurd (replaying-read (c .before .before .before .before .before .before .before .pre) (c .before .before .before .loop .inv) (c .before .before .loop-test .taken) (subst NoRecord (c .before .read-at .ensures) (c .match .keys2)))
+returns c =
+    let l = c .before .before .before in
+    absurd (replaying-read (l .before .before .before .before .pre) (l .loop .inv) (c .before .before .loop-test .taken) (subst NoRecord (c .before .read-at .ensures) (c .match .keys2)))
 
 replay-requires : tie.Need-replay-requires Inv-loop μ-loop
-replay-requires c κs = replaying-asks (c .before .before .before .before .before .before .before .before .before .before .before .before .before .before .pre) (c .before .before .before .before .before .before .before .before .before .before .loop .inv) (c .before .before .before .before .before .before .before .before .before .loop-test .taken) (sym (c .before .before .before .before .before .before .before .before .read-at .ensures) ∙ c .before .before .before .before .before .before .r .given .1)
+replay-requires c κs =
+    let k = c .before .before .before .before .before .before in
+    let l = k .before .before .before .before in
+    let f = replaying-asks (l .before .before .before .before .pre) (l .loop .inv) (k .before .before .before .loop-test .taken) (sym (k .before .before .read-at .ensures) ∙ k .r .given .1) in
+    (f .0, omega (arith, f .1), f .2)
 
 add-rules : tie.Need-add-rules Inv-loop μ-loop
 add-rules c =
-    let f = replaying-sum (c .before .before .before .before .before .before .before .before .before .before .before .before .before .before .before .before .before .before .before .before .pre) (c .before .before .before .before .before .before .before .before .before .before .before .before .before .before .before .before .loop .inv) (c .before .before .before .before .before .before .before .before .before .before .before .before .before .before .before .loop-test .taken) (sym (c .before .before .before .before .before .before .before .before .before .before .before .before .before .before .read-at .ensures) ∙ c .before .before .before .before .before .before .before .before .before .before .before .before .r .given .1) (c .before .before .before .before .before .replay .ensures) in
+    let g = c .before .before .before .before .before in
+    let k = g .before .before .before .before .before .before .before in
+    let l = k .before .before .before .before in
+    let f = replaying-sum (l .before .before .before .before .pre) (l .loop .inv) (k .before .before .before .loop-test .taken) (sym (k .before .before .read-at .ensures) ∙ k .r .given .1)
+    (g .replay .result .rules) (g .replay .ensures .rules) in
     record { fits = omega arith }
 
 loop-less : tie.Need-loop-less Inv-loop μ-loop
-loop-less c = omega (arith, c .before .before .before .before .before .before .before .before .before .before .before .before .before .before .before .loop-test .taken, record-place (c .before .before .before .before .before .before .before .before .before .before .before .before .before .before .before .before .before .before .before .before .args .journal .now) (c .before .before .before .before .before .before .before .before .before .before .before .before .before .before .before .before .loop .at) _ _ (sym (c .before .before .before .before .before .before .before .before .before .before .before .before .before .before .read-at .ensures) ∙ c .before .before .before .before .before .before .before .before .before .before .before .before .r .given .1) .0)
+loop-less c =
+    let k = c .before .before .before .before .before .before .before .before .before .before .before .before in
+    let l = k .before .before .before .before in
+    omega (
+      arith,
+      k .before .before .before .loop-test .taken,
+      record-place (l .before .before .before .before .args .journal .now) (l .loop .at) _ _ (sym (k .before .before .read-at .ensures) ∙ k .r .given .1) .0,
+    )
 
 loop-again : tie.Need-loop-again Inv-loop μ-loop
-loop-again c = replaying-next (c .before .before .before .before .before .before .before .before .before .before .before .before .before .before .before .before .before .before .before .before .pre) (c .before .before .before .before .before .before .before .before .before .before .before .before .before .before .before .before .loop .inv) (c .before .before .before .before .before .before .before .before .before .before .before .before .before .before .before .loop-test .taken) (sym (c .before .before .before .before .before .before .before .before .before .before .before .before .before .before .read-at .ensures) ∙ c .before .before .before .before .before .before .before .before .before .before .before .before .r .given .1) (c .before .before .before .before .before .replay .ensures) (c .before .before .before .before .before .replay .kept .1 .1 .1 .1 .1 .1 .1 .1 .1 .0)
+loop-again c =
+    let g = c .before .before .before .before .before in
+    let k = g .before .before .before .before .before .before .before in
+    let l = k .before .before .before .before in
+    replaying-next (l .before .before .before .before .pre) (l .loop .inv) (k .before .before .before .loop-test .taken) (sym (k .before .before .read-at .ensures) ∙ k .r .given .1)
+    (g .replay .ensures) (g .replay .kept .1 .1 .1 .1 .1 .1 .1 .1 .1 .0)
 
 same-length-2 : tie.Need-same-length-2 Inv-loop μ-loop
 same-length-2 c = c .before .loop .inv .long

@@ -1,14 +1,15 @@
 -- `party_replay::replay` meets its contract, by the record.
 use borrow.Author.Needs.{needs}
 use denote.Ref.{now}
-use mathlib.Core.Path.{subst}
+use mathlib.Core.Path.{sym, subst}
+use lib.ListN.{length}
 use Rattle.base.proofs.Bools.{T→true, not-T→false}
 use Rattle.plan.specs.Tie.{shaped}
 use Rattle.party.specs.Party.{Party}
 use Rattle.party.specs.Tie.{partyIn}
 use Rattle.party_life.specs.Life.{Fits}
 use Rattle.party_life.proofs.Fits.{fits-start, fits-taken}
-use Rattle.party_replay.proofs.Redone.{replayed-start, replayed-taken, gives-same}
+use Rattle.party_replay.proofs.Redone.{replayed-start, replayed-taken, gives-same, room-same}
 use Rattle.party_replay.proofs.replay.Statement.{statement}
 use Rattle.party_replay.proofs.replay.Tie as tie
 
@@ -23,8 +24,8 @@ start-requires c κs =
     let k = c .before .before .before .before in
     let s = k .before .before .before .before .before in
     let g = k .r .given in
-    let f = fits-start (first s) (g .0 .0) (g .0 .1 .0) (subst (Fits (first s)) (g .1) (s .pre .1)) in
-    (s .pre .0, not-T→false _ (f .1), f .2)
+    let f = fits-start (first s) (g .0 .0) (g .0 .1 .0) (subst (Fits (first s)) (g .1) (s .pre .2)) in
+    (s .pre .0, room-same (sym (replayed-start (first s) (s .args .r) (g .1))) (s .args .from) (length (now (s .args .out))) (s .pre .1), not-T→false _ (f .1), f .2)
 
 enum-known-r-2 : tie.Need-enum-known-r-2
 enum-known-r-2 c = search needs
@@ -34,8 +35,8 @@ take-requires c κs =
     let k = c .before .before .before .before in
     let s = k .before .before .before .before .before in
     let g = k .r2 .given in
-    let f = fits-taken (first s) (g .0 .0) (g .0 .1 .0) (subst (Fits (first s)) (g .1) (s .pre .1)) in
-    (s .pre .0, f .1, T→true _ (f .2))
+    let f = fits-taken (first s) (g .0 .0) (g .0 .1 .0) (subst (Fits (first s)) (g .1) (s .pre .2)) in
+    (s .pre .0, room-same (sym (replayed-taken (first s) (s .args .r) (g .1))) (s .args .from) (length (now (s .args .out))) (s .pre .1), f .1, T→true _ (f .2))
 
 same-length : tie.Need-same-length
 same-length c = search needs

@@ -1,5 +1,5 @@
--- `party_run::run` meets its contract. The loop's invariant: so many rules led to the party, their messages are written, there is room for those to come,
--- and no rule applies below level i. The measure: the rules that can still come, and of each all levels.
+-- `party_run::run` meets its contract. The loop's invariant: so many rules led to the party, their messages are written, and no rule applies
+-- below level i. The measure: the rules that can still come, and of each all levels.
 use borrow.Author.Needs.{needs}
 use native.Mathlib.Omega.{arith}
 use denote.Ref.{now}
@@ -17,11 +17,11 @@ use Rattle.party_run.proofs.run.Statement.{statement}
 use Rattle.party_run.proofs.run.Tie as tie
 
 abbrev Inv-loop : tie.InvT-loop
-Inv-loop v shape ps cs sets ports₀ out₀ loud ls₀ d₀ sent₀ rules₀ i₀ ports out ls d sent rules i =
-    Between v (shaped shape ps cs) sets (partyIn v (shaped shape ps cs) ls₀ sets) loud out₀ ls d ports out sent rules i
+Inv-loop v shape ps cs sets ports₀ out₀ from ls₀ d₀ sent₀ rules₀ i₀ ports out ls d sent rules i =
+    Between v (shaped shape ps cs) sets (partyIn v (shaped shape ps cs) ls₀ sets) from out₀ ls d ports out sent rules i
 
 abbrev μ-loop : tie.MeasureT-loop
-μ-loop v shape ps cs sets ports₀ out₀ loud ls₀ d₀ sent₀ rules₀ i₀ ports out ls d sent rules i = (levelCount + 1) * (maxRules - rules) + (levelCount - i)
+μ-loop v shape ps cs sets ports₀ out₀ from ls₀ d₀ sent₀ rules₀ i₀ ports out ls d sent rules i = (levelCount + 1) * (maxRules - rules) + (levelCount - i)
 
 abbrev plan : tie.Start Inv-loop μ-loop → Plan
 plan s = shaped (s .args .shape) (now (s .args .ps)) (now (s .args .cs))
@@ -33,13 +33,13 @@ sized : (s : tie.Start Inv-loop μ-loop) → Sized (first s)
 sized s =
     let a = s .args in
     let t = s .good .1 .1 .1 .1 .1 .0 in
-    sized-in (a .v) (plan s) (a .levels) (now (a .sets)) (s .pre .valid) (levels-full (a .levels) _ t) (levels-echoes (a .levels) _ t)
+    sized-in (a .v) (plan s) (a .levels) (now (a .sets)) (s .pre .0 .valid) (levels-full (a .levels) _ t) (levels-echoes (a .levels) _ t)
 
 loop-holds : tie.Need-loop-holds Inv-loop μ-loop
 loop-holds c =
     let s = c .before .before .before in
     let a = s .args in
-    turn-start (a .v) (plan s) (now (a .sets)) (a .loud) (now (a .out)) (a .levels) (a .chart) (now (a .ports)) (sized s) (s .pre .charts)
+    turn-start (a .v) (plan s) (now (a .sets)) (a .from) (now (a .out)) (a .levels) (a .chart) (now (a .ports)) (sized s) (s .pre .0 .charts)
     (chart-surveys (a .chart) _ (s .good .1 .1 .1 .1 .1 .1 .0))
 
 -- i is a level that sends
@@ -78,7 +78,7 @@ rule-at-requires c κs =
     let a = s .args in (
       omega (arith, below t),
       omega (arith, c .before .rule-at-arg .given .0),
-      turn-limits (a .v) (plan s) (now (a .sets)) (first s) (a .loud) (now (a .out)) (l .ls) (l .d) (l .ports) (l .out) (l .sent) (l .rules) (l .i) (l .inv)
+      turn-limits (a .v) (plan s) (now (a .sets)) (first s) (a .from) (now (a .out)) (l .ls) (l .d) (l .ports) (l .out) (l .sent) (l .rules) (l .i) (l .inv)
           (t .loop-test .taken) (c .context .result) (c .context .ensures),
     )
 
@@ -93,9 +93,13 @@ emit-requires c κs =
     let l = t .before .loop in
     let s = t .before .before .before .before .before in
     let a = s .args in (
-      turn-fits (a .v) (plan s) (now (a .sets)) (first s) (a .loud) (now (a .out)) (l .ls) (l .d) (l .ports) (l .out) (l .sent) (l .rules) (l .i) (l .inv)
-          (t .loop-test .taken) (x .context .result) (x .context .ensures) (n .before .rule-at .result) (n .before .rule-at .ensures) (n .applies .result) (n .applies .ensures)
-          (c .before .if1 .taken) (s .pre .room),
+      omega (
+        arith,
+        l .inv .going .count,
+        turn-fits (a .v) (plan s) (now (a .sets)) (first s) (a .from) (now (a .out)) (l .ls) (l .d) (l .ports) (l .out) (l .sent) (l .rules) (l .i) (l .inv)
+            (t .loop-test .taken) (x .context .result) (x .context .ensures) (n .before .rule-at .result) (n .before .rule-at .ensures) (n .applies .result) (n .applies .ensures)
+            (c .before .if1 .taken) (s .pre .1),
+      ),
       omega (arith, below t),
     )
 
@@ -124,9 +128,9 @@ step-requires c κs =
     let l = t .before .loop in
     let s = t .before .before .before .before .before in
     let a = s .args in
-    turn-steps (a .v) (plan s) (now (a .sets)) (first s) (a .loud) (now (a .out)) (l .ls) (l .d) (l .ports) (l .out) (l .sent) (l .rules) (l .i) (l .inv)
+    turn-steps (a .v) (plan s) (now (a .sets)) (first s) (a .from) (now (a .out)) (l .ls) (l .d) (l .ports) (l .out) (l .sent) (l .rules) (l .i) (l .inv)
     (t .loop-test .taken) (x .context .result) (x .context .ensures) (n .before .rule-at .result) (n .before .rule-at .ensures) (n .applies .result) (n .applies .ensures)
-    (y .if1 .taken) (s .pre .rows)
+    (y .if1 .taken) (s .pre .0 .rows)
 
 add-j : tie.Need-add-j Inv-loop μ-loop
 add-j c = omega (arith, below (within (turn-m c)))
@@ -146,7 +150,7 @@ more y =
     let l = t .before .loop in
     let s = t .before .before .before .before .before in
     let a = s .args in
-    turn-more (a .v) (plan s) (now (a .sets)) (first s) (a .loud) (now (a .out)) (l .ls) (l .d) (l .ports) (l .out) (l .sent) (l .rules) (l .i) (l .inv)
+    turn-more (a .v) (plan s) (now (a .sets)) (first s) (a .from) (now (a .out)) (l .ls) (l .d) (l .ports) (l .out) (l .sent) (l .rules) (l .i) (l .inv)
     (t .loop-test .taken) (x .context .result) (x .context .ensures) (n .before .rule-at .result) (n .before .rule-at .ensures) (n .applies .result) (n .applies .ensures)
     (y .if1 .taken)
 
@@ -187,9 +191,9 @@ loop-again c =
     let a = s .args in
     let m = k .before .before in
     let o = m .before .before .before .before .before .before .emit in
-    turn-again (a .v) (plan s) (now (a .sets)) (first s) (a .loud) (now (a .out)) (l .ls) (l .d) (l .ports) (l .out) (l .sent) (l .rules) (l .i) (l .inv)
+    turn-again (a .v) (plan s) (now (a .sets)) (first s) (a .from) (now (a .out)) (l .ls) (l .d) (l .ports) (l .out) (l .sent) (l .rules) (l .i) (l .inv)
     (t .loop-test .taken) (x .context .result) (x .context .ensures) (n .before .rule-at .result) (n .before .rule-at .ensures) (n .applies .result) (n .applies .ensures)
-    (y .if1 .taken) (s .pre .room) (m .step .result) (m .step .last .1 .1 .1 .1 .0) (m .step .ensures) (o .last .0) (o .result) (o .ensures .0) (o .ensures .1)
+    (y .if1 .taken) (s .pre .1) (m .step .result) (m .step .last .1 .1 .1 .1 .0) (m .step .ensures) (o .last .0) (o .result) (o .ensures .0) (o .ensures .1)
     (k .back .result) (k .back .ensures) _ (chart-more (l .d) (l .i + 1) (m .step .result) (c .before .before .if2 .taken))
 
 loop-again-2 : tie.Need-loop-again-2 Inv-loop μ-loop
@@ -204,9 +208,9 @@ loop-again-2 c =
     let a = s .args in
     let m = k .before .before in
     let o = m .before .before .before .before .before .before .emit in
-    turn-again (a .v) (plan s) (now (a .sets)) (first s) (a .loud) (now (a .out)) (l .ls) (l .d) (l .ports) (l .out) (l .sent) (l .rules) (l .i) (l .inv)
+    turn-again (a .v) (plan s) (now (a .sets)) (first s) (a .from) (now (a .out)) (l .ls) (l .d) (l .ports) (l .out) (l .sent) (l .rules) (l .i) (l .inv)
     (t .loop-test .taken) (x .context .result) (x .context .ensures) (n .before .rule-at .result) (n .before .rule-at .ensures) (n .applies .result) (n .applies .ensures)
-    (y .if1 .taken) (s .pre .room) (m .step .result) (m .step .last .1 .1 .1 .1 .0) (m .step .ensures) (o .last .0) (o .result) (o .ensures .0) (o .ensures .1)
+    (y .if1 .taken) (s .pre .1) (m .step .result) (m .step .last .1 .1 .1 .1 .0) (m .step .ensures) (o .last .0) (o .result) (o .ensures .0) (o .ensures .1)
     (k .back .result) (k .back .ensures) _ (chart-same (l .d) (l .i + 1) (m .step .result) (c .if2 .left))
 
 add-i : tie.Need-add-i Inv-loop μ-loop
@@ -223,7 +227,7 @@ loop-again-3 c =
     let l = t .before .loop in
     let s = t .before .before .before .before .before in
     let a = s .args in
-    turn-next (a .v) (plan s) (now (a .sets)) (first s) (a .loud) (now (a .out)) (l .ls) (l .d) (l .ports) (l .out) (l .sent) (l .rules) (l .i) (l .inv)
+    turn-next (a .v) (plan s) (now (a .sets)) (first s) (a .from) (now (a .out)) (l .ls) (l .d) (l .ports) (l .out) (l .sent) (l .rules) (l .i) (l .inv)
     (t .loop-test .taken) (x .context .result) (x .context .ensures) (n .before .rule-at .result) (n .before .rule-at .ensures) (n .applies .result) (n .applies .ensures)
     (c .if1 .left)
 
@@ -235,7 +239,7 @@ returns c =
     let l = c .before .loop in
     let s = c .before .before .before .before .before in
     let a = s .args in
-    turn-end (a .v) (plan s) (now (a .sets)) (first s) (a .loud) (now (a .out)) (l .ls) (l .d) (l .ports) (l .out) (l .sent) (l .rules) (l .i) (l .inv) (c .loop-test .left)
+    turn-end (a .v) (plan s) (now (a .sets)) (first s) (a .from) (now (a .out)) (l .ls) (l .d) (l .ports) (l .out) (l .sent) (l .rules) (l .i) (l .inv) (c .loop-test .left)
 
 pub run-spec : {M : Type 1} → statement M
 run-spec =
