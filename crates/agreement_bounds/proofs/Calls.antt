@@ -1,7 +1,8 @@
--- What a start, take or restore sends and applies is within the bounds: each is what a record that fits the party makes.
+-- What a start, take or restore sends and applies is within the bounds: a start's or take's is what a record that fits the party makes, a restore's what the
+-- records of a life make.
 use mathlib.Core.Path.{_≡_, refl, sym, ap, _∙_, subst}
 use mathlib.Core.Bool.{Bool, true, false}
-use mathlib.Core.List.{List, [], _∷_}
+use mathlib.Core.List.{List}
 use Prim.Native.Nat.{ℕ, _+_, _≤_, _<_}
 use native.Mathlib.Omega.{arith}
 use lib.Dec.{T, leb, leb→le}
@@ -10,29 +11,28 @@ use lib.ListN.{length}
 use Rattle.base.specs.Pick.{pick}
 use Rattle.base.specs.Limits.{lastLevel, maxRules, outgoingSize}
 use Rattle.base.specs.Found.{Found, found, refused}
-use Rattle.base.proofs.Bools.{T→true}
 use Rattle.varint.specs.Varint.{AllBytes}
-use Rattle.plan.specs.Plan.{Plan}
-use Rattle.plan.specs.Reading.{settledPlan}
 use Rattle.plan.proofs.Listed.{asked}
 use Rattle.message.specs.declared.Message.{Message}
 use Rattle.message.specs.Message.{inTable}
-use Rattle.message.proofs.RoundTrip.{message-length-most}
 use Rattle.journal.specs.declared.Record.{Record}
+use Rattle.journal.specs.Reading.{recordsIn}
 use Rattle.party.specs.Party.{Party, newParty, heldBy, hearing}
 use Rattle.party.specs.Run.{Ran, resting, run, taking, bytesOf}
 use Rattle.party.specs.Valid.{partyValid}
-use Rattle.party_life.specs.Life.{replayed, following, lived, Fits, Life}
+use Rattle.party_life.specs.Life.{replayed, lived, Fits}
 use Rattle.party_life.proofs.Fits.{fits-start, fits-taken}
-use Rattle.party_bounds.proofs.Laws.{Sized, sized-new, sized-hearing, Within, replayed-within, lived-within, within-rules, within-outgoing, Quiescent, run-quiescent, starting-quiescent, set-up-quiescent}
+use Rattle.party_bounds.proofs.Laws.{sized-new, sized-hearing, Within, replayed-within, lived-within, within-rules, Quiescent, run-quiescent, starting-quiescent, set-up-quiescent, typed-sized}
 use Rattle.board_calls.specs.Answers.{positionOf}
 use Rattle.board_calls.specs.Calls.{Entry, again, fresh, startQuestions, takeQuestions, calledOf}
-use Rattle.board_calls.specs.Restore.{Replay, onPlanRead, restoreQuestions, restoredOf}
+use Rattle.board_calls.specs.Restore.{Replay, restoreQuestions, restoredOf}
 use Rattle.party.specs.Typed.{Typed}
 use Rattle.board_laws.specs.Inner.{New}
 use Rattle.board_laws.proofs.Questions.{take-held}
-use Rattle.board_laws.proofs.Kept.{replay-keeps}
 use Rattle.board_laws.proofs.Restored.{settled-new}
+use Rattle.board_promises.specs.Restored.{LivedAgain}
+use Rattle.board_promises.proofs.Restored.{restore-lived}
+use Rattle.board_laws.proofs.Replays.{outgoing-most}
 use Rattle.agreement.proofs.Entries.{Recorded, start-recorded, take-recorded}
 
 -- what ran fits the outgoing buffer and counts few enough rules
@@ -41,13 +41,9 @@ pub record Bounded (r : Ran) : Type 0 where
   pub rules : r .rules ≤ maxRules
 
 within-bounded : (p : Party) (r : Ran) → Within (lastLevel + 1) p r → Bounded r
-within-bounded p r w = record { sent = within-outgoing (λ m h. message-length-most m (T→true (inTable m) h)) p r w; rules = within-rules p r w }
+within-bounded p r w = record { sent = outgoing-most p r w; rules = within-rules p r w }
 
 -- ---- start and take
-
--- what the types give, and question 19
-pub typed-sized : (p : Party) → Typed p → T (partyValid p) → Sized p
-typed-sized p t v = record { formed = record { valid = v; full = t .levels }; echoes = t .echoes }
 
 module _ (p : Party) (t : Typed p) (room used out : ℕ) where
   recorded-bounded : (r : Record) (ran : Ran) → T (partyValid p) → Recorded p room used r ran → Bounded ran
@@ -100,41 +96,26 @@ module _ (p : Party) (t : Typed p) (room used out : ℕ) where
 
 -- ---- restore
 
--- what a life from p made
-abbrev Lives : Party → Ran → Type 0
-Lives p r = (rs : List Record) × Life p rs × (r ≡ lived p rs)
-
--- one more record
-lives-more : (p : Party) (r : Ran) (x : Record) → Lives p r → Fits (r .party) x → Lives p (following r (replayed (r .party) x))
-unfolding lived
-lives-more p r x (rs, l, e) f = (x ∷ rs, (subst (λ (z : Ran). Fits (z .party) x) e f, l), ap (λ (z : Ran). following z (replayed (z .party) x)) e)
-
-lives-none : (p : Party) → Lives p (resting p)
-unfolding lived
-lives-none p = ([], tt, refl)
-
-module _ (n t own a : ℕ) (bytes j : List ℕ) (all : AllBytes j) (out : ℕ) where
+module _ (n t own a : ℕ) (bytes j : List ℕ) (all : AllBytes j) (out : ℕ) (x : Replay) (e : restoreQuestions n t own a bytes j out ≡ found x) where
   -- an accepted restore gives a life of a party as set up
-  restore-lives : (x : Replay) → restoreQuestions n t own a bytes j out ≡ found x → (plan : Plan) × New (newParty n t own a plan) × Lives (newParty n t own a plan) (x .ran)
-  unfolding restoreQuestions
-  restore-lives x e = go (settledPlan n t own bytes) refl (asked (leb outgoingSize out) 18 0 (onPlanRead n t own a j (settledPlan n t own bytes)) x e .1)
-    where
-      go : (f : Found Plan) → settledPlan n t own bytes ≡ f → onPlanRead n t own a j f ≡ found x → (plan : Plan) × New (newParty n t own a plan) × Lives (newParty n t own a plan) (x .ran)
-      go (found plan) i e =
-          let p : Party = newParty n t own a plan in
-          (plan, settled-new n t own bytes a i, replay-keeps (Lives p) j all (lives-more p) (length j) 0 (resting p) x (lives-none p) e)
-      go (refused number place) i e = let z : _≡_ {A = ℕ} 0 1 = cc in absurd (omega arith)
+  relived : LivedAgain n t own a bytes j x
+  relived = restore-lived n t own a bytes j out x all e
 
-  pub restore-bounded : (x : Replay) → restoreQuestions n t own a bytes j out ≡ found x → Bounded (x .ran)
-  restore-bounded x e =
-      let (plan, w, (rs, l, i)) = restore-lives x e in
-      let p : Party = newParty n t own a plan in
-      subst Bounded (sym i) (within-bounded p (lived p rs) (lived-within (lastLevel + 1) (omega arith) p (sized-new n t own a plan (w .settings) (w .plan)) rs l))
+  abbrev p : Party
+  p = newParty n t own a (relived .plan)
 
-  pub restore-quiescent : (x : Replay) → restoreQuestions n t own a bytes j out ≡ found x → Quiescent (x .ran .party)
-  restore-quiescent x e =
-      let (plan, w, (rs, l, i)) = restore-lives x e in
-      subst (λ (y : Ran). Quiescent (y .party)) (sym i) (set-up-quiescent n t own a plan (w .settings) (w .plan) rs l)
+  settled : New p
+  settled = settled-new n t own bytes a (relived .reads)
+
+  pub restore-bounded : Bounded (x .ran)
+  restore-bounded =
+      let z = sized-new n t own a (relived .plan) (settled .settings) (settled .plan) in
+      subst Bounded (sym (relived .ran)) (within-bounded p (lived p (recordsIn j)) (lived-within (lastLevel + 1) (omega arith) p z (recordsIn j) (relived .life)))
+
+  pub restore-quiescent : Quiescent (x .ran .party)
+  restore-quiescent =
+      subst (λ (y : Ran). Quiescent (y .party)) (sym (relived .ran))
+      (set-up-quiescent n t own a (relived .plan) (settled .settings) (settled .plan) (recordsIn j) (relived .life))
 
 -- what a restore gives that finds q
 pub restored-sent : (q : Found Replay) → ((x : Replay) → q ≡ found x → Bounded (x .ran)) → restoredOf q .sent ≤ outgoingSize

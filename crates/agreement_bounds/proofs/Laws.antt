@@ -17,7 +17,7 @@ use Rattle.party.specs.Party.{Party}
 use Rattle.party.specs.Run.{Ran, openLevel, runUpTo, run}
 use Rattle.party.specs.Valid.{partyValid}
 use Rattle.party_life.specs.Life.{lived}
-use Rattle.party_bounds.proofs.Laws.{rules-most, run-quiescent, runs-same, set-up-rules}
+use Rattle.party_bounds.proofs.Laws.{rules-most, run-quiescent, runs-same, set-up-rules, typed-sized}
 use Rattle.board_calls.specs.Calls.{again, fresh, startQuestions, takeQuestions, calledOf}
 use Rattle.board_calls.specs.Restore.{Replay, restoreQuestions, restoredOf}
 use Rattle.party.specs.Typed.{Typed}
@@ -30,7 +30,7 @@ use Rattle.agreement.proofs.Tied.{newBoard, plan-valid, settings-pass}
 use Rattle.agreement.proofs.Histories.{TiedAfter, tied}
 use Rattle.agreement.proofs.Boards.{records-of}
 use Rattle.agreement_bounds.specs.Reports.{reports, total}
-use Rattle.agreement_bounds.proofs.Calls.{typed-sized, start-bounded, take-bounded, start-quiescent, take-quiescent, called-sent, called-rules, restore-bounded, restore-quiescent, restored-sent, restored-rules}
+use Rattle.agreement_bounds.proofs.Calls.{start-bounded, take-bounded, start-quiescent, take-quiescent, called-sent, called-rules, restore-bounded, restore-quiescent, restored-sent, restored-rules}
 use Rattle.agreement_bounds.proofs.Reported.{along-total, reported}
 
 -- ---- each call, of any party record with its type's shape and any bytes

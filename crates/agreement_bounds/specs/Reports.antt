@@ -7,10 +7,10 @@ use lib.ListN.{length, drop}
 use Rattle.base.specs.Pick.{pick}
 use Rattle.base.specs.Found.{Found, found, refused}
 use Rattle.journal.specs.declared.Record.{Record}
+use Rattle.journal.specs.Reading.{recordsIn}
 use Rattle.party.specs.Party.{Party}
 use Rattle.board_calls.specs.Calls.{Entry, again, fresh, calledOf}
 use Rattle.agreement.specs.History.{Call, set-up, start, take-message, read-answer, restore, startFinds, takeFinds, Step, calls, hands, cut, whose, History, boardAfter}
-use Rattle.agreement.specs.Allowed.{recordsIn}
 
 -- the reports after a start or take, the latest first, where they were l before: one for each record. A take of a message already held, which has no
 -- record, reports 0 and is left out; so is a refused call

@@ -1,4 +1,5 @@
 pub mod Given
 pub mod Outgoing
 pub mod Refused
+pub mod Restored
 pub mod Starts

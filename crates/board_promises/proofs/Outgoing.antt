@@ -1,6 +1,7 @@
 -- The outgoing bytes of an accepted call are read back as the messages that it made, one after the other, and nothing more.
 use mathlib.Core.Path.{_≡_, refl, sym, ap, ap₂, _∙_, subst}
-use mathlib.Core.List.{List, [], _∷_, _++_, append-assoc, append-nil, List·Memᴰ, List·Memᴰ·head, List·Memᴰ·tail, List·Memᴰ·not-nil}
+use mathlib.Core.Logic.{_⊎_, inl, inr}
+use mathlib.Core.List.{List, [], _∷_, _++_, append-assoc, append-nil, List·Memᴰ, List·Memᴰ·head, List·Memᴰ·tail, List·Memᴰ·not-nil, List·Memᴰ·append-cases}
 use mathlib.Core.Option.{some}
 use Prim.Native.Nat.{ℕ, zero, suc, _+_, _≤_, _<_}
 use native.Mathlib.Omega.{arith}
@@ -29,7 +30,7 @@ use Rattle.journal.specs.declared.Record.{Record}
 use Rattle.party.specs.Party.{Party, newParty}
 use Rattle.party.specs.Run.{Ran, resting, bytesOf}
 use Rattle.party_life.specs.Life.{replayed, following, Fits}
-use Rattle.party_bounds.proofs.Laws.{Sized, Within, replayed-within, sized-replayed}
+use Rattle.party_bounds.proofs.Laws.{Sized, Within, replayed-within, sized-replayed, typed-sized}
 use Rattle.board_calls.specs.Calls.{Called, Entry, fresh, startQuestions, takeQuestions, calledOf, outgoingAfter}
 use Rattle.board_calls.specs.Restore.{Replay, onPlanRead, restoreQuestions, restoredOf, restoreOutgoing}
 use Rattle.board_calls.specs.Results.{CallGives, RestoreGives}
@@ -112,8 +113,8 @@ proper-writable a h ms w m i = (T→true (inTable m) (w m i .0), subst (λ (n : 
 -- so can those of a call that makes a record
 recorded-writable : (p : Party) → Typed p → (r : Record) (ran : Ran) → Recorded p r ran → AllWritable (ran .made)
 recorded-writable p t r ran h =
-    let z : Sized p = record { formed = record { valid = h .0; full = t .levels }; echoes = t .echoes } in
-    let w : Within (lastLevel + 1) p ran = subst (Within (lastLevel + 1) p) (sym (h .2)) (replayed-within (lastLevel + 1) (omega arith) p z r (h .1)) in
+    let w = replayed-within (lastLevel + 1) (omega arith) p (typed-sized p t (h .0)) r (h .1) in
+    let w : Within (lastLevel + 1) p ran = subst (Within (lastLevel + 1) p) (sym (h .2)) w in
     proper-writable (p .agreement) (t .agreement) (ran .made) (w .proper)
 
 module _ {p : Party} {used : ℕ} {j out : List ℕ} {c : Called} {jThen outThen : List ℕ} where
@@ -151,8 +152,13 @@ voting-keeps a r x v f =
     record {
       sized = sized-replayed (r .party) (v .sized) x f;
       agreement = w .agreement ∙ v .agreement;
-      proper = λ m i. let y = w .proper m i in (y .0, y .1 ∙ v .agreement);
+      proper = λ m i. of w m (List·Memᴰ·append-cases (r .made) i);
     }
+  where
+    of : Within (lastLevel + 1) (r .party) (replayed (r .party) x) → (m : Message) → List·Memᴰ m (r .made) ⊎ List·Memᴰ m (replayed (r .party) x .made)
+        → T (inTable m) × (m .number ≡ a)
+    of w m (inl i) = v .proper m i
+    of w m (inr i) = let y = w .proper m i in (y .0, y .1 ∙ v .agreement)
 
 module _ (n t own a : ℕ) (bytes j : List ℕ) where
   -- so the messages of a restore are of its vote
@@ -173,7 +179,7 @@ module _ (n t own a : ℕ) (bytes j : List ℕ) where
           e
       go (refused number place) i e = let z : _≡_ {A = ℕ} 0 1 = cc in absurd (omega arith)
 
-  -- The bytes that an accepted restore sends are the messages of the last whole record.
+  -- The bytes that an accepted restore sends are the messages of all its records.
   pub restore-outgoing : a ≤ maxNumber → AllBytes j → {out : List ℕ} {c : Called} {outThen : List ℕ} (x : Replay)
       → RestoreGives (restoreQuestions n t own a bytes j (length out)) out c outThen → restoreQuestions n t own a bytes j (length out) ≡ found x
       → messagesOf (take (c .sent) outThen) ≡ some (x .ran .made)

@@ -1,3 +1,4 @@
 pub mod Given
 pub mod Outgoing
 pub mod Refused
+pub mod Restored
