@@ -2,7 +2,7 @@
 use mathlib.Core.Path.{_≡_, refl, sym, ap, _∙_, subst}
 use mathlib.Core.Logic.{_⊎_, inl, inr}
 use mathlib.Core.Bool.{Bool, true, false}
-use mathlib.Core.List.{List, _∷_, List·Memᴰ, List·Memᴰ·head}
+use mathlib.Core.List.{List, _∷_, List·Memᴰ}
 use Prim.Native.Nat.{ℕ, _+_, _≤_, _<_}
 use native.Mathlib.Omega.{arith}
 use lib.Dec.{T}
@@ -39,7 +39,7 @@ use Rattle.board_laws.proofs.Questions.{start-fits, take-held, take-fits}
 use Rattle.vote_machine.specs.Machine.{Sent}
 use Rattle.agreement.specs.History.{Instance, Lent, start, take-message, startFinds, takeFinds, restoreFinds, calls, hands, History, running, boardAfter}
 use Rattle.agreement.specs.Allowed.{Sound, Handed, Continues, Lendable, Allowed}
-use Rattle.agreement.specs.Demand.{Started, Took, StartedWith, Shared}
+use Rattle.agreement.specs.Demand.{Started, Took, HandedSince, StartedWith, Shared}
 use Rattle.agreement.specs.Inner.{recordsOf}
 use Rattle.agreement.proofs.Restored.{lendable-begins, livedReplay, restored-cut}
 use Rattle.agreement.proofs.Entries.{input-placed, exact-table, fits-limits}
@@ -47,6 +47,7 @@ use Rattle.agreement.proofs.Tied.{newBoard, plan-valid}
 use Rattle.agreement.proofs.Histories.{TiedAfter, tied}
 use Rattle.agreement.proofs.Boards.{stateOf, running-state, state-formed, state-board, records-of, started-state, makes-state, sent-read}
 use Rattle.agreement.proofs.Words.{started-records, made-records, start-counts, take-counts, handed-one, handed-made}
+use Rattle.agreement.proofs.Since.{since-now}
 
 -- the most bytes of a record: 1 for its group, 1 for a sender, 8 for a message
 abbrev pub recordMost : ℕ
@@ -173,8 +174,9 @@ module _ (v : Instance) (plan : Plan) (bad : Set) (f : Shared v plan) where
           let y : Allowed v bad (calls i (take-message p j bytes lent used) ∷ h) = ((o, inr (c, λ _. g)), a) in
           (y, (m .0, m .2, take-counts v plan bad f h i p lent used j bytes (m .0) (m .2) (x .0) (x .1)))
 
-    -- "has handed over all that its calls made": what the last calls made (Steps, `start-posts`, `take-posts`) can be handed over
+    -- "has handed over all that its calls made", since its last restore: what its calls made (Steps, `start-posts`, `take-posts`), or a restore gave
+    -- again, can be handed over
     pub can-hand : boardAfter h i .stage ≡ running → (m : Message) → List·Memᴰ m (boardAfter h i .outbox) →
         let s = hands i (messageBytes m) in
-        Allowed v bad (s ∷ h) × Handed i (messageBytes m) (s ∷ h)
-    can-hand up m g = (((o, up, (m, refl, g)), a), List·Memᴰ·head refl)
+        Allowed v bad (s ∷ h) × HandedSince i (messageBytes m) (s ∷ h)
+    can-hand up m g = (((o, up, (m, refl, g)), a), since-now i (messageBytes m) h)

@@ -128,7 +128,7 @@ module _ (plan : Plan) (p : Party) where
   -- what the calls made is what the records' calls make
   pub made-along : (cs : List Counted) (rs : List Record) → Follows plan p cs rs → (c : Counted) → List·Memᴰ c cs → (m : Message) → List·Memᴰ m (c .made)
       → List·Memᴰ m (madeAlong p rs)
-  unfolding madeAlong
+  unfolding lived
   made-along [] rs w c k m n = absurd (List·Memᴰ·not-nil k)
   made-along (d ∷ cs) rs (inl (x, w)) c k m n = go (made-along cs rs w c) (List·Memᴰ·cases-cons k)
     where
@@ -147,7 +147,7 @@ module _ (plan : Plan) (p : Party) where
 
   pub made-by : (cs : List Counted) (rs : List Record) → Follows plan p cs rs → (m : Message) → List·Memᴰ m (madeAlong p rs)
       → (c : Counted) × List·Memᴰ c cs × List·Memᴰ m (c .made)
-  unfolding madeAlong
+  unfolding lived
   made-by [] rs w m k = absurd (List·Memᴰ·not-nil (subst (λ (ts : List Record). List·Memᴰ m (madeAlong p ts)) w k))
   made-by (d ∷ cs) rs (inl (x, w)) m k = let y = made-by cs rs w m k in (y .0, List·Memᴰ·tail (y .1), y .2)
   made-by (d ∷ cs) rs (inr (older, x, w)) m k =

@@ -28,7 +28,7 @@ use Rattle.board_calls.specs.Calls.{fresh}
 use Rattle.execution.specs.Machine.{Event}
 use Rattle.vote_machine.specs.Machine.{Sent, eventOf, eventsOf}
 use Rattle.vote_machine.specs.Inner.{Le}
-use Rattle.vote_machine.proofs.Laws.{le-sent, regular-lived, le-record, le-lived, tells-replayed, sent-proper}
+use Rattle.vote_machine.proofs.Laws.{le-sent, regular-lived, le-record, le-lived, made-lived, tells-replayed, sent-proper}
 use Rattle.agreement.specs.History.{Instance, Lent, Stage, waiting, running, down, Act, Counted, Board, afterSetUp, afterRestore, cutOff}
 use Rattle.agreement.specs.Demand.{Shared}
 use Rattle.agreement.proofs.Restored.{Begins, begins-used, livedReplay}
@@ -40,12 +40,6 @@ use Rattle.agreement.proofs.Tied.{events-length, events-drop, life-drop
 module _ (v : Instance) (plan : Plan) (f : Shared v plan) (i : ℕ) (seat : i < v .n) where
   abbrev p : Party
   p = newBoard v plan i
-
-  -- the messages that the call of a life's last record made
-  last-sent : (rs : List Record) → Life p rs → (m : Message) → List·Memᴰ m (lived p rs .made) → Sent (lived p rs .party) m
-  unfolding lived
-  last-sent [] k m h = absurd (List·Memᴰ·not-nil h)
-  last-sent (r ∷ rs) k m h = tells-replayed (lived p rs .party) r (k .0) (regular-lived p (board-regular v plan f i seat) rs (k .1)) .made m h
 
   module _ (b : Board) (l : List (Event Message ℕ)) (x : ℕ) (w : Tied v plan i b l x) where
     pub tied-set-up : b .stage ≡ waiting → Tied v plan i (afterSetUp b Verdict.Accepted (newBoard v plan i)) l x
@@ -113,7 +107,8 @@ module _ (v : Instance) (plan : Plan) (f : Shared v plan) (i : ℕ) (seat : i < 
         posted : (m : Message) → Life p (r ∷ rs) → ran ≡ replayed now r → Running v plan i b rs → List·Memᴰ m (b .outbox) ⊎ List·Memᴰ m (ran .made)
             → Sent (replayed now r .party) m
         posted m k d u (inl h) = le-sent now (replayed now r .party) (le-record p (board-regular v plan f i seat) r rs k) m (u .outbox m h)
-        posted m k d u (inr h) = last-sent (r ∷ rs) k m (subst (λ (y : Ran). List·Memᴰ m (y .made)) d h)
+        posted m k d u (inr h) =
+            tells-replayed now r (k .0) (regular-lived p (board-regular v plan f i seat) rs (k .1)) .made m (subst (λ (y : Ran). List·Memᴰ m (y .made)) d h)
 
     -- the call's record is the newest
     pub fresh-records : (e : b .stage ≡ running) (a : Act) (room used : ℕ) (r : Record) (ran : Ran) (t : Recorded (b .party) room used r ran)
@@ -172,7 +167,7 @@ module _ (v : Instance) (plan : Plan) (f : Shared v plan) (i : ℕ) (seat : i < 
       loose = 0;
       guards = omega arith;
       kept = omega (arith, ap length (w .events), events-length rs);
-      stage = record { party = refl; journal = begins-used h; outbox = last-sent rs (w .life) };
+      stage = record { party = refl; journal = begins-used h; outbox = made-lived p (board-regular v plan f i seat) rs (w .life) };
     }
 
     -- ---- a cut

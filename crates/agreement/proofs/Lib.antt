@@ -12,6 +12,7 @@ pub mod Steps
 pub mod Counted
 pub mod Follows
 pub mod Words
+pub mod Since
 pub mod Accepted
 pub mod Logs
 pub mod Theorem

@@ -1,6 +1,6 @@
 -- Restoring what a life wrote gives that life's party.
 use mathlib.Core.Path.{_≡_, refl, sym, ap, _∙_, subst}
-use mathlib.Core.List.{List, [], _∷_}
+use mathlib.Core.List.{List, [], _∷_, _++_}
 use Prim.Native.Nat.{ℕ, _+_, _≤_, _<_}
 use native.Mathlib.Omega.{arith}
 use lib.ListN.{length}
@@ -38,10 +38,10 @@ calledWith ran used = record {
   rules = ran .rules;
 }
 
--- of what ran, the rules are the sum over the records and the messages are the last record's
+-- of what ran, the rules are the sum over the records, and the messages are those of all of them, in order
 pub lived-more : (p : Party) (r : Record) (rs : List Record) →
     let q = replayed (lived p rs .party) r in
-    lived p (r ∷ rs) ≡ record { party = q .party; rules = lived p rs .rules + q .rules; made = q .made }
+    lived p (r ∷ rs) ≡ record { party = q .party; rules = lived p rs .rules + q .rules; made = lived p rs .made ++ q .made }
 unfolding lived
 lived-more p r rs = refl
 
@@ -55,7 +55,7 @@ module _ (v : Instance) (plan : Plan) (f : Shared v plan) (i : ℕ) (seat : i < 
         life-limits rs k,
       )
 
-  -- Restoring what a life wrote gives that life's party, the whole length, the sum of its rules, and its last record's messages.
+  -- Restoring what a life wrote gives that life's party, the whole length, the sum of its rules, and all its messages.
   pub life-restored : (rs : List Record) → Life (newBoard v plan i) rs → (out : List ℕ) → outgoingSize ≤ length out →
       let q = restoreQuestions (v .n) (v .t) i (v .agreement) (v .plan) (journalBytes rs) (length out) in
       (restoredOf q ≡ calledWith (lived (newBoard v plan i) rs) (length (journalBytes rs)))

@@ -1,25 +1,26 @@
--- An allowed history, told over logs, meets what demand 3 asks there; and where all is started, handed over and taken, it is so there.
-use mathlib.Core.Path.{refl}
-use mathlib.Core.List.{List·Memᴰ}
+-- An allowed history, told over logs, meets what demand 3 asks there; and where all is started and what was made is taken, it is so there.
+use mathlib.Core.Path.{_≡_, refl}
+use mathlib.Core.List.{List, List·Memᴰ}
 use Prim.Native.Nat.{ℕ}
-use lib.Dec.{T}
 use Rattle.base.specs.Sets.{Set}
 use Rattle.plan.specs.Plan.{Plan}
 use Rattle.message.specs.declared.Message.{Message}
+use Rattle.message.specs.declared.Exactly.{Exactly}
 use Rattle.message.specs.Message.{messageBytes}
-use Rattle.party.specs.Party.{levelAt, started}
+use Rattle.message.specs.Reading.{exactMessage}
+use Rattle.party.specs.Party.{levelAt}
 use Rattle.execution.specs.Machine.{Machine}
 use Rattle.execution.specs.History.{log}
 use Rattle.execution.specs.Inner.{ValidH}
-use Rattle.execution.proofs.Logs.{handed-sent}
-use Rattle.vote_machine.specs.Machine.{Heard, Sent, voteMachine}
-use Rattle.vote_machine.proofs.Laws.{Passes, vote-lawful}
+use Rattle.vote_machine.specs.Machine.{Sent, voteMachine}
+use Rattle.vote_machine.proofs.Laws.{Passes}
 use Rattle.log_agreement.specs.Logs as logs
 use Rattle.log_agreement.proofs.Logs.{heard-held, made-tells, valid-allowed}
 use Rattle.agreement.specs.History.{Instance, History}
-use Rattle.agreement.specs.Allowed.{Sound, Allowed}
-use Rattle.agreement.specs.Demand.{Made, Shared, Premises, Complete}
-use Rattle.agreement.proofs.Told.{machineOf, told, handed-told}
+use Rattle.agreement.specs.Allowed.{Sound, Handed, Allowed}
+use Rattle.agreement.specs.Demand.{Took, Made, HandedSince, Complete, Shared, Premises}
+use Rattle.agreement.specs.Ending.{Delivered, CompleteFromSetUp}
+use Rattle.agreement.proofs.Told.{machineOf, told}
 use Rattle.agreement.proofs.Tied.{shared-passes}
 use Rattle.agreement.proofs.Histories.{told-valid}
 use Rattle.agreement.proofs.Boards.{stateOf, started-state, took-state, makes-state, sent-read}
@@ -58,25 +59,27 @@ module _ (v : Instance) (plan : Plan) (bad : Set) (h : History) (given : Premise
   made : (i : ℕ) (m : Message) → Sound v bad i → Sent (stateOf v plan h i) m → Made h i m
   made i m g s = made-records v plan bad f h a i m .1 (makes-state v plan bad f h a i (g .0) m .1 s)
 
-  -- in a complete delivery every sound board has started
-  all-started : Complete v bad h → (i : ℕ) → Sound v bad i → T (started (stateOf v plan h i))
-  all-started c i g =
-      let x = c .started i g in
-      started-state v plan bad f h a i (g .0) (x .0) .0 (started-records v plan bad f h a i (x .0) .0 (x .1, x .2)) .0
+  -- a message that calls of sound boards made, by whichever way it counts as handed over
+  given-taken : (Given : ℕ → List ℕ → Type 0) → ((i : ℕ) (m : Message) → Sound v bad i → Made h i m → Given i (messageBytes m))
+      → ((i j : ℕ) (bytes : List ℕ) (m : Message) → Sound v bad i → Sound v bad j → Given j bytes → exactMessage bytes ≡ Exactly.One m → Took h i j m)
+      → (i j : ℕ) (m : Message) → Sound v bad i → Sound v bad j → Made h j m → Took h i j m
+  given-taken Given handed taken i j m g k x =
+      taken i j (messageBytes m) m g k (handed j m k x)
+      (sent-read v plan bad f h a j (k .0) m (makes-state v plan bad f h a j (k .0) m .0 (made-records v plan bad f h a j m .0 x)))
 
-  -- and has heard what every sound board made
-  all-heard : Complete v bad h → (i j : ℕ) (m : Message) → Sound v bad i → Sound v bad j → Sent (stateOf v plan h j) m → Heard (stateOf v plan h i) j m
-  all-heard c i j m g k s =
-      took-state v plan bad f h a i (g .0) j m .0
-      (took-records v plan bad f h a i j m .0 (c .taken i j (messageBytes m) m g k (c .handed j m k (made j m k s)) (sent-read v plan bad f h a j (k .0) m s)))
+  pub complete-delivered : Complete v bad h → Delivered v bad h
+  complete-delivered c = record { started = c .started; taken = given-taken (λ i bytes. HandedSince i bytes h) (c .handed) (c .taken) }
 
-  pub log-complete : Complete v bad h → logs.Complete (v .n) (v .t) (v .agreement) plan bad (told v plan h)
-  log-complete c = record {
-    started = λ i g. (levelAt (stateOf v plan h i) 0 .position, (all-started c i g, refl));
-    handed = λ i m g x.
-        let s = sent i m x in
-        handed-told v plan h i (messageBytes m) m (c .handed i m g (made i m g s)) (sent-read v plan bad f h a i (g .0) m s);
+  pub set-up-delivered : CompleteFromSetUp v bad h → Delivered v bad h
+  set-up-delivered c = record { started = c .started; taken = given-taken (λ i bytes. Handed i bytes h) (c .handed) (c .taken) }
+
+  pub log-complete : Delivered v bad h → logs.Complete (v .n) (v .t) (v .agreement) plan bad (told v plan h)
+  log-complete d = record {
+    started = λ i g.
+        let x = d .started i g in
+        let s = started-state v plan bad f h a i (g .0) (x .0) .0 (started-records v plan bad f h a i (x .0) .0 (x .1, x .2)) in
+        (levelAt (stateOf v plan h i) 0 .position, (s .0, refl));
     taken = λ i j m g k x.
         heard-held (stateOf v plan h i) j m
-        (all-heard c i j m g k (handed-sent M (v .n) bad (vote-lawful (v .n) (v .t) (v .agreement) plan passes) (told v plan h) ok j m x));
+        (took-state v plan bad f h a i (g .0) j m .0 (took-records v plan bad f h a i j m .0 (d .taken i j m g k (made j m k (sent j m x)))));
   }

@@ -20,14 +20,14 @@ use Rattle.plan.proofs.Answers.{settle-plan}
 use Rattle.journal.specs.declared.Record.{Record}
 use Rattle.journal.specs.declared.RecordRead.{RecordRead}
 use Rattle.journal.specs.Journal.{recordBytes}
-use Rattle.journal.specs.Reading.{recordAt}
+use Rattle.journal.specs.Reading.{recordAt, recordsIn}
 use Rattle.journal.specs.Records.{AllInLimits, journalBytes}
 use Rattle.journal.proofs.Records.{Holds, holds-whole, holds-records, holds-end, journal-none, journal-before, journal-record, journal-length, record-pos, records-fewer}
 use Rattle.party.specs.Party.{Party, newParty}
 use Rattle.party.specs.Run.{Ran, resting}
 use Rattle.party_life.specs.Life.{replayed, following, lived, fault, tabled, Fits, Life}
 use Rattle.board_calls.specs.Restore.{recordFits, Replay, replayFrom, onPlanRead, restoreQuestions}
-use Rattle.agreement.specs.Allowed.{recordsIn, Lendable}
+use Rattle.agreement.specs.Allowed.{Lendable}
 
 -- ---- one record
 
@@ -103,7 +103,7 @@ lendable-begins used journal rs h (inr t) = go (recordsIn used) (holds-records h
           torn = d;
         })
 
--- what the records of a life give: their party, rules and last messages, and where they end
+-- what the records of a life give: their party, rules and messages, and where they end
 abbrev pub livedReplay : Party → List Record → Replay
 livedReplay p rs = record { ran = lived p rs; used = length (journalBytes rs) }
 
@@ -126,7 +126,7 @@ module _ (n t own agreement : ℕ) (bytes : List ℕ) (plan : Plan) (most : n �
   settled = settle-plan n t own bytes (omega arith) most faults seat ∙ reads
 
   module _ (rs : List Record) (life : Life (newParty n t own agreement plan) rs) where
-    -- "Restore gives the party of the whole records, in order, their length in bytes, and the messages of the last whole record again", also after a cut
+    -- "Restore gives the party of the whole records, in order, their length in bytes" and "every message of the whole records' history", also after a cut
     pub restored-cut : (j : List ℕ) → Begins j rs → (out : ℕ) → outgoingSize ≤ out
         → restoreQuestions n t own agreement bytes j out ≡ found (livedReplay (newParty n t own agreement plan) rs)
     unfolding restoreQuestions

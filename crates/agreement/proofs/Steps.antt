@@ -18,6 +18,7 @@ use Rattle.message.specs.Reading.{exactMessage}
 use Rattle.journal.specs.declared.Record.{Record}
 use Rattle.journal.specs.Records.{journalBytes}
 use Rattle.journal.proofs.Records.{Holds, holds-whole, holds-records, holds-cut}
+use Rattle.journal.specs.Reading.{recordsIn}
 use Rattle.party.specs.Party.{Party}
 use Rattle.party.specs.Run.{Ran}
 use Rattle.party_life.specs.Life.{replayed, lived, madeAlong}
@@ -25,7 +26,7 @@ use Rattle.board_calls.specs.Answers.{positionOf}
 use Rattle.board_calls.specs.Calls.{Entry, again, fresh, setUpOf}
 use Rattle.board_calls.specs.Restore.{Replay}
 use Rattle.agreement.specs.History.{Instance, Lent, Call, set-up, start, take-message, read-answer, restore, startFinds, takeFinds, restoreFinds, Step, calls, cut, whose, History, Stage, waiting, running, down, Act, a-start, a-take, Board, afterSetUp, afterEntry, afterAnswer, afterRestore, afterCall, afterCut, afterOwn, boardAfter}
-use Rattle.agreement.specs.Allowed.{Refuses, Continues, recordsIn, Allowed}
+use Rattle.agreement.specs.Allowed.{Refuses, Continues, Allowed}
 use Rattle.agreement.specs.Demand.{Shared}
 use Rattle.agreement.specs.Inner.{recordsOf}
 use Rattle.agreement.proofs.Restored.{Begins, begins-used, lendable-begins, livedReplay, restored-found}
@@ -104,7 +105,7 @@ module _ (v : Instance) (plan : Plan) (bad : Set) (f : Shared v plan) where
     -- and what its call made
     appended-makes : (a : Allowed v bad h) (k : i < v .n) (c : Continues (boardAfter h i) p lent used) (r : Record) (ran : Ran) → Recorded p (length (lent .journal)) used r ran
         → (rs : List Record) → rs ≡ r ∷ recordsOf h i → madeAlong (newBoard v plan i) rs ≡ madeSoFar h i ++ ran .made
-    unfolding madeAlong
+    unfolding lived
     appended-makes a k c r ran d rs e =
         ap (madeAlong (newBoard v plan i)) e
         ∙ ap (λ (y : Ran). madeSoFar h i ++ y .made) (ap (λ (q : Party). replayed q r) (sym (party-lived a k c)) ∙ d .does)

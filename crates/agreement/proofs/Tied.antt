@@ -50,7 +50,7 @@ life-drop p (suc d) (r ∷ rs) l = life-drop p d rs (l .1)
 abbrev pub newBoard : Instance → Plan → ℕ → Party
 newBoard v plan i = newParty (v .n) (v .t) i (v .agreement) plan
 
--- a running board's record is the party of its records, its journal holds them and nothing else, and its outbox what they made
+-- a running board's record is the party of its records, its journal holds them and nothing else, and its outbox only what they made
 pub record Running (v : Instance) (plan : Plan) (i : ℕ) (b : Board) (rs : List Record) : Type 0 where
   pub party : b .party ≡ lived (newBoard v plan i) rs .party
   pub journal : b .journal ≡ journalBytes rs

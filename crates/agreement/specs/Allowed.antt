@@ -9,9 +9,8 @@ use Rattle.base.specs.declared.Verdict.{Verdict}
 use Rattle.base.specs.Found.{refused}
 use Rattle.message.specs.declared.Message.{Message}
 use Rattle.message.specs.Message.{messageBytes}
-use Rattle.journal.specs.declared.Record.{Record}
 use Rattle.journal.specs.declared.RecordRead.{RecordRead}
-use Rattle.journal.specs.Reading.{recordAt, recordsFrom}
+use Rattle.journal.specs.Reading.{recordAt, recordsIn}
 use Rattle.journal.specs.Records.{journalBytes}
 use Rattle.party.specs.Party.{Party}
 use Rattle.board_calls.specs.Calls.{setUpOf, answeredOf}
@@ -52,10 +51,6 @@ pub record Ours (v : Instance) (i n t own agreement : ℕ) (plan : List ℕ) : T
   pub number : agreement ≡ v .agreement
   pub bytes : plan ≡ v .plan
 
--- the whole records that a journal begins with, the latest first
-abbrev pub recordsIn : List ℕ → List Record
-recordsIn j = recordsFrom (length j) j 0 []
-
 -- The journal has the whole records of the used bytes, and after them a torn one or nothing. A torn record that a restore dropped still stands behind the
 -- used bytes if the power fails before the next record is written, and the next restore may be lent it again.
 pub record TornAfter (used journal : List ℕ) : Type 0 where
@@ -80,8 +75,8 @@ Accepts v bad i h b (restore n t own agreement plan lent) = (b .stage ≡ waitin
 -- a step after the history h
 abbrev pub May : Instance → Set → Step → History → Type 0
 May v bad (calls i c) h = Sound v bad i × (Refuses c ⊎ Accepts v bad i h (boardAfter h i) c)
--- a message that a call since the set-up or the last restore made, or that restore gave again: at any time before a cut, in any order, also twice
--- or never; "all messages of one call before the next call" is not asked
+-- a message that a call since the set-up or the last restore made, or that this restore gave again (every message of its records' calls): at any time
+-- before a cut, in any order, also twice or never; "all messages of one call before the next call" is not asked
 May v bad (hands i bytes) h =
     Sound v bad i × (boardAfter h i .stage ≡ running) × ((m : Message) × (bytes ≡ messageBytes m) × List·Memᴰ m (boardAfter h i .outbox))
 -- "A cut leaves a beginning of the journal's used bytes that holds every record in them written before the last handing over of a message or

@@ -1,12 +1,15 @@
 -- Demand 3, sentence by sentence.
 use mathlib.Core.Path.{_≡_}
 use mathlib.Core.Logic.{_⊎_}
-use mathlib.Core.List.{List, List·Memᴰ}
+use mathlib.Core.Bool.{Bool, true, false, _&&_}
+use mathlib.Core.List.{List, [], _∷_, List·Memᴰ}
 use Prim.Native.Nat.{ℕ, _*_, _≤_, _<_}
+use lib.Dec.{eqb}
 use lib.IntN.{ℤ}
+use Rattle.base.specs.Pick.{pick}
 use Rattle.base.specs.Sets.{Set, count}
 use Rattle.base.specs.Limits.{maxBoards, maxNumber, outgoingSize}
-use Rattle.base.specs.Found.{found}
+use Rattle.base.specs.Found.{Found, found, refused}
 use Rattle.tree.specs.Walk.{Walk, OnPath}
 use Rattle.tree.specs.Edges.{Adjacent}
 use Rattle.plan.specs.Plan.{Plan}
@@ -19,8 +22,8 @@ use Rattle.message.specs.Reading.{exactMessage}
 use Rattle.party.specs.Party.{Party}
 use Rattle.board_calls.specs.declared.Answer.{Answer}
 use Rattle.board_calls.specs.Calls.{answeredOf, noParty}
-use Rattle.board_calls.specs.Restore.{restoredOf}
-use Rattle.agreement.specs.History.{Instance, read-answer, restoreFinds, calls, History, Stage, waiting, running, down, a-start, a-take, Counted, Board, boardAfter}
+use Rattle.board_calls.specs.Restore.{Replay, restoredOf}
+use Rattle.agreement.specs.History.{Instance, set-up, start, take-message, read-answer, restore, restoreFinds, Step, calls, hands, cut, History, Stage, waiting, running, down, a-start, a-take, Counted, Board, boardAfter}
 use Rattle.agreement.specs.Allowed.{Sound, Handed, Allowed}
 
 -- ---- started, taken, made
@@ -36,6 +39,33 @@ Took h i s m = (c : Counted) × List·Memᴰ c (boardAfter h i .counted) × (c .
 -- a call of it made the message m: "what a board's calls made leaves lost calls out"
 abbrev pub Made : History → ℕ → Message → Type 0
 Made h i m = (c : Counted) × List·Memᴰ c (boardAfter h i .counted) × List·Memᴰ m (c .made)
+
+-- ---- handing over
+
+-- what a restore's questions find: accepted, or refused
+abbrev pub accepted : Found Replay → Bool
+accepted (found r) = true
+accepted (refused number place) = false
+
+-- the step is an accepted restore of board i, after a cut or without one; a refused one is none
+abbrev pub isRestoreOf : ℕ → Step → Bool
+isRestoreOf i (calls j (set-up n t own agreement plan)) = false
+isRestoreOf i (calls j (start p input lent used)) = false
+isRestoreOf i (calls j (take-message p sender bytes lent used)) = false
+isRestoreOf i (calls j (read-answer p)) = false
+isRestoreOf i (calls j (restore n t own agreement plan lent)) = eqb j i && accepted (restoreFinds n t own agreement plan lent)
+isRestoreOf i (hands j bytes) = false
+isRestoreOf i (cut j left) = false
+
+-- the steps since board i's last accepted restore; all where there is none, and of those it hands something over only after its set-up
+unfoldable pub sinceRestore : ℕ → History → History
+sinceRestore i [] = []
+sinceRestore i (s ∷ h) = pick (isRestoreOf i s) [] (s ∷ sinceRestore i h)
+
+-- document 02, Q-5: "for answering .., handing over counts only from the last restore", of the board that hands over. Only the ending asks this: what is
+-- taken as a sound board's message is anything that it ever handed over (`Accepts`), also before a cut
+abbrev pub HandedSince : ℕ → List ℕ → History → Type 0
+HandedSince i bytes h = Handed i bytes (sinceRestore i h)
 
 -- ---- answers
 
@@ -75,12 +105,12 @@ BetweenInputs v plan bad h y =
     (i : ℕ) × (j : ℕ) × (a : ℕ) × (b : ℕ) × (p : ℤ) × (q : ℤ) × Sound v bad i × Sound v bad j × StartedWith plan h i a p × StartedWith plan h j b q
     × Walk (Adjacent (edgesOf plan)) (λ _. Unit {0}) a b × OnPath (Adjacent (edgesOf plan)) a b y
 
--- "If every sound board has started, has handed over all that its calls made, and has taken every message that sound boards handed over"
--- What was handed over are bytes, and they read as one message (Words, `handed-one`).
+-- "If every sound board has started, has handed over all that its calls made, and has taken every message that sound boards handed over", where handing
+-- over counts from the last restore on. What was handed over are bytes, and they read as one message (Words, `handed-one`).
 pub record Complete (v : Instance) (bad : Set) (h : History) : Type 0 where
   pub started : (i : ℕ) → Sound v bad i → (x : ℕ) × (z : ℤ) × Started h i x z
-  pub handed : (i : ℕ) (m : Message) → Sound v bad i → Made h i m → Handed i (messageBytes m) h
-  pub taken : (i j : ℕ) (bytes : List ℕ) (m : Message) → Sound v bad i → Sound v bad j → Handed j bytes h → exactMessage bytes ≡ Exactly.One m
+  pub handed : (i : ℕ) (m : Message) → Sound v bad i → Made h i m → HandedSince i (messageBytes m) h
+  pub taken : (i j : ℕ) (bytes : List ℕ) (m : Message) → Sound v bad i → Sound v bad j → HandedSince j bytes h → exactMessage bytes ≡ Exactly.One m
       → Took h i j m
 
 -- what holds after a list of steps

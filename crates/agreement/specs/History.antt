@@ -136,7 +136,7 @@ abbrev pub afterAnswer : Board → Answer → Board
 afterAnswer b Answer.None = b
 afterAnswer b (Answer.At z) = guarding b
 
--- an accepted restore: the party and used length that the call gives, whose records all stay from now on, and the last one's messages again
+-- an accepted restore: the party and used length that the call gives, whose records all stay from now on, and all their messages to be handed over again
 abbrev pub afterRestore : Board → Lent → Found Replay → Board
 afterRestore b lent (found r) = record {
   stage = running;

@@ -9,12 +9,12 @@ use Rattle.plan.specs.Plan.{Plan}
 use Rattle.message.specs.declared.Message.{Message}
 use Rattle.journal.specs.declared.Record.{Record}
 use Rattle.journal.specs.declared.Record.the-variants.{Start, Taken}
+use Rattle.journal.specs.Reading.{recordsIn}
 use Rattle.party.specs.Party.{Party, newParty}
 use Rattle.party.specs.Run.{starting}
 use Rattle.party_life.specs.Life.{madeAlong}
 use Rattle.board_calls.specs.Calls.{fresh}
 use Rattle.agreement.specs.History.{Instance, Lent, start, startFinds, calls, History, boardAfter}
-use Rattle.agreement.specs.Allowed.{recordsIn}
 use Rattle.agreement.specs.Demand.{Stands}
 
 -- the records of board i's calls that are not lost

@@ -89,7 +89,7 @@ module _ (a : ℕ) (plan : Plan) (valid : T (planValid plan)) (x : ℕ) where
     new = replayed (lived (newParty 1 0 0 a plan) rs .party) (Taken 0 m) .made
 
     took : heldBy (lived (newParty 1 0 0 a plan) rs .party) 0 m ≡ false → Waits a plan x (Taken 0 m ∷ rs) (ms ++ replayed (lived (newParty 1 0 0 a plan) rs .party) (Taken 0 m) .made)
-    unfolding madeAlong
+    unfolding lived
     took e = record {
       life = life;
       own = (w .made m (List·Memᴰ·head refl), e, w .own);

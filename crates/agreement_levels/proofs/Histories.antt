@@ -69,7 +69,7 @@ module _ (a : ℕ) (bytes : List ℕ) (plan : Plan) (f : Shared (aloneInstance a
   first-board = ap (λ (s : SetUp). afterSetUp unborn (s .verdict) (s .party)) (set-up-found v plan f 0 (omega arith))
 
   told-none : Told []
-  unfolding boardAfter recordsFrom madeAlong
+  unfolding boardAfter recordsFrom lived
   told-none = record {
     h = calls 0 (set-up 1 0 0 a bytes) ∷ [];
     allowed = ((sound, inr (refl, record { boards = refl; faults = refl; seat = refl; number = refl; bytes = refl })), tt);

@@ -10,7 +10,7 @@ use Rattle.journal.specs.declared.Record.{Record}
 use Rattle.plan.specs.Plan.{Plan}
 use Rattle.party.specs.Party.{Party}
 use Rattle.party.specs.Typed.{Typed}
-use Rattle.party_life.specs.Life.{Life, madeAlong}
+use Rattle.party_life.specs.Life.{lived, Life, madeAlong}
 use Rattle.party_bounds.proofs.Laws.{Sized, sized-new}
 use Rattle.party_once.proofs.Once.{once}
 use Rattle.agreement.specs.History.{Instance, History, Counted, boardAfter}
@@ -25,8 +25,8 @@ use Rattle.agreement.proofs.Follows.{follows}
 use Rattle.agreement_messages.specs.Statement.{madeInAll, OnceInHistory}
 
 -- calls beside their records: a call without a record made nothing
-made-same : (plan : Plan) (p : Party) (cs : List Counted) (rs : List Record) → Follows plan p cs rs → madeInAll cs ≡ madeAlong p rs
-unfolding madeInAll madeAlong
+pub made-same : (plan : Plan) (p : Party) (cs : List Counted) (rs : List Record) → Follows plan p cs rs → madeInAll cs ≡ madeAlong p rs
+unfolding madeInAll lived
 made-same plan p [] rs w = sym (ap (madeAlong p) w)
 made-same plan p (c ∷ cs) rs (inl (x, w)) = ap₂ (λ (ms ns : List Message). ms ++ ns) (made-same plan p cs rs w) (x .made) ∙ append-nil (madeAlong p rs)
 made-same plan p (c ∷ cs) rs (inr (older, x, w)) =

@@ -43,7 +43,7 @@ module _ (n t agreement : ℕ) (plan : Plan) (bad : Set) (h : Steps n t agreemen
       → Sent (partyOf n t agreement plan h j) m → Heard (partyOf n t agreement plan h i) j m
   delivered c i j m g k s =
       held-heard (st i) j m (s .number ∙ J .seated j .number ∙ sym (J .seated i .number)) (sent-proper (st j) (J .inv j .regular) m s)
-      (c .taken i j m g k (c .handed j m k (tells-made n t agreement plan passes j (logOf n t agreement plan h j) m s)))
+      (c .taken i j m g k (tells-made n t agreement plan passes j (logOf n t agreement plan h j) m s))
 
   holds : Holds n t agreement plan bad h
   holds = record {

@@ -19,7 +19,7 @@ use Rattle.message.specs.declared.Message.{Message}
 use Rattle.level.specs.Level.{noOutput}
 use Rattle.party.specs.Party.{Party, levelAt, heldBy, outputOf}
 use Rattle.execution.specs.Machine.{Event}
-use Rattle.execution.specs.History.{HStep, act, hand, mark, cut, log, held, after, Handed, FairH}
+use Rattle.execution.specs.History.{HStep, act, hand, mark, cut, log, held, after, FairH}
 use Rattle.vote_machine.specs.Machine.{called, voteMachine}
 
 -- "Boards share n, t, agreement number and plan"
@@ -84,11 +84,11 @@ module _ (n t agreement : ℕ) (plan : Plan) where
       (i : ℕ) × (j : ℕ) × (a : ℕ) × (b : ℕ) × Sound n bad i × Sound n bad j × StartedAt h i a × StartedAt h j b
       × Walk (Adjacent (edgesOf plan)) (λ _. Unit {0}) a b × OnPath (Adjacent (edgesOf plan)) a b y
 
-  -- "If every sound board has started, has handed over all that its calls made, and has taken every message that sound boards handed over"
+  -- "If every sound board has started, has handed over all that its calls made, and has taken every message that sound boards handed over": what this comes
+  -- to, whenever and however often a message was handed over
   pub record Complete (bad : Set) (h : Steps) : Type 0 where
     pub started : (i : ℕ) → Sound n bad i → (x : ℕ) × StartedAt h i x
-    pub handed : (i : ℕ) (m : Message) → Sound n bad i → List·Memᴰ m (messagesBy i (logOf h i)) → Handed (voteMachine n t agreement plan) i m h
-    pub taken : (i j : ℕ) (m : Message) → Sound n bad i → Sound n bad j → Handed (voteMachine n t agreement plan) j m h → T (heldBy (partyOf h i) j m)
+    pub taken : (i j : ℕ) (m : Message) → Sound n bad i → Sound n bad j → List·Memᴰ m (messagesBy j (logOf h j)) → T (heldBy (partyOf h i) j m)
 
   -- what holds after the steps
   pub record Holds (bad : Set) (h : Steps) : Type 0 where
