@@ -32,12 +32,13 @@ use Rattle.board_calls.specs.Answers.{positionOf, answerOf}
 use Rattle.board_calls.specs.Calls.{setUpOf, startQuestions, takeQuestions, answeredOf}
 use Rattle.board_calls.specs.Restore.{replayFrom, restoreQuestions}
 use Rattle.agreement.specs.History.{keptCalls, boardAfter}
+use Rattle.agreement.specs.Demand.{sinceRestore}
 use Rattle.agreement_histories.specs.Scripts.{followed}
-use Rattle.agreement_histories.proofs.Worlds.{worldAfter, among, sentBy, sameBytes, allFit}
+use Rattle.agreement_histories.proofs.Worlds.{notBy, worldAfter, among, sentBy, sameBytes, allFit}
 use Rattle.agreement_histories.proofs.Passing.{listed}
 use Rattle.agreement_histories.proofs.Delivery.{startsIn, hasTaken, allMade, allSent, allTaken, firstThen, judging}
 
 -- a proof that unfolds this unfolds all of them
 unfoldable pub computing : Unit {0}
-unfolding ones onesIn smallest putAt count pieces piecesAt fieldAt label joined adjacent ends edgesAt reached others branched target absorbed growthOrder edgesFrom rows upto without part heavy light centre neighbours degree rank neighbour side gateway port pathEdges edgesOf readingOf column planFrom settledPlan rowFits rowsFit allZero planValid messageBytes messageAt exactMessage isIn withSender unionOver slot senders held withHeard otherEchoes mayPropose proposed digitEchoes splitAt split echoedBy secondProposed echoedValues sided rule1 rule2 rule3 rule4 rule5 rule6 rule7 rule8 rule9 rule10 rule11 rule12 rule13 rule14 lowestRule recordBytes recordAt journalBytes recordsFrom levelAt withLevel componentOf sending contextOf entering entered heldBy hearing ruleAt openAt openLevel afterRule runUpTo run starting taking everyLevel setsPass levelPasses partyValid replayed positionOf answerOf setUpOf startQuestions takeQuestions answeredOf replayFrom restoreQuestions keptCalls boardAfter followed worldAfter among sentBy sameBytes allFit listed startsIn hasTaken allMade allSent allTaken firstThen judging
+unfolding ones onesIn smallest putAt count pieces piecesAt fieldAt label joined adjacent ends edgesAt reached others branched target absorbed growthOrder edgesFrom rows upto without part heavy light centre neighbours degree rank neighbour side gateway port pathEdges edgesOf readingOf column planFrom settledPlan rowFits rowsFit allZero planValid messageBytes messageAt exactMessage isIn withSender unionOver slot senders held withHeard otherEchoes mayPropose proposed digitEchoes splitAt split echoedBy secondProposed echoedValues sided rule1 rule2 rule3 rule4 rule5 rule6 rule7 rule8 rule9 rule10 rule11 rule12 rule13 rule14 lowestRule recordBytes recordAt journalBytes recordsFrom levelAt withLevel componentOf sending contextOf entering entered heldBy hearing ruleAt openAt openLevel afterRule runUpTo run starting taking everyLevel setsPass levelPasses partyValid replayed positionOf answerOf setUpOf startQuestions takeQuestions answeredOf replayFrom restoreQuestions keptCalls boardAfter sinceRestore followed notBy worldAfter among sentBy sameBytes allFit listed startsIn hasTaken allMade allSent allTaken firstThen judging
 computing = tt

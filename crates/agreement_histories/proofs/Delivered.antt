@@ -22,8 +22,8 @@ use Rattle.message.specs.Reading.{exactMessage}
 use Rattle.message.proofs.RoundTrip.{exact-message-read}
 use Rattle.board_calls.specs.declared.Answer.{Answer}
 use Rattle.agreement.specs.History.{Instance, History, Act, a-start, a-take, Counted, Board, boardAfter}
-use Rattle.agreement.specs.Allowed.{Sound, Handed}
-use Rattle.agreement.specs.Demand.{Started, Took, Made, Complete}
+use Rattle.agreement.specs.Allowed.{Sound}
+use Rattle.agreement.specs.Demand.{Started, Took, Made, HandedSince, Complete}
 use Rattle.agreement_histories.specs.Scripts.{Action, historyOf, Concludes}
 use Rattle.agreement_histories.proofs.Worlds.{Handing, World, boardOf, beginning, same, sentBy, sound}
 use Rattle.agreement_histories.proofs.Tests.{same→, sentBy→, →sound}
@@ -89,7 +89,7 @@ hasTaken→ j m (c ∷ cs) h = go (hasTaken→ j m cs) (or-split (isTaken j m (c
     go below (inl e) = (c, List·Memᴰ·head refl, isTaken→ j m (c .act) e)
     go below (inr n) = let k = below n in (k .0, List·Memᴰ·tail (k .1), k .2)
 
-in-made : (c : Counted) (cs : List Counted) → List·Memᴰ c cs → (m : Message) → List·Memᴰ m (c .made) → List·Memᴰ m (allMade cs)
+pub in-made : (c : Counted) (cs : List Counted) → List·Memᴰ c cs → (m : Message) → List·Memᴰ m (c .made) → List·Memᴰ m (allMade cs)
 unfolding allMade
 in-made c [] h m k = absurd (List·Memᴰ·not-nil h)
 in-made c (d ∷ cs) h m k = go (λ n. in-made c cs n m k) (List·Memᴰ·cases-cons h)
@@ -128,36 +128,36 @@ unless false b h k = absurd k
 -- ---- a world where all is delivered
 
 module _ (v : Instance) (bad : Set) (w : World) (h : History) (s : Shows v w h) (f : T (full v bad w)) where
-  at-board : (i : ℕ) → Sound v bad i → T (fullBoard v bad (w .sent) i (boardAfter h i .counted))
+  at-board : (i : ℕ) → Sound v bad i → T (fullBoard v bad (w .since) i (boardAfter h i .counted))
   at-board i o =
-      subst (λ (b : Board). T (fullBoard v bad (w .sent) i (b .counted))) (s .board i)
-      (unless (sound v bad i) (fullBoard v bad (w .sent) i (boardOf w i .counted))
+      subst (λ (b : Board). T (fullBoard v bad (w .since) i (b .counted))) (s .board i)
+      (unless (sound v bad i) (fullBoard v bad (w .since) i (boardOf w i .counted))
       (count-full (v .n) (fullAt v bad w) (leb→le (v .n) (count (v .n) (fullAt v bad w)) f) i (o .0)) (→sound v bad i o))
 
   module _ (i : ℕ) (o : Sound v bad i) where
     abbrev cs : List Counted
     cs = boardAfter h i .counted
 
-    rest : T (allSent i (allMade cs) (w .sent) && allTaken v bad cs (w .sent))
-    rest = T-right (hasStart cs) (allSent i (allMade cs) (w .sent) && allTaken v bad cs (w .sent)) (at-board i o)
+    rest : T (allSent i (allMade cs) (w .since) && allTaken v bad cs (w .since))
+    rest = T-right (hasStart cs) (allSent i (allMade cs) (w .since) && allTaken v bad cs (w .since)) (at-board i o)
 
     board-started : (x : ℕ) × (z : ℤ) × Started h i x z
     board-started =
-        let k = hasStart→ cs (T-left (hasStart cs) (allSent i (allMade cs) (w .sent) && allTaken v bad cs (w .sent)) (at-board i o)) in
+        let k = hasStart→ cs (T-left (hasStart cs) (allSent i (allMade cs) (w .since) && allTaken v bad cs (w .since)) (at-board i o)) in
         (k .0, k .1 .0, k .1 .1)
 
-    board-handed : (m : Message) → Made h i m → Handed i (messageBytes m) h
+    board-handed : (m : Message) → Made h i m → HandedSince i (messageBytes m) h
     board-handed m k =
-        s .handed i m (allSent→ i (allMade cs) (w .sent) (T-left (allSent i (allMade cs) (w .sent)) (allTaken v bad cs (w .sent)) rest) m (in-made (k .0) cs (k .1) m (k .2)))
+        s .handed-since i m (allSent→ i (allMade cs) (w .since) (T-left (allSent i (allMade cs) (w .since)) (allTaken v bad cs (w .since)) rest) m (in-made (k .0) cs (k .1) m (k .2)))
 
-    board-took : (j : ℕ) (bytes : List ℕ) (m : Message) → Sound v bad j → Handed j bytes h → exactMessage bytes ≡ Exactly.One m → Took h i j m
+    board-took : (j : ℕ) (bytes : List ℕ) (m : Message) → Sound v bad j → HandedSince j bytes h → exactMessage bytes ≡ Exactly.One m → Took h i j m
     board-took j bytes m d k e =
-        let x = s .known j bytes k in
+        let x = s .known-since j bytes k in
         let fine : Bool = readable (x .0 .message) in
         let had : Bool = hasTaken (x .0 .by) (x .0 .message) cs in
         let t : T (fine && had) =
         unless (sound v bad (x .0 .by)) (fine && had)
-        (allTaken→ v bad cs (w .sent) (T-right (allSent i (allMade cs) (w .sent)) (allTaken v bad cs (w .sent)) rest) (x .0) (x .1))
+        (allTaken→ v bad cs (w .since) (T-right (allSent i (allMade cs) (w .since)) (allTaken v bad cs (w .since)) rest) (x .0) (x .1))
         (subst (λ (y : ℕ). T (sound v bad y)) (x .2) (→sound v bad j d)) in
         let f : Exactly.One m ≡ Exactly.One (x .0 .message) = sym e ∙ ap exactMessage (x .3) ∙ readable→ (x .0 .message) (T-left fine had t) in
         let g : m ≡ x .0 .message = cc in

@@ -68,7 +68,7 @@ abbrev pub fullBoard : Instance → Set → List Handing → ℕ → List Counte
 fullBoard v bad l i cs = hasStart cs && (allSent i (allMade cs) l && allTaken v bad cs l)
 
 abbrev pub fullAt : Instance → Set → World → ℕ → Bool
-fullAt v bad w i = not (sound v bad i) || fullBoard v bad (w .sent) i (boardOf w i .counted)
+fullAt v bad w i = not (sound v bad i) || fullBoard v bad (w .since) i (boardOf w i .counted)
 
 abbrev pub full : Instance → Set → World → Bool
 full v bad w = leb (v .n) (count (v .n) (fullAt v bad w))

@@ -1,5 +1,6 @@
 pub mod Worlds
 pub mod Tests
+pub mod Handings
 pub mod Shows
 pub mod Passing
 pub mod Delivery
@@ -9,6 +10,7 @@ pub mod Alone
 pub mod Deep
 pub mod Cuts
 pub mod Restores
+pub mod Forgotten
 pub mod Liar
 pub mod Neighbours
 pub mod Negative

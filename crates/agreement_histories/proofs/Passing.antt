@@ -16,10 +16,11 @@ use Rattle.plan.specs.Plan.{Plan}
 use Rattle.plan.specs.Reading.{planOf}
 use Rattle.message.specs.Message.{messageBytes}
 use Rattle.journal.specs.Records.{journalBytes}
+use Rattle.journal.specs.Reading.{recordsIn}
 use Rattle.board_calls.specs.declared.Answer.{Answer}
 use Rattle.board_calls.specs.Calls.{answeredOf}
 use Rattle.agreement.specs.History.{Instance, History, Board, boardAfter}
-use Rattle.agreement.specs.Allowed.{Sound, Handed, Continues, Ours, recordsIn, TornAfter, May, Allowed}
+use Rattle.agreement.specs.Allowed.{Sound, Handed, Continues, Ours, TornAfter, May, Allowed}
 use Rattle.agreement.specs.Demand.{partyBy, answerNow, Shared, Premises}
 use Rattle.agreement_histories.specs.Scripts.{Action, sets-up, starts, takes, reads, sends, cuts, restores, restores-torn, tries, actor, lent, stepOf, followed, historyOf, RefusedIn, Refusing}
 use Rattle.agreement_histories.proofs.Worlds.{World, boardOf, beginning, acted, worldAfter, same, among, sentBy, sound, isWaiting, isRunning, tornBehind, fitsBoard, fits, allFit}

@@ -16,11 +16,11 @@ use Rattle.message.specs.Message.{kindOf}
 use Rattle.message.specs.Format.{valueOf, bodyOf}
 use Rattle.message.proofs.RoundTrip.{body-same}
 use Rattle.journal.specs.declared.RecordRead.{RecordRead}
-use Rattle.journal.specs.Reading.{recordAt}
+use Rattle.journal.specs.Reading.{recordAt, recordsIn}
 use Rattle.journal.specs.Records.{journalBytes}
 use Rattle.board_calls.specs.Calls.{setUpOf, answeredOf}
 use Rattle.agreement.specs.History.{Instance, Call, set-up, start, take-message, read-answer, restore, startFinds, takeFinds, restoreFinds, Stage, waiting, running, down}
-use Rattle.agreement.specs.Allowed.{Sound, RefusedBy, recordsIn, TornAfter}
+use Rattle.agreement.specs.Allowed.{Sound, RefusedBy, TornAfter}
 use Rattle.agreement_histories.specs.Scripts.{saying}
 use Rattle.agreement_histories.proofs.Worlds.{Handing, same, among, sentBy, sound, isWaiting, isRunning, refusal, notFound, isRefused, sameBytes, isTorn, tornBehind}
 

@@ -4,6 +4,7 @@ use mathlib.Core.List.{List, [], _∷_, _++_}
 use Prim.Native.Nat.{ℕ}
 use lib.Dec.{leb, ltb, eqb}
 use lib.ListN.{length, getD, set, take, replicate}
+use Rattle.base.specs.Pick.{pick}
 use Rattle.base.specs.Sets.{Set}
 use Rattle.base.specs.declared.Verdict.{Verdict}
 use Rattle.base.specs.Found.{Found, found, refused}
@@ -11,26 +12,28 @@ use Rattle.message.specs.declared.Message.{Message}
 use Rattle.message.specs.Message.{kindOf}
 use Rattle.message.specs.Format.{valueOf}
 use Rattle.journal.specs.declared.RecordRead.{RecordRead}
-use Rattle.journal.specs.Reading.{recordAt}
+use Rattle.journal.specs.Reading.{recordAt, recordsIn}
 use Rattle.journal.specs.Records.{journalBytes}
 use Rattle.board_calls.specs.Calls.{setUpOf, answeredOf}
-use Rattle.agreement.specs.History.{Instance, Call, set-up, start, take-message, read-answer, restore, startFinds, takeFinds, restoreFinds, Stage, waiting, running, down, Board, unborn, afterOwn}
-use Rattle.agreement.specs.Allowed.{recordsIn}
+use Rattle.agreement.specs.History.{Instance, Call, set-up, start, take-message, read-answer, restore, startFinds, takeFinds, restoreFinds, Step, Stage, waiting, running, down, Board, unborn, afterOwn}
+use Rattle.agreement.specs.Demand.{isRestoreOf}
 use Rattle.agreement_histories.specs.Scripts.{Action, sets-up, starts, takes, reads, sends, cuts, restores, restores-torn, tries, actor, stepOf}
 
 pub record Handing : Type 0 where
   pub by : ℕ
   pub message : Message
 
+-- the boards, and what was handed over: ever, and since the last accepted restore of the board that did it
 pub record World : Type 0 where
   pub boards : List Board
   pub sent : List Handing
+  pub since : List Handing
 
 abbrev pub boardOf : World → ℕ → Board
 boardOf w i = getD (w .boards) i unborn
 
 abbrev pub beginning : Instance → World
-beginning v = record { boards = replicate (v .n) unborn; sent = [] }
+beginning v = record { boards = replicate (v .n) unborn; sent = []; since = [] }
 
 abbrev pub sentWith : List Handing → Action → List Handing
 sentWith l (sets-up i) = l
@@ -43,10 +46,20 @@ sentWith l (restores i) = l
 sentWith l (restores-torn i tail) = l
 sentWith l (tries i k c) = l
 
+-- what the other boards handed over
+unfoldable pub notBy : ℕ → List Handing → List Handing
+notBy i [] = []
+notBy i (x ∷ l) = pick (eqb i (x .by)) (notBy i l) (x ∷ notBy i l)
+
+-- an accepted restore leaves that
+abbrev pub sinceWith : List Handing → Action → Step → List Handing
+sinceWith l a s = pick (isRestoreOf (actor a) s) (notBy (actor a) l) (sentWith l a)
+
 abbrev pub acted : Instance → World → Action → World
 acted v w a = record {
   boards = set (w .boards) (actor a) (afterOwn (boardOf w (actor a)) (stepOf v (boardOf w (actor a)) a));
   sent = sentWith (w .sent) a;
+  since = sinceWith (w .since) a (stepOf v (boardOf w (actor a)) a);
 }
 
 unfoldable pub worldAfter : Instance → World → List Action → World

@@ -6,6 +6,7 @@ pub mod Alone
 pub mod Deep
 pub mod Cuts
 pub mod Restores
+pub mod Forgotten
 pub mod Liar
 pub mod Neighbours
 pub mod Negative

@@ -1,20 +1,16 @@
 -- Boards that are set up twice, or for another vote.
 use mathlib.Core.Path.{refl}
-use mathlib.Core.Logic.{inl, inr}
+use mathlib.Core.Logic.{inr}
 use mathlib.Core.List.{List·Memᴰ·head, List·Memᴰ·tail}
 use native.Mathlib.Omega.{arith}
 use lib.IntN.{pos}
-use Rattle.agreement.specs.History.{Instance, restore, calls, History, boardAfter}
-use Rattle.agreement.specs.Allowed.{May}
-use Rattle.agreement_histories.specs.Scripts.{lentBack}
-use Rattle.agreement_histories.specs.Alone.{script}
 use Rattle.agreement_histories.proofs.Computing.{computing}
 use Rattle.agreement_histories.proofs.Passing.{ours}
 use Rattle.agreement_premises.specs.Edits.{second-set-up, other-boards, other-faults, other-number, other-plan, again, boards, faults, number, plan}
 use Rattle.agreement_premises.specs.Examples.{two, three, elsewhere, alone, nobody, last, exampleOf, Fails}
-use Rattle.agreement_premises.proofs.Running.{historyBefore, Strays}
+use Rattle.agreement_premises.proofs.Running.{Strays}
 use Rattle.agreement_premises.proofs.Starts.{allIn}
-use Rattle.agreement_premises.proofs.Failing.{sound-alone, sound-four, not-waiting, may-set-up, invalid, invalid-now, unended}
+use Rattle.agreement_premises.proofs.Failing.{sound-alone, sound-four, may-set-up, invalid, invalid-now, unended}
 
 again-strays : Strays second-set-up (exampleOf second-set-up)
 unfolding computing
@@ -25,20 +21,11 @@ unfolding computing allIn
 again-fails = invalid second-set-up (exampleOf second-set-up) refl refl again-strays 1 (pos 0) refl (inr (_, List·Memᴰ·tail (List·Memᴰ·head refl), refl))
 
 boards-strays : Strays other-boards (exampleOf other-boards)
-unfolding computing script
-boards-strays = boards 2 (omega arith) (sound-alone three) may-restore
-  where
-    pair : Instance
-    pair = record { n = 2; t = 0; agreement = 1; plan = three }
-
-    before : History
-    before = historyBefore (exampleOf other-boards)
-
-    may-restore : May pair nobody (calls 0 (restore 2 0 0 1 three (lentBack (boardAfter before 0 .journal)))) before
-    may-restore = ((omega arith, tt), inr (not-waiting, ours pair 0, inl refl))
+unfolding computing
+boards-strays = boards 2 (omega arith) (sound-alone three) (may-set-up (record { n = 2; t = 0; agreement = 1; plan = three }) nobody 0 (omega arith, tt))
 
 pub boards-fails : Fails other-boards (exampleOf other-boards)
-unfolding computing script
+unfolding computing
 boards-fails = unended other-boards (exampleOf other-boards) refl refl boards-strays refl refl
 
 faults-strays : Strays other-faults (exampleOf other-faults)

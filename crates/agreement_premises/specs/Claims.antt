@@ -19,8 +19,8 @@ use Rattle.message.specs.Reading.{exactMessage}
 use Rattle.board_calls.specs.declared.Answer.{Answer}
 use Rattle.agreement.specs.History.{Instance, History}
 use Rattle.agreement.specs.Allowed.{Sound, Handed, Allowed}
-use Rattle.agreement.specs.Demand.{Started, Took, Made, answerNow, Answers, Stands, StartedWith, Complete, Holds, Shared, Premises}
-use Rattle.agreement_histories.specs.Scripts.{Action, sets-up, starts, takes, sends, cuts, says}
+use Rattle.agreement.specs.Demand.{Started, Took, Made, HandedSince, answerNow, Answers, Stands, StartedWith, Complete, Holds, Shared, Premises}
+use Rattle.agreement_histories.specs.Scripts.{Action, sets-up, starts, takes, sends, cuts, restores, says}
 use Rattle.agreement_histories.specs.Alone as lone
 use Rattle.agreement_premises.specs.Edits.{isCut, without}
 use Rattle.agreement_premises.specs.Examples.{two}
@@ -92,11 +92,11 @@ abbrev pub AllStarted : Instance → Set → History → Type 0
 AllStarted v bad h = (i : ℕ) → Sound v bad i → (x : ℕ) × (z : ℤ) × Started h i x z
 
 abbrev pub AllHanded : Instance → Set → History → Type 0
-AllHanded v bad h = (i : ℕ) (m : Message) → Sound v bad i → Made h i m → Handed i (messageBytes m) h
+AllHanded v bad h = (i : ℕ) (m : Message) → Sound v bad i → Made h i m → HandedSince i (messageBytes m) h
 
 abbrev pub AllTaken : Instance → Set → History → (ℕ → ℕ → Message → Type 0) → Type 0
 AllTaken v bad h Took =
-    (i j : ℕ) (bytes : List ℕ) (m : Message) → Sound v bad i → Sound v bad j → Handed j bytes h → exactMessage bytes ≡ Exactly.One m → Took i j m
+    (i j : ℕ) (bytes : List ℕ) (m : Message) → Sound v bad i → Sound v bad j → HandedSince j bytes h → exactMessage bytes ≡ Exactly.One m → Took i j m
 
 -- not_started
 abbrev pub NotStarted : Type 0
@@ -106,6 +106,12 @@ NotStarted = EndsIf (λ v bad h. AllHanded v bad h × AllTaken v bad h (Took h))
 abbrev pub NotHanded : Type 0
 NotHanded = EndsIf (λ v bad h. AllStarted v bad h × AllTaken v bad h (Took h))
 
+-- handed_ever: what was handed over before the last restore counts as handed over, and need not have been taken
+abbrev pub HandedEver : Type 0
+HandedEver =
+    EndsIf (λ v bad h.
+    AllStarted v bad h × ((i : ℕ) (m : Message) → Sound v bad i → Made h i m → Handed i (messageBytes m) h) × AllTaken v bad h (Took h))
+
 -- own_copy_untaken
 abbrev pub OwnCopyUntaken : Type 0
 OwnCopyUntaken =
@@ -114,6 +120,10 @@ OwnCopyUntaken =
 -- a board alone on the readings 0 to 2 starts at 0 and hands its echo over
 unfoldable pub echoes : List Action
 echoes = sets-up 0 ∷ starts 0 (pos 0) ∷ sends 0 (says (FirstEcho 1)) ∷ []
+
+-- power is cut, which loses no record, and it is restored: the wire has forgotten the echo, and it hands nothing over
+unfoldable pub forgets : List Action
+forgets = echoes ++ (cuts 0 3 ∷ restores 0 ∷ [])
 
 -- lost_counted: lost calls count, as if no power had been cut
 abbrev pub LostCounted : Type 0

@@ -16,7 +16,6 @@ use Rattle.party.specs.Run.{starting}
 use Rattle.agreement.specs.History.{Instance, Call, set-up, start, take-message, read-answer, restore, History, Board}
 use Rattle.agreement.specs.Demand.{Holds, Shared}
 use Rattle.agreement_histories.specs.Scripts.{Action, sets-up, starts, takes, reads, sends, cuts, restores, tries, lent, lentBack, says, followed}
-use Rattle.agreement_histories.specs.Alone as lone
 use Rattle.agreement_premises.specs.Edits.{Edit, AllowedWith, taken-unsent, handed-unmade, hands-guard-nothing, answer-guards-nothing, journal-overwritten, record-altered, other-record-read, other-journal-restored, second-set-up, other-boards, other-faults, other-number, other-plan}
 
 -- ---- the votes
@@ -155,14 +154,20 @@ exampleOf other-journal-restored = record {
 }
 -- The answer 0 is read, and the board set up again.
 exampleOf second-set-up = record { vote = alone two; plan = twoPlan; bad = nobody; before = answered; stray = sets-up 0; after = [] }
--- All is delivered, and the board restored for a vote of two boards: it has no answer.
+-- The board is set up for a vote of two boards, and all is delivered: it waits for the other one, and has no answer.
 exampleOf other-boards = record {
   vote = alone three;
   plan = threePlan;
   bad = nobody;
-  before = lone.script 1;
-  stray = callsWith 0 (λ b. restore 2 0 0 1 three (lentBack (b .journal)));
-  after = [];
+  before = [];
+  stray = callsWith 0 (λ b. set-up 2 0 0 1 three);
+  after =
+      starts 0 (pos 0)
+      ∷ sends 0 (says (FirstEcho 1))
+      ∷ takes 0 0 (says (FirstEcho 1))
+      ∷ sends 0 (says (FirstProposal 1))
+      ∷ takes 0 0 (says (FirstProposal 1))
+      ∷ [];
 }
 -- The board is set up for no faults, starts at 0, and one message, of the faulty board, makes it answer 1.
 exampleOf other-faults = record {
