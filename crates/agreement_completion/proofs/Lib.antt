@@ -1,0 +1,12 @@
+pub mod Boards
+pub mod Posted
+pub mod Kept
+pub mod Ways
+pub mod Calls
+pub mod Serving
+pub mod Standing
+pub mod Rising
+pub mod Open
+pub mod Delivering
+pub mod Theorem
+pub mod Needed
