@@ -143,6 +143,11 @@ fn write_ends(s: &State) {
         state::CUTS,
         state::READ_CUTS,
         state::DOWN_CUTS,
+        state::QUEUES_LOST,
+        state::MESSAGES_LOST,
+        state::LOSSY_VOTES,
+        state::CAME_THROUGH,
+        state::GIVEN_AGAIN,
         state::TORN,
         state::LOST,
         state::ANSWERS,
@@ -157,6 +162,11 @@ fn write_ends(s: &State) {
         cuts\n\
         cuts after a reading\n\
         cuts while down\n\
+        cuts at which the wire module forgot what was handed over\n\
+        messages forgotten before every sound board had taken them\n\
+        votes with messages forgotten so\n\
+        of these, votes in which every sound board has an answer in the end\n\
+        messages handed over by restores\n\
         torn records dropped\n\
         starts lost\n\
         answers\n\

@@ -192,6 +192,17 @@ fn draw_plan(s: &mut State, class: usize) {
     }
 }
 
+// How many cuts may come among the last deliveries: a few; more on larger plans, where boards live longer and restores give more messages.
+fn draw_cuts(s: &mut State) {
+    let most = if state::get(s, state::LAST) < 16 {
+        4
+    } else {
+        32
+    };
+    let cuts = random::below(s, most);
+    state::set(s, state::CUTS_LEFT, cuts);
+}
+
 // How many random steps there are, and how they go.
 fn draw_steps(s: &mut State) {
     let n = state::get(s, state::BOARDS);
@@ -205,8 +216,7 @@ fn draw_steps(s: &mut State) {
     state::set(s, state::SALT, num::next(salt));
     let flood = random::below(s, 4) / 3;
     state::set(s, state::FLOOD, flood);
-    let cuts = random::below(s, 4);
-    state::set(s, state::CUTS_LEFT, cuts);
+    draw_cuts(s);
     let patience = random::below(s, 4);
     state::set(s, state::PATIENCE, patience);
     state::set(s, state::LEFT_OUT, 0);
@@ -276,6 +286,7 @@ pub fn draw(s: &mut State) {
     draw_steps(s);
     draw_slowness(s);
     state::set(s, state::POOLED, 0);
+    state::set(s, state::LOSSES_HERE, 0);
     state::set(s, state::TOP, 0);
     state::set(s, state::TURN, 0);
     state::set(s, state::PHASE, call::SETTING_UP);

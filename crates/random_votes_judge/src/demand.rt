@@ -80,10 +80,18 @@ fn check(s: &mut State, y: usize) {
     fault(s);
 }
 
-// The board holds this answer, given as its code plus 1: it is checked when it is new, and never changes.
+// The board holds this answer, given as its code plus 1, or none, given as 0: it is checked when it is new, and never changes, nor goes but in a cut before
+// it was read.
 pub fn hold(s: &mut State, b: usize, answer: usize) {
-    let y = num::less(num::less(answer, 1), state::get(s, state::LOW));
     let held = state::of(s, state::HELD, b);
+    if answer == 0 {
+        if held != 0 {
+            fault(s);
+        }
+        state::put(s, state::HELD, b, 0);
+        return;
+    }
+    let y = num::less(num::less(answer, 1), state::get(s, state::LOW));
     if held == num::next(y) {
         return;
     }
@@ -109,8 +117,19 @@ fn conclude_board(s: &mut State, b: usize) -> usize {
     spread(s, num::less(held, 1))
 }
 
+// A vote in which cuts lost messages is counted, and once more where its end is as demand 3 says: each sound board has an answer.
+fn count_through(s: &mut State, faults: usize) {
+    if state::get(s, state::LOSSES_HERE) == 1 {
+        state::count(s, state::LOSSY_VOTES);
+        if state::get(s, state::FAULTY_ANSWERS) == faults {
+            state::count(s, state::CAME_THROUGH);
+        }
+    }
+}
+
 // The end of a vote.
 pub fn conclude(s: &mut State) {
+    let faults = state::get(s, state::FAULTY_ANSWERS);
     let mut most = 0;
     for b in 0..16 {
         most = num::add(most, conclude_board(s, b));
@@ -118,4 +137,5 @@ pub fn conclude(s: &mut State) {
     if 0 < most {
         state::count(s, state::SPLIT_VOTES);
     }
+    count_through(s, faults);
 }

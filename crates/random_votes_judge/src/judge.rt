@@ -49,18 +49,21 @@ pub fn clear(s: &mut State) {
     }
 }
 
-// A cut comes, after some of the messages.
+// A cut comes, after some of the messages, which have at most eight bytes each.
 fn hand_some(s: &mut State, out: &[u8], b: usize, sent: usize) {
-    let most = random::below(s, 3);
-    let handed = pool::hand_over(s, out, sent, b, most);
-    guard_if(s, b, handed);
+    let most = random::below(s, num::add(3, sent / 8));
+    hand_first(s, out, b, sent, most);
     cuts::cut(s, b);
 }
 
-// Handing over guards the records.
-fn guard_if(s: &mut State, b: usize, handed: usize) {
+// Up to `most` messages are handed over, which guards the records; those of a restore are counted.
+fn hand_first(s: &mut State, out: &[u8], b: usize, sent: usize, most: usize) {
+    let handed = pool::hand_over(s, out, sent, b, most);
     if 0 < handed {
         guard(s, b);
+    }
+    if state::get(s, state::CALL) == call::RESTORE {
+        state::grow(s, state::GIVEN_AGAIN, handed);
     }
 }
 
@@ -76,8 +79,7 @@ fn hand(s: &mut State, out: &[u8], b: usize, sent: usize) {
         hand_some(s, out, b, sent);
         return;
     }
-    let handed = pool::hand_over(s, out, sent, b, sent);
-    guard_if(s, b, handed);
+    hand_first(s, out, b, sent, sent);
 }
 
 // The journal has the used length that the call gave.
@@ -86,12 +88,10 @@ fn keep_used(s: &mut State, b: usize) {
     state::put(s, state::USED, b, used);
 }
 
-// The answer that the board holds now, if there is one.
+// The answer that the board holds now, or none.
 fn keep_answer(s: &mut State, b: usize) {
     let answer = state::of(s, state::FIRST, call::ANSWER);
-    if 0 < answer {
-        demand::hold(s, b, answer);
-    }
+    demand::hold(s, b, answer);
 }
 
 // What a start, take or restore leaves.
@@ -112,7 +112,7 @@ fn after_start(s: &mut State, out: &[u8], b: usize) {
     after_call(s, out, b);
 }
 
-// "every record that a restore gave back" is guarded.
+// "every record that a restore gave back" is guarded. Messages that are handed over again may be forgotten ones.
 fn after_restore(s: &mut State, out: &[u8], b: usize) {
     if state::of(s, state::FIRST, call::USED) < state::get(s, state::ROOM) {
         state::count(s, state::TORN);
@@ -120,6 +120,7 @@ fn after_restore(s: &mut State, out: &[u8], b: usize) {
     keep_used(s, b);
     guard(s, b);
     state::put(s, state::STAGE, b, call::UP);
+    state::set(s, state::CUT_HERE, 1);
     after_call(s, out, b);
 }
 
@@ -165,7 +166,8 @@ fn after_take(s: &mut State, out: &[u8], b: usize) {
     }
     let picked = state::get(s, state::PICKED);
     if 0 < picked {
-        pool::set_taken(s, b, num::less(picked, 1));
+        let used = state::of(s, state::FIRST, call::USED);
+        pool::set_taken(s, b, num::less(picked, 1), used);
     }
     after_call(s, out, b);
 }

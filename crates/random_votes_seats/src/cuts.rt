@@ -1,6 +1,7 @@
 // Cuts of the power.
 use random_votes_state::call;
 use random_votes_state::pool;
+use random_votes_state::queue;
 use random_votes_state::random;
 use random_votes_state::state;
 use random_votes_state::state::State;
@@ -12,6 +13,14 @@ fn lose_start(s: &mut State, b: usize) {
     state::count(s, state::LOST);
 }
 
+// The wire module forgets what the board handed over; or that is on its way already, and arrives late.
+fn lose_queue(s: &mut State, b: usize) {
+    if random::once_in(s, 2) {
+        queue::forget(s, b);
+        state::count(s, state::QUEUES_LOST);
+    }
+}
+
 // A cut leaves the guarded bytes and some more of the first `used`; an answer that was not read is as if not held.
 fn leave(s: &mut State, b: usize, used: usize) {
     let guarded = state::of(s, state::GUARDED, b);
@@ -19,7 +28,8 @@ fn leave(s: &mut State, b: usize, used: usize) {
     state::put(s, state::LEFT, b, left);
     state::put(s, state::STAGE, b, call::DOWN);
     state::set(s, state::CUT_HERE, 1);
-    pool::forget_taken(s, b);
+    pool::lose_taken(s, b, left);
+    lose_queue(s, b);
     state::count(s, state::CUTS);
     if left < state::of(s, state::START_END, b) {
         lose_start(s, b);

@@ -17,29 +17,28 @@ fn packed(out: &[u8], at: usize, length: usize) -> usize {
     word
 }
 
-// The message was handed over already.
-fn is_kept(s: &State, word: usize, tag: usize) -> bool {
+// The message's number among those handed over, or how many they are.
+fn number_of(s: &State, word: usize, tag: usize) -> usize {
     let kept = state::get(s, state::POOLED);
     for i in 0..kept {
         if state::of(s, state::POOL, i) == word {
             if state::of(s, state::POOL_TAG, i) == tag {
-                return true;
+                return i;
             }
         }
     }
-    false
+    kept
 }
 
 // The message can be taken from now on.
 fn keep(s: &mut State, word: usize, tag: usize) {
-    let kept = state::get(s, state::POOLED);
-    if kept < MOST {
-        if is_kept(s, word, tag) {
-            return;
-        }
-        state::put(s, state::POOL, kept, word);
-        state::put(s, state::POOL_TAG, kept, tag);
-        state::set(s, state::POOLED, kept + 1);
+    let i = number_of(s, word, tag);
+    if i < MOST {
+        state::put(s, state::POOL, i, word);
+        state::put(s, state::POOL_TAG, i, tag);
+        state::put(s, state::GONE, i, 0);
+        let more = num::less(num::next(i), state::get(s, state::POOLED));
+        state::grow(s, state::POOLED, more);
     }
 }
 
@@ -99,13 +98,19 @@ fn unpack(s: &mut State, word: usize, length: usize) {
     }
 }
 
+// The sender of the i-th message handed over.
+pub fn sender_of(s: &State, i: usize) -> usize {
+    state::of(s, state::POOL_TAG, i) / 16
+}
+
 // The i-th message handed over is to be taken, as from its sender.
 pub fn pick(s: &mut State, i: usize) {
     let word = state::of(s, state::POOL, i);
-    let tag = state::of(s, state::POOL_TAG, i);
-    state::set(s, state::SENDER, tag / 16);
-    state::set(s, state::MESSAGE_LENGTH, tag % 16);
-    unpack(s, word, tag % 16);
+    let sender = sender_of(s, i);
+    let length = state::of(s, state::POOL_TAG, i) % 16;
+    state::set(s, state::SENDER, sender);
+    state::set(s, state::MESSAGE_LENGTH, length);
+    unpack(s, word, length);
 }
 
 // The byte of the message to be taken that lies so far past the agreement number.
@@ -179,19 +184,30 @@ fn taken_at(b: usize, i: usize) -> usize {
     state::TAKEN + b % 16 * 2048 + i % 2048
 }
 
-// Whether the board took the i-th message.
+// Whether the board took the i-th message, in a call not lost.
 pub fn is_taken(s: &State, b: usize, i: usize) -> bool {
-    state::get(s, taken_at(b, i)) == 1
+    state::get(s, taken_at(b, i)) != 0
 }
 
-// The board took the i-th message.
-pub fn set_taken(s: &mut State, b: usize, i: usize) {
-    state::set(s, taken_at(b, i), 1);
+// The board took the i-th message, in a call that left this used length, or had taken it before.
+pub fn set_taken(s: &mut State, b: usize, i: usize, used: usize) {
+    if is_taken(s, b, i) {
+        return;
+    }
+    state::set(s, taken_at(b, i), used);
 }
 
-// The board took no message: none is handed over yet, or a cut came, and all are given again.
-pub fn forget_taken(s: &mut State, b: usize) {
+// The i-th message is not taken where its record ends past the bytes that a cut left.
+fn untake(s: &mut State, b: usize, i: usize, left: usize) {
+    let place = taken_at(b, i);
+    if left < state::get(s, place) {
+        state::set(s, place, 0);
+    }
+}
+
+// A cut left so many bytes of the board's journal: takes whose records are not in them are lost.
+pub fn lose_taken(s: &mut State, b: usize, left: usize) {
     for i in 0..2048 {
-        state::set(s, taken_at(b, i), 0);
+        untake(s, b, i, left);
     }
 }

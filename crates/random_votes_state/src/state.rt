@@ -78,7 +78,7 @@ pub const LYING: usize = 34;
 
 pub const PICKED: usize = 35;
 
-// The last deliveries: the round's first message, and where it ends; how many more cuts may come; whether one came in this round.
+// The last deliveries: the round's first message, and where it ends; how many more cuts may come; whether a cut or a restore came in this round.
 pub const ROUND: usize = 36;
 
 pub const ROUND_END: usize = 37;
@@ -245,20 +245,36 @@ pub const MOST_MESSAGES: usize = 2835;
 
 pub const BEYOND: usize = 2836;
 
+// Whether a cut in this vote lost messages before every sound board had taken them. Over the whole run: cuts at which a wire module forgot its queue,
+// messages lost so, messages handed over by restores, votes with such losses, and those of them whose end is as demand 3 says.
+pub const LOSSES_HERE: usize = 2837;
+
+pub const QUEUES_LOST: usize = 2838;
+
+pub const MESSAGES_LOST: usize = 2839;
+
+pub const GIVEN_AGAIN: usize = 2840;
+
+pub const LOSSY_VOTES: usize = 2841;
+
+pub const CAME_THROUGH: usize = 2842;
+
 // The plan's bytes, and those of a plan that may be damaged.
 pub const PLAN: usize = 4096;
 
 pub const OTHER_PLAN: usize = 5376;
 
-// The messages handed over: their bytes as one number, and sender and length.
+// The messages handed over: their bytes as one number, whether the sender's wire module forgot them since, and sender and length.
 pub const POOL: usize = 8192;
+
+pub const GONE: usize = 10240;
 
 pub const POOL_TAG: usize = 12288;
 
 // What a faulty board said last in messages of a level and kind, plus 1, with 32 times the board that it said it to.
 pub const TOLD: usize = 16384;
 
-// For each board and message handed over whether it was taken: 2048 places for each board.
+// For each board and message handed over the used length after the call that took it, or 0: 2048 places for each board.
 pub const TAKEN: usize = 32768;
 
 // The number at place i.

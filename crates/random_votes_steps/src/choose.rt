@@ -8,6 +8,7 @@ use random_votes_seats::seats;
 use random_votes_state::call;
 use random_votes_state::call::Journals;
 use random_votes_state::pool;
+use random_votes_state::queue;
 use random_votes_state::random;
 use random_votes_state::state;
 use random_votes_state::state::State;
@@ -21,13 +22,16 @@ fn some_pooled(s: &mut State, pooled: usize) -> usize {
     random::below(s, pooled)
 }
 
-// A message handed over, unless it comes slowly.
+// A message handed over, unless it is forgotten or comes slowly.
 fn take_pooled(s: &mut State, b: usize) -> usize {
     let pooled = state::get(s, state::POOLED);
     if pooled == 0 {
         return call::NOBODY;
     }
     let i = some_pooled(s, pooled);
+    if queue::is_gone(s, i) {
+        return call::NOBODY;
+    }
     pool::pick(s, i);
     if lies::is_slow(s, b) {
         if random::below(s, 24) != 0 {

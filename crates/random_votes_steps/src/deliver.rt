@@ -1,9 +1,10 @@
-// The last deliveries, in rounds: each board takes each message of the round, in an order of its own, with lies, readings and cuts among them; slow messages are left out a few times. A round in which a cut came is followed by one of all messages.
+// The last deliveries, in rounds: each board takes each message of the round, in an order of its own, with lies, readings and cuts among them; slow messages are left out a few times. A round in which a cut or a restore came is followed by one of all messages: takes were lost, or forgotten messages handed over again.
 use random_votes_seats::cuts;
 use random_votes_seats::lies;
 use random_votes_seats::seats;
 use random_votes_state::call;
 use random_votes_state::pool;
+use random_votes_state::queue;
 use random_votes_state::random;
 use random_votes_state::state;
 use random_votes_state::state::State;
@@ -61,7 +62,7 @@ pub fn begin(s: &mut State, from: usize) {
     draw_orders(s, p);
 }
 
-// The round is followed by another: of all messages after a cut; of those that came since; or of all, for those left out. Says whether it is.
+// The round is followed by another: of all messages after a cut or a restore; of those that came since; or of all, for those left out. Says whether it is.
 pub fn follow(s: &mut State) -> bool {
     let end = state::get(s, state::ROUND_END);
     if state::get(s, state::CUT_HERE) == 1 {
@@ -123,10 +124,13 @@ fn take_one(s: &mut State, b: usize, i: usize) -> usize {
     seats::take_picked(s, b, i)
 }
 
-// The board takes its next message, if there is one; now and then also one that it took already.
+// The board takes its next message, if there is one that is not forgotten; now and then also one that it took already.
 fn take_next(s: &mut State, b: usize) -> usize {
     let i = advance(s, b);
     if state::get(s, state::ROUND_END) <= i {
+        return call::NOBODY;
+    }
+    if queue::is_gone(s, i) {
         return call::NOBODY;
     }
     if pool::is_taken(s, b, i) {

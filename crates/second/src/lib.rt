@@ -103,7 +103,8 @@ pub fn take(
     record::commit(verdict, table, record, journal, used, out)
 }
 
-// Replays the journal over a table that was not refused.
+// Replays the journal over a table that was not refused. Only when no record is refused do the
+// messages of all of them go to the outgoing buffer's first bytes.
 fn recover(verdict: Verdict, table: &mut Table, journal: &[u8], out: &mut [u8]) -> Done {
     if verdict.number != 0 {
         return record::idle(verdict.number, verdict.place, 0);

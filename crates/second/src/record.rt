@@ -54,22 +54,23 @@ fn act(table: &mut Table, record: wire::Record, room: &mut Room) -> running::Ran
     running::run(table, room)
 }
 
-// Acts on a record that stands in the room and in the journal up to `after`; the messages go to the
-// outgoing buffer's first bytes.
+// Acts on a record that stands in the journal up to `after`; its messages go to a buffer, after as
+// many bytes of messages as are there.
 fn send(
     table: &mut Table,
     record: wire::Record,
     room: &mut Room,
     after: usize,
     out: &mut [u8],
+    there: usize,
 ) -> Done {
     let ran = act(table, record, room);
-    num::copy(room, ran.sent, out, 0);
+    num::copy(room, ran.sent, out, there);
     Done {
         number: 0,
         place: 0,
         used: after,
-        sent: ran.sent,
+        sent: num::add(there, ran.sent),
         rules: ran.rules,
     }
 }
@@ -98,28 +99,30 @@ pub fn commit(
         return idle(0, 0, used);
     }
     num::copy(&room, length, journal, used);
-    send(table, record, &mut room, after, out)
+    send(table, record, &mut room, after, out, 0)
 }
 
-// The record at `at` of the journal, asked and acted on.
-fn replay_one(table: &mut Table, journal: &[u8], at: usize, room: &mut Room) -> Done {
+// The record at `at` of the journal, asked and acted on; its messages are gathered behind those of
+// the records before it.
+fn replay_one(
+    table: &mut Table,
+    journal: &[u8],
+    at: usize,
+    gathered: &mut Room,
+    there: usize,
+) -> Done {
     let record = wire::read_record(journal, at);
     let number = ask::record(table, record);
     if number != 0 {
         return idle(number, at, 0);
     }
-    let ran = act(table, record, room);
-    Done {
-        number: 0,
-        place: 0,
-        used: record.next,
-        sent: ran.sent,
-        rules: ran.rules,
-    }
+    let mut room = num::empty_room();
+    send(table, record, &mut room, record.next, gathered, there)
 }
 
-// All whole records, in order: their length, the messages of the last, and the sum of their rules.
-pub fn replay(table: &mut Table, journal: &[u8], room: &mut Room) -> Done {
+// All whole records, in order: their length, every message of theirs in the order in which they made
+// them, and the sum of their rules.
+pub fn replay(table: &mut Table, journal: &[u8], gathered: &mut Room) -> Done {
     let mut used = 0;
     let mut sent = 0;
     let mut rules = 0;
@@ -127,7 +130,7 @@ pub fn replay(table: &mut Table, journal: &[u8], room: &mut Room) -> Done {
         if journal.len() <= used {
             break;
         }
-        let done = replay_one(table, journal, used, room);
+        let done = replay_one(table, journal, used, gathered, sent);
         if done.number == ask::TORN {
             break;
         }

@@ -5,10 +5,13 @@ use Rattle.random_votes_judge.proofs.demand.conclude.Statement.{stateme
 use Rattle.random_votes_judge.proofs.demand.conclude.Tie as tie
 
 abbrev Inv-loop : tie.InvT-loop
-Inv-loop s₀ most₀ b₀ s most b = 0 ≤ b
+Inv-loop s₀ faults most₀ b₀ s most b = 0 ≤ b
 
 abbrev μ-loop : tie.MeasureT-loop
-μ-loop s₀ most₀ b₀ s most b = 16 - b
+μ-loop s₀ faults most₀ b₀ s most b = 16 - b
+
+get-requires : tie.Need-get-requires Inv-loop μ-loop
+get-requires c κs = search needs
 
 loop-holds : tie.Need-loop-holds Inv-loop μ-loop
 loop-holds c = search needs
@@ -31,11 +34,11 @@ loop-again c = search needs
 count-requires : tie.Need-count-requires Inv-loop μ-loop
 count-requires c κs = search needs
 
+count-through-requires : tie.Need-count-through-requires Inv-loop μ-loop
+count-through-requires c κs = search needs
+
 returns : tie.Need-returns Inv-loop μ-loop
 returns c = search needs
-
-returns-2 : tie.Need-returns-2 Inv-loop μ-loop
-returns-2 c = search needs
 
 pub conclude-spec : {M : Type 1} → statement M
 conclude-spec =
@@ -43,6 +46,7 @@ conclude-spec =
     (tie.spec
     Inv-loop
     μ-loop
+    get-requires
     loop-holds
     conclude-board-requires
     add-requires
@@ -50,5 +54,5 @@ conclude-spec =
     loop-less
     loop-again
     count-requires
-    returns
-    returns-2)
+    count-through-requires
+    returns)

@@ -5,11 +5,11 @@ use Rattle.second.proofs.record.replay.Statement.{statement}
 use Rattle.second.proofs.record.replay.Tie as tie
 
 abbrev Inv-loop : tie.InvT-loop
-Inv-loop table₀ journal room₀ used₀ sent₀ rules₀ counter₀ end table room used sent rules counter =
+Inv-loop table₀ journal gathered₀ used₀ sent₀ rules₀ counter₀ end table gathered used sent rules counter =
     0 ≤ counter
 
 abbrev μ-loop : tie.MeasureT-loop
-μ-loop table₀ journal room₀ used₀ sent₀ rules₀ counter₀ end table room used sent rules counter =
+μ-loop table₀ journal gathered₀ used₀ sent₀ rules₀ counter₀ end table gathered used sent rules counter =
     end - counter
 
 pub replay-spec : {M : Type 1} → statement M

@@ -1,8 +1,8 @@
--- `random_votes_state::pool::is_kept` is safe and ends: each turn takes the loop one nearer to its end.
+-- `random_votes_state::pool::number_of` is safe and ends: each turn takes the loop one nearer to its end.
 use Prim.Native.Nat.{_≤_, _-_}
 use borrow.Author.Needs.{needs}
-use Rattle.random_votes_state.proofs.pool.is_kept.Statement.{statement}
-use Rattle.random_votes_state.proofs.pool.is_kept.Tie as tie
+use Rattle.random_votes_state.proofs.pool.number_of.Statement.{statement}
+use Rattle.random_votes_state.proofs.pool.number_of.Tie as tie
 
 abbrev Inv-loop : tie.InvT-loop
 Inv-loop s word tag kept i₀ i = 0 ≤ i
@@ -37,8 +37,8 @@ loop-again c = search needs
 returns-2 : tie.Need-returns-2 Inv-loop μ-loop
 returns-2 c = search needs
 
-pub is-kept-spec : {M : Type 1} → statement M
-is-kept-spec =
+pub number-of-spec : {M : Type 1} → statement M
+number-of-spec =
     tie.close
     (tie.spec
     Inv-loop
