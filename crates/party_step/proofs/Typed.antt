@@ -4,7 +4,6 @@ use mathlib.Core.List.{List, [], _∷_, map}
 use Prim.Native.Nat.{ℕ, zero, suc, _<_}
 use native.Mathlib.Nat.{not-suc-le-zero}
 use native.Mathlib.Omega.{arith}
-use lib.Dec.{T}
 use lib.ListN.{length, getD, length-map, List·getD-map}
 use mir.Val.{Val}
 use base.Fml.{Fml}
@@ -21,12 +20,10 @@ use Rattle.party.specs.declared.Chart.{Chart}
 use Rattle.party.specs.declared.Party as Code
 use Rattle.party.specs.Inner.{Whole}
 use Rattle.party.specs.Typed.{Typed}
-use Rattle.party.specs.Valid.{partyValid}
 use Rattle.party.specs.Tie.{voteOf, asParty}
 use Rattle.party.proofs.Ties.{length-tied, level-in}
 use Rattle.party.proofs.Party as PartyType
 use Rattle.party.proofs.Chart as ChartType
-use Rattle.party_bounds.proofs.Laws.{Sized}
 
 -- what is said of each element's value is said of the one at i: of an array, and of one in a record
 each-at : {A : Type 0} (f : A → List Val → Fml) (xs : List A) (us : List Val) (none : A) → shadow (each A f xs us) → (i : ℕ) → i < length xs
@@ -76,7 +73,3 @@ module _ (p : Code.Party) (vs : List Val) (h : Is PartyType.the-row p vs) where
         ∙ level-echoes (getD (p .levels) i noCodeLevel) (e .0 ∷ []) (e .1);
     agreement = omega (arith, h .1 .1 .1 .1 .1 .0 .1);
   }
-
-  -- that passes question 19
-  pub typed-sized : T (partyValid (asParty p)) → Sized (asParty p)
-  typed-sized v = record { formed = record { valid = v; full = typed-party .levels }; echoes = typed-party .echoes }
