@@ -1,4 +1,4 @@
-// A board's calls: set-up, start, take, reading the answer, restore. None asks anything of the caller.
+// A board's calls: set-up, start, take, reading the answer, restore, reading a pair. None asks anything of the caller.
 pub use board_calls::Answer;
 pub use board_calls::Answered;
 pub use board_calls::Called;
@@ -7,4 +7,7 @@ pub use board_door::start;
 pub use board_door::take;
 pub use board_ends::read_answer;
 pub use board_ends::set_up;
+pub use board_pair::PairAnswer;
+pub use board_pair::PairAnswered;
+pub use board_pair::read_pair;
 pub use board_restore::restore;
