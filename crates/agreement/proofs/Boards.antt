@@ -129,6 +129,12 @@ module _ (v : Instance) (plan : Plan) (bad : Set) (f : Shared v plan) where
         ∙ answered-valid (stateOf v plan h i) (state-formed .valid)
         ∙ ap (λ (y : Plan). answerOf y (outputOf (stateOf v plan h i))) state-plan
 
+    -- a cut board's party, once restored, is it
+    pub down-state : partyBy v i (boardAfter h i) down ≡ stateOf v plan h i
+    down-state =
+        ap (λ (q : Found Replay). restoredOf q .party) (restored-cut (v .n) (v .t) i (v .agreement) (v .plan) plan (f .boards) (f .faults) k (f .reads) (w .records) (w .life) (boardAfter h i .journal) (holds-begins (w .holds)) outgoingSize (omega arith))
+        ∙ sym state-records
+
     -- the party that reading is asked of is that of the board's log; a board not set up has no answer, as its log has none
     pub answer-now : answerNow v h i ≡ answerOf plan (outputOf (stateOf v plan h i))
     answer-now = go (boardAfter h i .stage) (w .stage)
@@ -139,10 +145,7 @@ module _ (v : Instance) (plan : Plan) (bad : Set) (f : Shared v plan) where
             ∙ sym (answer-none plan (outputOf (stateOf v plan h i))
             (ap outputOf (state-records ∙ ap (λ (rs : List Record). lived p rs .party) e) ∙ new-output (v .n) (v .t) i (v .agreement) plan))
         go running r = state-answer (boardAfter h i .party) (r .party ∙ sym state-records)
-        go down _ =
-            state-answer (partyBy v i (boardAfter h i) down)
-            (ap (λ (q : Found Replay). restoredOf q .party) (restored-cut (v .n) (v .t) i (v .agreement) (v .plan) plan (f .boards) (f .faults) k (f .reads) (w .records) (w .life) (boardAfter h i .journal) (holds-begins (w .holds)) outgoingSize (omega arith))
-            ∙ sym state-records)
+        go down _ = state-answer (partyBy v i (boardAfter h i) down) down-state
 
     -- ---- what its records tell
 

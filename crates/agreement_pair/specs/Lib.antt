@@ -1,0 +1,6 @@
+pub mod History
+pub mod Demand
+pub mod Completion
+pub mod Example
+pub mod Claims
+pub mod Premises
