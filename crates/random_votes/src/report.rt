@@ -6,12 +6,12 @@ use random_report::number;
 use random_report::row;
 use random_report::rows;
 use random_report::text;
+use random_votes_pairs::results;
 use random_votes_state::state;
 use random_votes_state::state::State;
 
-// Something that must not be, and where it was first.
-fn fault(s: &State, words: &[u8], i: usize, first: usize) {
-    line(s, words, i);
+// Where something was first in a state's votes, if it was.
+fn write_first(s: &State, first: usize) {
     if 0 < state::get(s, first) {
         text(b"first in vote");
         number(state::get(s, first));
@@ -19,6 +19,13 @@ fn fault(s: &State, words: &[u8], i: usize, first: usize) {
         number(state::of(s, first, 1));
         end();
     }
+}
+
+// Something that must not be, and where it was first in the votes of each seed.
+fn fault(s: &State, w: &State, words: &[u8], i: usize, first: usize) {
+    line(w, words, i);
+    write_first(s, first);
+    write_first(w, first);
 }
 
 // How many votes and calls there were.
@@ -178,29 +185,32 @@ fn write_ends(s: &State) {
 }
 
 // What must be 0.
-fn write_faults(s: &State) {
+fn write_faults(s: &State, w: &State) {
     fault(
         s,
+        w,
         b"calls whose rules are not as many as reported",
         state::MISCOUNTED,
         state::FIRST_MISCOUNT,
     );
     fault(
         s,
+        w,
         b"differences",
         state::DIFFERENCES,
         state::FIRST_DIFFERENCE,
     );
     fault(
         s,
-        b"answers against demand 3",
+        w,
+        b"answers against demand 3 or the claim of pairs",
         state::FAULTY_ANSWERS,
         state::FIRST_FAULT,
     );
 }
 
-// The run.
-pub fn write(s: &State) {
+// The counts.
+fn write_counts(s: &State) {
     write_votes(s);
     write_calls(s);
     write_broken(s);
@@ -209,5 +219,11 @@ pub fn write(s: &State) {
     write_rules(s);
     write_messages(s);
     write_ends(s);
-    write_faults(s);
+    results::write(s);
+}
+
+// The run: the second state has the counts of both.
+pub fn write(s: &State, w: &State) {
+    write_counts(w);
+    write_faults(s, w);
 }

@@ -128,12 +128,10 @@ fn draw_boards(s: &mut State, class: usize) {
     let n = boards(s, class);
     let t = faults(s, n);
     let number = number(s);
-    let length = group::size(number);
     state::set(s, state::BOARDS, n);
     state::set(s, state::FAULTS, t);
     state::set(s, state::NUMBER, number);
-    state::set(s, state::NUMBER_LENGTH, length);
-    state::count(s, num::add(state::LENGTHS, length));
+    state::set(s, state::NUMBER_LENGTH, group::size(number));
     forget(s, state::SOUND, state::FIRST);
     forget(s, state::TOLD, state::TOLD + 2048);
     forget(s, state::TAKEN, state::TAKEN + 32768);

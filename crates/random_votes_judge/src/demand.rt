@@ -14,8 +14,8 @@ pub fn note_place(s: &mut State, place: usize) {
     }
 }
 
-// An answer against demand 3, or a missing one.
-fn fault(s: &mut State) {
+// An answer against demand 3 or against the claim of pairs, or a missing one.
+pub fn fault(s: &mut State) {
     state::count(s, state::FAULTY_ANSWERS);
     note_place(s, state::FIRST_FAULT);
 }
@@ -73,7 +73,7 @@ fn is_right(s: &State, y: usize) -> bool {
 }
 
 // A wrong answer is counted.
-fn check(s: &mut State, y: usize) {
+pub fn check(s: &mut State, y: usize) {
     if is_right(s, y) {
         return;
     }

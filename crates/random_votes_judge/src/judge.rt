@@ -15,7 +15,7 @@ use second_wire::group;
 use second_wire::num;
 
 // A call on which the implementations differ.
-fn difference(s: &mut State) {
+pub fn difference(s: &mut State) {
     state::count(s, state::DIFFERENCES);
     demand::note_place(s, state::FIRST_DIFFERENCE);
 }
@@ -124,13 +124,18 @@ fn after_restore(s: &mut State, out: &[u8], b: usize) {
     after_call(s, out, b);
 }
 
-// A reading that gives an answer guards the records; a cut may follow.
+// A reading that gives an answer guards the records.
+pub fn keep_reading(s: &mut State, b: usize) {
+    guard(s, b);
+    let held = state::of(s, state::HELD, b);
+    state::put(s, state::READ, b, held);
+}
+
+// A cut may follow a reading.
 fn after_reading(s: &mut State, b: usize) {
     keep_answer(s, b);
-    let held = state::of(s, state::HELD, b);
     if 0 < state::of(s, state::FIRST, call::ANSWER) {
-        guard(s, b);
-        state::put(s, state::READ, b, held);
+        keep_reading(s, b);
         if cuts::comes(s, 3) {
             cuts::cut(s, b);
             state::count(s, state::READ_CUTS);

@@ -1,5 +1,6 @@
-// What random votes are kept in: one table of numbers, pseudo-random numbers, the messages handed over, and those that wire modules forgot.
+// What random votes are kept in: one table of numbers, pseudo-random numbers, the messages handed over, those that wire modules forgot, and places for pairs.
 pub mod call;
+pub mod pair;
 pub mod pool;
 pub mod put;
 pub mod queue;

@@ -36,9 +36,14 @@ pub fn settings(n: u32, t: u32, own: u32) -> u32 {
     0
 }
 
-// Questions 19, 18 and 20 of a start or take; only where there is no party are there no boards.
+// Question 19: only where there is no party are there no boards.
+pub fn is_party(table: &Table) -> bool {
+    table::at(table, table::VOTE, table::BOARDS) != 0
+}
+
+// Questions 19, 18 and 20 of a start or take.
 pub fn call(table: &Table, journal: &[u8], used: usize, out: &[u8]) -> u32 {
-    if table::at(table, table::VOTE, table::BOARDS) == 0 {
+    if !is_party(table) {
         return 19;
     }
     if out.len() < num::OUTGOING {

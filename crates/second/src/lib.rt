@@ -2,6 +2,7 @@
 // loops over all boards, values, positions and edges. It is compared with the first implementation
 // byte for byte; of itself it is proved only that it is safe and ends.
 pub mod ask;
+pub mod pair;
 pub mod reading;
 pub mod record;
 
@@ -53,6 +54,14 @@ pub fn set_up(table: &mut Table, n: u32, t: u32, own: u32, agreement: u32, plan:
     verdict
 }
 
+// No answer.
+pub fn nothing() -> Found {
+    Found {
+        there: false,
+        value: 0,
+    }
+}
+
 // Level 0's output, if there is one, as a start takes it.
 pub fn answer(table: &Table) -> Found {
     if table::is_set(table, 0, table::OUTPUT_THERE) {
@@ -63,10 +72,7 @@ pub fn answer(table: &Table) -> Found {
             value: reading::lowered(num::add(base, output)),
         };
     }
-    Found {
-        there: false,
-        value: 0,
-    }
+    nothing()
 }
 
 // Start: questions 19, 18, 20, 13, 12 and 17.

@@ -1,14 +1,16 @@
 -- `random_votes::run` is safe and ends: each turn takes the loop one nearer to its end.
 use Prim.Native.Nat.{_≤_, _-_}
+use native.Mathlib.Omega.{arith}
 use borrow.Author.Needs.{needs}
 use Rattle.random_votes.proofs.run.Statement.{statement}
 use Rattle.random_votes.proofs.run.Tie as tie
 
 abbrev Inv-loop : tie.InvT-loop
-Inv-loop s₀ journals₀ out₀ seats₀ tables₀ counter₀ s journals out seats tables counter = 0 ≤ counter
+Inv-loop s₀ w₀ journals₀ others₀ out₀ seats₀ other-seats₀ tables₀ other-tables₀ counter₀ s w journals others out seats other-seats tables other-tables counter = 0 ≤ counter
 
 abbrev μ-loop : tie.MeasureT-loop
-μ-loop s₀ journals₀ out₀ seats₀ tables₀ counter₀ s journals out seats tables counter = 100000 - counter
+μ-loop s₀ w₀ journals₀ others₀ out₀ seats₀ other-seats₀ tables₀ other-tables₀ counter₀ s w journals others out seats other-seats tables other-tables counter =
+    100000 - counter
 
 nobody-requires : tie.Need-nobody-requires Inv-loop μ-loop
 nobody-requires c κs = search needs
@@ -19,8 +21,8 @@ empty-requires c κs = search needs
 loop-holds : tie.Need-loop-holds Inv-loop μ-loop
 loop-holds c = search needs
 
-get-requires : tie.Need-get-requires Inv-loop μ-loop
-get-requires c κs = search needs
+is-over-requires : tie.Need-is-over-requires Inv-loop μ-loop
+is-over-requires c κs = search needs
 
 prepare-requires : tie.Need-prepare-requires Inv-loop μ-loop
 prepare-requires c κs = search needs
@@ -46,11 +48,65 @@ mul-seats c = search needs
 array-set-from-seats : tie.Need-array-set-from-seats Inv-loop μ-loop
 array-set-from-seats c = search needs
 
+prepare-requires-2 : tie.Need-prepare-requires-2 Inv-loop μ-loop
+prepare-requires-2 c κs = search needs
+
+mul-other-before : tie.Need-mul-other-before Inv-loop μ-loop
+mul-other-before c = search needs
+
+array-copy-out-other-before : tie.Need-array-copy-out-other-before Inv-loop μ-loop
+array-copy-out-other-before c = search needs
+
+mul-step-2 : tie.Need-mul-step-2 Inv-loop μ-loop
+mul-step-2 c = search needs
+
+index-1-step-2 : tie.Need-index-1-step-2 Inv-loop μ-loop
+index-1-step-2 c = search needs
+
+step-requires-2 : tie.Need-step-requires-2 Inv-loop μ-loop
+step-requires-2 c κs = search needs
+
+mul-other-seats : tie.Need-mul-other-seats Inv-loop μ-loop
+mul-other-seats c = search needs
+
+array-set-from-other-seats : tie.Need-array-set-from-other-seats Inv-loop μ-loop
+array-set-from-other-seats c = search needs
+
+seat-requires : tie.Need-seat-requires Inv-loop μ-loop
+seat-requires c κs = search needs
+
+mul-p : tie.Need-mul-p Inv-loop μ-loop
+mul-p c = search needs
+
+array-copy-out-p : tie.Need-array-copy-out-p Inv-loop μ-loop
+array-copy-out-p c = search needs
+
+mul-q : tie.Need-mul-q Inv-loop μ-loop
+mul-q c = search needs
+
+array-copy-out-q : tie.Need-array-copy-out-q Inv-loop μ-loop
+array-copy-out-q c = search needs
+
+mul-read : tie.Need-mul-read Inv-loop μ-loop
+mul-read c = search needs
+
+index-1-read : tie.Need-index-1-read Inv-loop μ-loop
+index-1-read c = search needs
+
+mul-read-2 : tie.Need-mul-read-2 Inv-loop μ-loop
+mul-read-2 c = search needs
+
+index-1-read-2 : tie.Need-index-1-read-2 Inv-loop μ-loop
+index-1-read-2 c = search needs
+
+read-requires : tie.Need-read-requires Inv-loop μ-loop
+read-requires c κs = search needs
+
 add-counter : tie.Need-add-counter Inv-loop μ-loop
-add-counter c = search needs
+add-counter c = omega (arith, c .before .before .before .before .before .before .before .before .before .before .before .before .before .before .before .before .before .before .before .before .before .before .before .before .before .before .before .before .before .before .before .before .before .before .loop-test .taken)
 
 loop-less : tie.Need-loop-less Inv-loop μ-loop
-loop-less c = search needs
+loop-less c = omega (arith, c .before .before .before .before .before .before .before .before .before .before .before .before .before .before .before .before .before .before .before .before .before .before .before .before .before .before .before .before .before .before .before .before .before .before .loop-test .taken)
 
 loop-again : tie.Need-loop-again Inv-loop μ-loop
 loop-again c = search needs
@@ -70,7 +126,7 @@ run-spec =
     nobody-requires
     empty-requires
     loop-holds
-    get-requires
+    is-over-requires
     prepare-requires
     mul-before
     array-copy-out-before
@@ -79,6 +135,24 @@ run-spec =
     step-requires
     mul-seats
     array-set-from-seats
+    prepare-requires-2
+    mul-other-before
+    array-copy-out-other-before
+    mul-step-2
+    index-1-step-2
+    step-requires-2
+    mul-other-seats
+    array-set-from-other-seats
+    seat-requires
+    mul-p
+    array-copy-out-p
+    mul-q
+    array-copy-out-q
+    mul-read
+    index-1-read
+    mul-read-2
+    index-1-read-2
+    read-requires
     add-counter
     loop-less
     loop-again

@@ -5,25 +5,16 @@ use Rattle.random_votes.proofs.run_votes.Statement.{statement}
 use Rattle.random_votes.proofs.run_votes.Tie as tie
 
 abbrev Inv-loop : tie.InvT-loop
-Inv-loop s₀ journals₀ out₀ counter₀ s journals out counter = 0 ≤ counter
+Inv-loop s₀ w₀ journals₀ others₀ out₀ counter₀ s w journals others out counter = 0 ≤ counter
 
 abbrev μ-loop : tie.MeasureT-loop
-μ-loop s₀ journals₀ out₀ counter₀ s journals out counter = 2000 - counter
+μ-loop s₀ w₀ journals₀ others₀ out₀ counter₀ s w journals others out counter = 2000 - counter
 
 loop-holds : tie.Need-loop-holds Inv-loop μ-loop
 loop-holds c = search needs
 
-draw-requires : tie.Need-draw-requires Inv-loop μ-loop
-draw-requires c κs = search needs
-
-keep-sending-requires : tie.Need-keep-sending-requires Inv-loop μ-loop
-keep-sending-requires c κs = search needs
-
-run-requires : tie.Need-run-requires Inv-loop μ-loop
-run-requires c κs = search needs
-
-count-requires : tie.Need-count-requires Inv-loop μ-loop
-count-requires c κs = search needs
+run-two-requires : tie.Need-run-two-requires Inv-loop μ-loop
+run-two-requires c κs = search needs
 
 add-counter : tie.Need-add-counter Inv-loop μ-loop
 add-counter c = search needs
@@ -40,15 +31,4 @@ returns c = search needs
 pub run-votes-spec : {M : Type 1} → statement M
 run-votes-spec =
     tie.close
-    (tie.spec
-    Inv-loop
-    μ-loop
-    loop-holds
-    draw-requires
-    keep-sending-requires
-    run-requires
-    count-requires
-    add-counter
-    loop-less
-    loop-again
-    returns)
+    (tie.spec Inv-loop μ-loop loop-holds run-two-requires add-counter loop-less loop-again returns)
