@@ -235,6 +235,19 @@ fn read(p: party::Party) -> u64
     answers(a)
 }
 
+// A reading of a pair, likewise: the party, and the same under another number; whether the second byte was written.
+fn read_pair(p: party::Party) -> bool {
+    let mut q = p;
+    q.agreement = AGREEMENT + 1;
+    io::write_all(STDOUT_FILENO, b"[");
+    let r = board::read_pair(p, q);
+    let a = r.answer;
+    match a {
+        board::PairAnswer::None => io::write_all(STDOUT_FILENO, b"-"),
+        board::PairAnswer::At(_, _) => io::write_all(STDOUT_FILENO, b"]"),
+    }
+}
+
 // The end of a journal's used bytes.
 fn end_of(from: usize, used: usize) -> usize
     requires { ⌜ from ≤ journalsSize ⌝ }
@@ -345,6 +358,7 @@ fn call_again(
     let c = restore_board(v, s, i, used, journals, out);
     let again = give_again(c.party, i, c.used, wire, journals, out);
     let second = start_again(again.party, i, again.used, journals, out);
+    read_pair(second.party);
     read(second.party)
 }
 
