@@ -4,7 +4,7 @@ use Prim.Native.Nat.{_-_}
 use native.Mathlib.Omega.{arith}
 use mir.Syntax.{w64}
 use mir.ValLaws.{toZ-pos}
-use Rattle.board_positions.proofs.Signs.{minus-fits, minus-back}
+use Rattle.integers.proofs.Signs.{minus-fits, minus-back}
 use Rattle.range_plan.proofs.Laws.{integer-zero, integer-negative, integer-positive}
 use borrow.Author.Needs.{needs}
 use Rattle.bench_settings.proofs.value.Statement.{statement}

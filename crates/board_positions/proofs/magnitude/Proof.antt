@@ -3,7 +3,7 @@ use mathlib.Core.Path.{sym, ap, subst}
 use lib.IntN.{natAbs}
 use mir.Syntax.{w64}
 use mir.Val.{SFits}
-use Rattle.board_positions.proofs.Signs.{flipped, flipped-back, kept, fits-unsigned}
+use Rattle.integers.proofs.Signs.{flipped, flipped-back, kept, fits-unsigned}
 use Rattle.board_positions.proofs.magnitude.Statement.{statement}
 use Rattle.board_positions.proofs.magnitude.Tie as tie
 

@@ -7,7 +7,7 @@ use mir.Syntax.{w64}
 use Rattle.base.specs.Limits.{offsetZero}
 use Rattle.board_calls.specs.Answers.{onPlan}
 use Rattle.plan.specs.Tie.{asPlan}
-use Rattle.board_positions.proofs.Signs.{below-zero, from-zero, mag-back}
+use Rattle.integers.proofs.Signs.{below-zero, from-zero, mag-back}
 use Rattle.board_laws.proofs.Inputs.{range-below, range-negative, range-under, range-natural}
 use borrow.Author.Needs.{needs}
 use Rattle.board_positions.proofs.range_position.Statement.{statement}

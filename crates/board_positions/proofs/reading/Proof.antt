@@ -5,7 +5,7 @@ use native.Mathlib.Omega.{arith}
 use mir.Syntax.{w64}
 use mir.ValLaws.{toZ-pos}
 use Rattle.base.specs.Limits.{offsetZero}
-use Rattle.board_positions.proofs.Signs.{minus-fits, minus-back}
+use Rattle.integers.proofs.Signs.{minus-fits, minus-back}
 use Rattle.board_laws.proofs.Inputs.{offset-natural, offset-negative}
 use borrow.Author.Needs.{needs}
 use Rattle.board_positions.proofs.reading.Statement.{statement}

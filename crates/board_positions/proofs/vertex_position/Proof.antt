@@ -3,7 +3,7 @@ use mathlib.Core.Path.{ap, _∙_}
 use mir.Syntax.{w64}
 use Rattle.board_calls.specs.Answers.{onPlan}
 use Rattle.plan.specs.Tie.{asPlan}
-use Rattle.board_positions.proofs.Signs.{below-zero, from-zero, mag-back}
+use Rattle.integers.proofs.Signs.{below-zero, from-zero, mag-back}
 use Rattle.board_laws.proofs.Inputs.{vertex-negative, vertex-natural}
 use borrow.Author.Needs.{needs}
 use Rattle.board_positions.proofs.vertex_position.Statement.{statement}

@@ -1,15 +1,16 @@
 -- Signed numbers of any width: what the machine computes of them.
-use mathlib.Core.Path.{_≡_, refl, sym, ap, _∙_, subst}
-use mathlib.Core.Bool.{true, false}
+use mathlib.Core.Path.{_≡_, refl, sym, ap, ap₂, _∙_, subst}
+use mathlib.Core.Bool.{Bool, true, false}
 use Prim.Native.Nat.{ℕ, zero, suc, _-_, _^_, _<_}
 use native.Mathlib.Omega.{arith}
 use lib.Dec.{T}
-use lib.IntN.{ℤ, pos, negsuc, natAbs, _-ℤ_}
-use lib.Signed.{ltZ, nonNeg, mag}
+use lib.IntN.{ℤ, pos, negsuc, negℤ, natAbs, +ℤ-idl, _-ℤ_}
+use lib.Signed.{ltZ, leZ, nonNeg, mag}
 use borrow.Author.Tests.{le-ltb, ltb-true}
 use mir.Syntax.{Width}
 use mir.Val.{Fits, SFits, hbits, toZ, ofZ}
 use mir.ValLaws.{toZ-ofZ, toZ-pos, half-full}
+use Rattle.integers.proofs.Magnitudes.{natAbs-neg}
 
 -- -1 - z
 flip-negsuc : (n : ℕ) → negsuc 0 -ℤ negsuc n ≡ pos n
@@ -61,3 +62,29 @@ module _ (w : Width) (n : ℕ) (h : n < 2 ^ hbits w) where
 
   pub minus-back : toZ w (ofZ w (negsuc 0 -ℤ toZ w n)) ≡ negsuc n
   minus-back = toZ-ofZ w (negsuc 0 -ℤ toZ w n) minus-fits ∙ minus
+
+-- a number whose magnitude is small enough fits, and its bits are read back as it
+pub small-fits : (w : Width) (z : ℤ) → natAbs z < 2 ^ hbits w → SFits w z
+small-fits w (pos n) h = record { sfits = h }
+small-fits w (negsuc n) h = record { sfits = omega arith }
+
+module _ (w : Width) (x : ℤ) {z : ℤ} (e : x ≡ z) (h : natAbs z < 2 ^ hbits w) where
+  pub is-fits : SFits w x
+  is-fits = subst (SFits w) (sym e) (small-fits w z h)
+
+  pub is-back : toZ w (ofZ w x) ≡ z
+  is-back = toZ-ofZ w x is-fits ∙ e
+
+  -- 0 - z
+  pub opposite : pos 0 -ℤ x ≡ negℤ z
+  opposite = +ℤ-idl (negℤ x) ∙ ap negℤ e
+
+  pub opposite-fits : SFits w (pos 0 -ℤ x)
+  opposite-fits = subst (SFits w) (sym opposite) (small-fits w (negℤ z) (subst (λ (n : ℕ). n < 2 ^ hbits w) (sym (natAbs-neg z)) h))
+
+  pub opposite-back : toZ w (ofZ w (pos 0 -ℤ x)) ≡ negℤ z
+  opposite-back = toZ-ofZ w (pos 0 -ℤ x) opposite-fits ∙ opposite
+
+-- a comparison of two numbers, as the machine makes it of their bits
+pub compared : (w : Width) {x y : ℤ} → SFits w x → SFits w y → {t : Bool} → leZ (toZ w (ofZ w x)) (toZ w (ofZ w y)) ≡ t → leZ x y ≡ t
+compared w {x} {y} fx fy h = sym (ap₂ leZ (toZ-ofZ w x fx) (toZ-ofZ w y fy)) ∙ h
