@@ -62,13 +62,15 @@ atDoor p room used out go = ask (partyValid p) 19 0 (ask (leb outgoingSize out) 
 abbrev pub fitting : ℕ → ℕ → Record → Ran → Found Entry
 fitting room used r ran = ask (leb (used + length (recordBytes r)) room) 17 0 (found (fresh r ran))
 
--- "Start: Not yet started? 13. Input on the plan? 12. Record fits the journal? 17."
+-- "Start: Not yet started? 13. Input on the plan? 12. Record fits the journal? 17.", of an input at position x, which is noOutput where it has none
+abbrev pub startAt : Party → ℕ → ℕ → ℕ → Found Entry
+startAt p x room used =
+    ask (not (started p)) 13 0
+    (ask (not (eqb x noOutput)) 12 0
+    (fitting room used (Start (p .agreement) x) (starting p x)))
+
 unfoldable pub startQuestions : Party → ℤ → ℕ → ℕ → ℕ → Found Entry
-startQuestions p input room used out =
-    atDoor p room used out
-    (ask (not (started p)) 13 0
-    (ask (not (eqb (positionOf (p .plan) input) noOutput)) 12 0
-    (fitting room used (Start (p .agreement) (positionOf (p .plan) input)) (starting p (positionOf (p .plan) input)))))
+startQuestions p input room used out = atDoor p room used out (startAt p (positionOf (p .plan) input) room used)
 
 -- "Take: Sender below n? 14. Bytes exactly one message? 15. Our agreement number? 16. Held already, or record fits? 17." Document 02, Q-2: 15, 22, 23 and 24
 -- "are asked at 15's place, left to right", with the place that was found.

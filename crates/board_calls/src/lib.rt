@@ -7,6 +7,9 @@ ghost use Rattle.board_calls.specs.Restore.{restoredOf};
 ghost use Rattle.party.specs.Tie.{asParty};
 ghost use Rattle.board_calls.specs.Tie.{asCalled};
 
+// A range's kind of plan.
+pub const RANGE: u32 = 2;
+
 // A party, or a refusal and a record that fails question 19.
 pub struct SetUp {
     pub verdict: base::Verdict,

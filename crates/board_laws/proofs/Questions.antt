@@ -41,7 +41,7 @@ module _ {A : Type 0} (p : Party) (room used out : ℕ) (go : Found A) where
   pub shut-20 : partyValid p ≡ true → outgoingSize ≤ out → room < used → atDoor p room used out go ≡ refused 20 0
   shut-20 v o h = ask-yes (partyValid p) 19 0 _ (true→T v) ∙ rw (le-leb outgoingSize out o, lt-leb used room h)
 
-  door-yes : T (partyValid p) → outgoingSize ≤ out → used ≤ room → atDoor p room used out go ≡ go
+  pub door-yes : T (partyValid p) → outgoingSize ≤ out → used ≤ room → atDoor p room used out go ≡ go
   door-yes v o h = ask-yes (partyValid p) 19 0 _ v ∙ rw (le-leb outgoingSize out o, le-leb used room h)
 
 -- question 17

@@ -45,7 +45,7 @@ same-recorded p {r} {x} {ran} {y} e h =
 
 -- past questions 19, 18 and 20
 module _ (p : Party) (room used out : ℕ) where
-  inside : (x : Entry) (go : Found Entry) → atDoor p room used out go ≡ found x → T (partyValid p) × (go ≡ found x)
+  pub inside : (x : Entry) (go : Found Entry) → atDoor p room used out go ≡ found x → T (partyValid p) × (go ≡ found x)
   inside x go e =
       let a = asked (partyValid p) 19 0 _ x e in
       let b = asked (leb outgoingSize out) 18 0 _ x (a .1) in

@@ -1,12 +1,10 @@
 // The reading of a pair: two range votes under two agreement numbers, read as one. It asks nothing of the caller.
 use board_calls::Answer;
+use board_calls::RANGE;
 ghost use mathlib.Core.Path.{_≡_};
 ghost use Rattle.base.specs.Found.{refused};
 ghost use Rattle.party.specs.Tie.{asParty};
 ghost use Rattle.board_pair.specs.Pair.{pairOf, pairQuestions, pairGives};
-
-// A range's kind of plan.
-const RANGE: u32 = 2;
 
 // The readings of the first and of the second vote, if both have an answer.
 pub enum PairAnswer {

@@ -1,4 +1,4 @@
--- Every record that a set-up, start, take or restore gives passes question 19; the record that comes with a refused set-up or restore fails it.
+-- Every record that a set-up, start, start by count, take or restore gives passes question 19; the record that comes with a refused set-up or restore fails it.
 use mathlib.Core.Path.{_≡_, refl, sym, _∙_, subst}
 use mathlib.Core.List.{List}
 use Prim.Native.Nat.{ℕ, _<_}
@@ -23,8 +23,10 @@ use Rattle.party_life.proofs.Fits.{fits-start, fits-taken}
 use Rattle.party_laws.proofs.Laws.{Formed, formed-starting, formed-taking}
 use Rattle.board_calls.proofs.NoParty.{no-party}
 use Rattle.board_calls.specs.Calls.{Entry, again, fresh, setUpAnswer, setUpOf, startQuestions, takeQuestions, calledOf}
+use Rattle.board_calls.specs.Counts.{startCountQuestions}
 use Rattle.board_calls.specs.Restore.{Replay, replayFrom, restoreQuestions, restoredOf}
 use Rattle.board_promises.specs.Given.{Given, Withheld}
+use Rattle.board_promises.proofs.Counts.{count-valid, count-recorded}
 use Rattle.board_laws.proofs.Recorded.{Recorded, start-valid, take-valid, start-recorded, take-recorded}
 use Rattle.board_laws.proofs.Replays.{new-sized}
 use Rattle.board_laws.proofs.Kept.{replay-keeps}
@@ -53,7 +55,7 @@ module _ (n t own a : ℕ) (bytes : List ℕ) where
       go (found plan) h v = let z : _≡_ {A = ℕ} 0 1 = cc in omega arith
       go (refused number place) h v = no-party v
 
--- ---- start and take
+-- ---- start, start by count and take
 
 -- what a record that fits makes of a party
 formed-replayed : (p : Party) → Formed p → (r : Record) → Fits p r → Formed (replayed p r .party)
@@ -62,7 +64,7 @@ formed-replayed p w (Start a x) f = let g = fits-start p a x f in formed-startin
 formed-replayed p w (Taken s m) f = let g = fits-taken p s m f in formed-taking p w s m (g .1) (g .2)
 
 module _ (p : Party) (full : length (p .levels) ≡ levelCount) (room used out : ℕ) where
-  -- a start or take that found q is accepted, and its party passes question 19
+  -- a start, by count or not, or a take that found q is accepted, and its party passes question 19
   abbrev Accepted : Found Entry → Type 0
   Accepted q = calledOf p used q .verdict ≡ Verdict.Accepted
 
@@ -73,21 +75,22 @@ module _ (p : Party) (full : length (p .levels) ≡ levelCount) (room used out :
   recorded : (r : Record) (ran : Ran) → Recorded p r ran → T (partyValid (ran .party))
   recorded r ran (v, f, e) = subst (λ (y : Ran). T (partyValid (y .party))) (sym e) (formed-replayed p (record { valid = v; full = full }) r f .valid)
 
+  -- whatever its questions find: of a valid party, and where it is a record, one that fits
+  call-given : (q : Found Entry) → ((x : Entry) → q ≡ found x → T (partyValid p)) → ((r : Record) (ran : Ran) → q ≡ found (fresh r ran) → Recorded p r ran)
+      → Accepted q → Passes q
+  call-given (found again) v f h = v again refl
+  call-given (found (fresh r ran)) v f h = recorded r ran (f r ran refl)
+  call-given (refused number place) v f h = let y : _≡_ {A = ℕ} 0 1 = cc in absurd (omega arith)
+
   start-given : (z : ℤ) → Accepted (startQuestions p z room used out) → Passes (startQuestions p z room used out)
-  start-given z h = go (startQuestions p z room used out) refl h
-    where
-      go : (q : Found Entry) → startQuestions p z room used out ≡ q → Accepted q → Passes q
-      go (found again) e h = start-valid p room used out again z e
-      go (found (fresh r ran)) e h = recorded r ran (start-recorded p room used out r ran z e)
-      go (refused number place) e h = let y : _≡_ {A = ℕ} 0 1 = cc in absurd (omega arith)
+  start-given z = call-given (startQuestions p z room used out) (λ x. start-valid p room used out x z) (λ r ran. start-recorded p room used out r ran z)
+
+  start-count-given : (g : ℕ) (c : ℤ) → Accepted (startCountQuestions p g c room used out) → Passes (startCountQuestions p g c room used out)
+  start-count-given g c = call-given (startCountQuestions p g c room used out) (count-valid p g c room used out) (count-recorded p g c room used out)
 
   take-given : (s : ℕ) (bytes : List ℕ) → AllBytes bytes → Accepted (takeQuestions p s bytes room used out) → Passes (takeQuestions p s bytes room used out)
-  take-given s bytes all h = go (takeQuestions p s bytes room used out) refl h
-    where
-      go : (q : Found Entry) → takeQuestions p s bytes room used out ≡ q → Accepted q → Passes q
-      go (found again) e h = take-valid p room used out again s bytes e
-      go (found (fresh r ran)) e h = recorded r ran (take-recorded p room used out r ran s bytes all e)
-      go (refused number place) e h = let y : _≡_ {A = ℕ} 0 1 = cc in absurd (omega arith)
+  take-given s bytes all =
+      call-given (takeQuestions p s bytes room used out) (λ x. take-valid p room used out x s bytes) (λ r ran. take-recorded p room used out r ran s bytes all)
 
 -- ---- restore
 
@@ -123,10 +126,11 @@ module _ (n t own a : ℕ) (bytes j : List ℕ) (out : ℕ) where
 
 -- ---- every call
 
--- Every record that a set-up, start, take or restore gives passes question 19.
+-- Every record that a set-up, start, start by count, take or restore gives passes question 19.
 pub given-valid : {p : Party} → Given p → T (partyValid p)
 given-valid (Given.set-up n t own a bytes h) = set-up-given n t own a bytes h
 given-valid (Given.start p z room used out full h) = start-given p full room used out z h
+given-valid (Given.start-count p g c room used out full h) = start-count-given p full room used out g c h
 given-valid (Given.take p s bytes room used out full all h) = take-given p full room used out s bytes all h
 given-valid (Given.restore n t own a bytes j out all h) = restore-given n t own a bytes j out all h
 

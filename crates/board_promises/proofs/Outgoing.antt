@@ -32,12 +32,14 @@ use Rattle.party.specs.Run.{Ran, resting, bytesOf}
 use Rattle.party_life.specs.Life.{replayed, following, Fits}
 use Rattle.party_bounds.proofs.Laws.{Sized, Within, replayed-within, sized-replayed, typed-sized}
 use Rattle.board_calls.specs.Calls.{Called, Entry, fresh, startQuestions, takeQuestions, calledOf, outgoingAfter}
+use Rattle.board_calls.specs.Counts.{startCountQuestions}
 use Rattle.board_calls.specs.Restore.{Replay, onPlanRead, restoreQuestions, restoredOf, restoreOutgoing}
 use Rattle.board_calls.specs.Results.{CallGives, RestoreGives}
 use Rattle.board_promises.specs.Outgoing.{withRest, messagesFrom, messagesOf, AllWritable}
 use Rattle.party.specs.Typed.{Typed}
 use Rattle.board_laws.proofs.Replays.{new-sized}
 use Rattle.board_laws.proofs.Kept.{replay-keeps}
+use Rattle.board_promises.proofs.Counts.{count-recorded}
 use Rattle.board_laws.proofs.Recorded.{Recorded, start-recorded, take-recorded}
 use Rattle.board_laws.proofs.Restored.{settled-new}
 
@@ -104,7 +106,7 @@ sent-bytes out bs = ap (take (length bs)) (put-zero out bs) ∙ take-at bs (drop
 pub written-read : (out : List ℕ) (ms : List Message) → AllWritable ms → messagesOf (take (length (bytesOf ms)) (putAt out 0 (bytesOf ms))) ≡ some ms
 written-read out ms w = ap messagesOf (sent-bytes out (bytesOf ms)) ∙ messages-read ms w
 
--- ---- start and take
+-- ---- start, start by count and take
 
 -- the messages of a vote can be written
 proper-writable : (a : ℕ) → a ≤ maxNumber → (ms : List Message) → ((m : Message) → List·Memᴰ m ms → T (inTable m) × (m .number ≡ a)) → AllWritable ms
@@ -130,6 +132,13 @@ module _ {p : Party} {used : ℕ} {j out : List ℕ} {c : Called} {jThen outThen
   pub start-outgoing : Typed p → (z : ℤ) (r : Record) (ran : Ran) → CallGives (startQuestions p z (length j) used (length out)) p used j out c jThen outThen
       → startQuestions p z (length j) used (length out) ≡ found (fresh r ran) → messagesOf (take (c .sent) outThen) ≡ some (ran .made)
   start-outgoing t z r ran g e = call-read r ran g e (recorded-writable p t r ran (start-recorded p (length j) used (length out) r ran z e))
+
+  -- So are those of an accepted start by count.
+  pub start-count-outgoing : Typed p → (size : ℕ) (count : ℤ) (r : Record) (ran : Ran)
+      → CallGives (startCountQuestions p size count (length j) used (length out)) p used j out c jThen outThen
+      → startCountQuestions p size count (length j) used (length out) ≡ found (fresh r ran) → messagesOf (take (c .sent) outThen) ≡ some (ran .made)
+  start-count-outgoing t size count r ran g e =
+      call-read r ran g e (recorded-writable p t r ran (count-recorded p size count (length j) used (length out) r ran e))
 
   -- So are those of an accepted take that makes a record.
   pub take-outgoing : Typed p → (s : ℕ) (bytes : List ℕ) → AllBytes bytes → (r : Record) (ran : Ran)

@@ -22,7 +22,7 @@ use Rattle.board_promises.specs.Refused.{Untouched}
 
 -- ---- start and take
 
--- A refused start or take.
+-- A refused start, start by count or take.
 pub refused-untouched : {q : Found Entry} {p : Party} {used : ℕ} {j out : List ℕ} {r : Called} {jThen outThen : List ℕ}
     → CallGives q p used j out r jThen outThen → (number place : ℕ) → r .verdict ≡ Verdict.Refused number place → Untouched p used j out r jThen outThen
 refused-untouched {q} {p} {used} {j} {out} {r} {jThen} {outThen} g number place v = go q g

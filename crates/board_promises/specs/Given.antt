@@ -9,9 +9,10 @@ use Rattle.base.specs.declared.Verdict.{Verdict}
 use Rattle.varint.specs.Varint.{AllBytes}
 use Rattle.party.specs.Party.{Party}
 use Rattle.board_calls.specs.Calls.{setUpOf, startQuestions, takeQuestions, calledOf}
+use Rattle.board_calls.specs.Counts.{startCountQuestions}
 use Rattle.board_calls.specs.Restore.{restoreQuestions, restoredOf}
 
--- The record that comes with an accepted set-up, start, take or restore, whatever was lent. What is lent has its type: a party has levelCount levels,
+-- The record that comes with an accepted set-up, start, start by count, take or restore, whatever was lent. What is lent has its type: a party has levelCount levels,
 -- and bytes are below 256.
 pub data Given : Party → Type 0 where
   -- a party that has not started
@@ -21,6 +22,9 @@ pub data Given : Party → Type 0 where
   start : (p : Party) (input : ℤ) (room used out : ℕ) → length (p .levels) ≡ levelCount
       → calledOf p used (startQuestions p input room used out) .verdict ≡ Verdict.Accepted
       → Given (calledOf p used (startQuestions p input room used out) .party)
+  start-count : (p : Party) (g : ℕ) (count : ℤ) (room used out : ℕ) → length (p .levels) ≡ levelCount
+      → calledOf p used (startCountQuestions p g count room used out) .verdict ≡ Verdict.Accepted
+      → Given (calledOf p used (startCountQuestions p g count room used out) .party)
   take : (p : Party) (sender : ℕ) (bytes : List ℕ) (room used out : ℕ) → length (p .levels) ≡ levelCount → AllBytes bytes
       → calledOf p used (takeQuestions p sender bytes room used out) .verdict ≡ Verdict.Accepted
       → Given (calledOf p used (takeQuestions p sender bytes room used out) .party)

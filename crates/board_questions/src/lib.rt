@@ -14,7 +14,7 @@ pub enum Asked {
 
 // "Every call on a party: .. 19. Start, take, restore: Has the outgoing buffer 2,640 bytes (15 × 22 × 8)? 18. Start, take: Is the used length within the lent
 // journal? 20.": the number of the first that fails, or 0. Whether 19 passes was found before.
-fn at_door(valid: bool, room: usize, used: usize, out: usize) -> u8
+pub fn at_door(valid: bool, room: usize, used: usize, out: usize) -> u8
     ensures { λ r. ⌜ AtDoor valid room used out r ⌝ }
 {
     if !valid {
