@@ -34,11 +34,13 @@ use Rattle.party_laws.proofs.Laws.{SameBoard}
 use Rattle.party_life.specs.Life.{Fits}
 use Rattle.party_life.proofs.Fits.{fitting-start, fitting-taken}
 use Rattle.board_calls.specs.Answers.{positionOf}
-use Rattle.board_calls.specs.Calls.{Entry, again, fresh}
+use Rattle.board_calls.specs.Calls.{Entry, again, fresh, startQuestions}
 use Rattle.board_laws.proofs.Questions.{start-fits, take-held, take-fits}
+use Rattle.board_laws.proofs.Counts.{count-is-start}
 use Rattle.vote_machine.specs.Machine.{Sent}
-use Rattle.agreement.specs.History.{Instance, Lent, start, take-message, startFinds, takeFinds, restoreFinds, calls, hands, History, running, boardAfter}
+use Rattle.agreement.specs.History.{Instance, Lent, StartInput, plain, by-count, votedInput, start, take-message, startFinds, takeFinds, restoreFinds, calls, hands, History, running, boardAfter}
 use Rattle.agreement.specs.Allowed.{Sound, Handed, Continues, Lendable, Allowed}
+use Rattle.agreement.specs.Starts.{Startable}
 use Rattle.agreement.specs.Demand.{Started, Took, HandedSince, StartedWith, Shared}
 use Rattle.agreement.specs.Inner.{recordsOf}
 use Rattle.agreement.proofs.Restored.{lendable-begins, livedReplay, restored-cut}
@@ -99,20 +101,32 @@ module _ (v : Instance) (plan : Plan) (bad : Set) (f : Shared v plan) where
               (subst (λ (y : Plan). y .count ≤ maxWidth + 1) (sym (same .plan)) (shape plan (plan-valid v plan f i k) .most)) r g),
         )
 
-    -- a board that has not started can start with any input that stands for a position of the plan
-    pub start-accepted : (z : ℤ) → (positionOf plan z ≡ noOutput → ⊥) → ((x : ℕ) (y : ℤ) → Started h i x y → ⊥)
-        → (r : Record) × (ran : Ran) × (startFinds p z lent used ≡ found (fresh r ran))
-    start-accepted z on new = (
+    -- such an input votes on a position of the plan, and is asked what that is
+    on-plan : (input : StartInput) → Startable plan input → positionOf plan (votedInput input) ≡ noOutput → ⊥
+    on-plan (plain z) on = on
+    on-plan (by-count g x) (s, r, on) = on
+
+    asks : (input : StartInput) → Startable plan input → startFinds p input lent used ≡ startQuestions p (votedInput input) (length (lent .journal)) used (lent .out)
+    asks (plain z) on = refl
+    asks (by-count g x) (s, r, on) = count-is-start p g x (length (lent .journal)) used (lent .out) s (ap (λ (y : Plan). y .kind) (same .plan) ∙ r)
+
+    -- a board that has not started can start with any such input
+    pub start-accepted : (input : StartInput) → Startable plan input → ((x : ℕ) (y : ℤ) → Started h i x y → ⊥)
+        → (r : Record) × (ran : Ran) × (startFinds p input lent used ≡ found (fresh r ran))
+    start-accepted input on new = (
       Start (p .agreement) x,
       starting p x,
-      start-fits p z (length (lent .journal)) used (lent .out) valid long (omega arith) fresh-party x refl placed (has-room (Start (p .agreement) x) (fitting-start p (p .agreement) x (refl, unstarted, below (input-placed (p .plan) z)))),
+      asks input on ∙ start-fits p z (length (lent .journal)) used (lent .out) valid long (omega arith) fresh-party x refl placed (has-room (Start (p .agreement) x) (fitting-start p (p .agreement) x (refl, unstarted, below (input-placed (p .plan) z)))),
     )
       where
+        z : ℤ
+        z = votedInput input
+
         x : ℕ
         x = positionOf (p .plan) z
 
         placed : x ≡ noOutput → ⊥
-        placed = subst (λ (y : Plan). positionOf y z ≡ noOutput → ⊥) (sym (same .plan)) on
+        placed = subst (λ (y : Plan). positionOf y z ≡ noOutput → ⊥) (sym (same .plan)) (on-plan input on)
 
         unstarted : T (started p) → ⊥
         unstarted g =
@@ -155,14 +169,14 @@ module _ (v : Instance) (plan : Plan) (bad : Set) (f : Shared v plan) where
 
   module _ (h : History) (a : Allowed v bad h) (i : ℕ) (o : Sound v bad i) where
     module _ (p : Party) (lent : Lent) (used : ℕ) (c : Continues (boardAfter h i) p lent used) (room : used + recordMost ≤ length (lent .journal)) (long : outgoingSize ≤ lent .out) where
-      -- "If every sound board has started": one that has not can, with any input on the plan
-      pub can-start : (z : ℤ) → (positionOf plan z ≡ noOutput → ⊥) → ((x : ℕ) (y : ℤ) → Started h i x y → ⊥) →
-          let s = calls i (start p z lent used) in
-          Allowed v bad (s ∷ h) × StartedWith plan (s ∷ h) i (positionOf plan z) z
-      can-start z on new =
-          let x = start-accepted h a i (o .0) p lent used c room long z on new in
-          let y : Allowed v bad (calls i (start p z lent used) ∷ h) = ((o, inr c), a) in
-          (y, start-counts v plan bad f h i p lent used z y (fresh (x .0) (x .1)) (x .2))
+      -- "If every sound board has started": one that has not can, with any input on the plan, and with any count on a range
+      pub can-start : (input : StartInput) → Startable plan input → ((x : ℕ) (y : ℤ) → Started h i x y → ⊥) →
+          let s = calls i (start p input lent used) in
+          Allowed v bad (s ∷ h) × StartedWith plan (s ∷ h) i (positionOf plan (votedInput input)) (votedInput input)
+      can-start input on new =
+          let x = start-accepted h a i (o .0) p lent used c room long input on new in
+          let y : Allowed v bad (calls i (start p input lent used) ∷ h) = ((o, inr c), a) in
+          (y, start-counts v plan bad f h i p lent used input y (fresh (x .0) (x .1)) (x .2))
 
       -- "and has taken every message that sound boards handed over": one that was handed over can be taken
       pub can-take : (j : ℕ) (bytes : List ℕ) → Handed j bytes h →

@@ -1,7 +1,7 @@
 -- What a sound board answers, has started with, has taken and has made, by the state that its log gives.
 use mathlib.Core.Path.{_≡_, refl, sym, ap, _∙_, subst, subst₂}
-use mathlib.Core.Logic.{_⊎_, inl, inr, _↔_}
-use mathlib.Core.List.{List, [], _∷_, List·Memᴰ, List·Memᴰ·cases-cons, List·Memᴰ·not-nil}
+use mathlib.Core.Logic.{_↔_}
+use mathlib.Core.List.{List, [], List·Memᴰ}
 use Prim.Native.Nat.{ℕ, _<_}
 use native.Mathlib.Omega.{arith}
 use lib.Dec.{T}
@@ -23,36 +23,31 @@ use Rattle.journal.specs.declared.Record.the-variants.{Start, Taken}
 use Rattle.journal.proofs.Records.{holds-records}
 use Rattle.party.specs.Party.{Party, newParty, levelAt, started, outputOf}
 use Rattle.party.specs.Valid.{partyValid}
-use Rattle.party_laws.proofs.Laws.{SameBoard, Output, Formed, level-holds, output-stays}
+use Rattle.party_laws.proofs.Laws.{SameBoard, Formed}
 use Rattle.party_laws.proofs.Calls.{new-level}
 use Rattle.party_life.specs.Life.{lived, madeAlong}
 use Rattle.board_calls.specs.declared.Answer.{Answer}
 use Rattle.board_calls.specs.Answers.{answerOf}
 use Rattle.board_calls.specs.Calls.{answeredOf, noParty}
 use Rattle.board_calls.specs.Restore.{Replay, restoredOf}
-use Rattle.execution.specs.Machine.{Event, Machine}
+use Rattle.board_laws.proofs.Counts.{answered-valid}
+use Rattle.execution.specs.Machine.{Machine}
 use Rattle.execution.specs.History as logs
-use Rattle.execution.specs.History.{HStep, log, held}
-use Rattle.execution.specs.Inner.{Seen}
-use Rattle.execution.proofs.Logs.{still}
+use Rattle.execution.specs.History.{log, held}
 use Rattle.vote_machine.specs.Machine.{Heard, Sent, voteMachine}
 use Rattle.vote_machine.specs.Inner.{Inv}
-use Rattle.vote_machine.proofs.Laws.{inv-new, inv-lived, inv-called, le-called, le-lived, made-sent, taken-heard, start-entered, start-lived}
-use Rattle.agreement.specs.History.{Instance, read-answer, Step, calls, whose, History, Stage, waiting, running, down, boardAfter}
-use Rattle.agreement.specs.Allowed.{Refuses, Accepts, May, Allowed}
-use Rattle.agreement.specs.Demand.{partyBy, answerNow, Answers, Stands, Shared}
+use Rattle.vote_machine.proofs.Laws.{inv-new, inv-lived, le-lived, made-sent, taken-heard, start-entered, start-lived}
+use Rattle.agreement.specs.History.{Instance, History, Stage, waiting, running, down, boardAfter}
+use Rattle.agreement.specs.Allowed.{Allowed}
+use Rattle.agreement.specs.Demand.{partyBy, answerNow, Shared}
 use Rattle.agreement.specs.Inner.{recordsOf, StartRecorded, TakeRecorded, RecordsMade}
 use Rattle.agreement.proofs.Restored.{holds-begins, restored-cut}
-use Rattle.agreement.proofs.Told.{machineOf, Tale, nothing, acts, gives, marks, cuts, answerTale, taleOf, added, told}
+use Rattle.agreement.proofs.Told.{machineOf, told}
 use Rattle.agreement.proofs.Tied.{newBoard, Running, AtStage, Tied, plan-valid, settings-pass, board-regular}
 use Rattle.agreement.proofs.Keeps.{tied-read}
-use Rattle.agreement.proofs.Histories.{refused-answer, state-lived, tied, told-valid}
+use Rattle.agreement.proofs.Histories.{state-lived, tied}
 
 -- ---- answers
-
-pub answered-valid : (p : Party) → T (partyValid p) → answeredOf p .answer ≡ answerOf (p .plan) (outputOf p)
-unfolding answeredOf
-answered-valid p h = rw (T→true (partyValid p) h)
 
 pub answered-none : answeredOf noParty .answer ≡ Answer.None
 unfolding answeredOf partyValid
@@ -123,7 +118,7 @@ module _ (v : Instance) (plan : Plan) (bad : Set) (f : Shared v plan) where
     state-plan = state-board .plan
 
     -- a party that it is
-    state-answer : (q : Party) → q ≡ stateOf v plan h i → answeredOf q .answer ≡ answerOf plan (outputOf (stateOf v plan h i))
+    pub state-answer : (q : Party) → q ≡ stateOf v plan h i → answeredOf q .answer ≡ answerOf plan (outputOf (stateOf v plan h i))
     state-answer q e =
         ap (λ (y : Party). answeredOf y .answer) e
         ∙ answered-valid (stateOf v plan h i) (state-formed .valid)
@@ -179,63 +174,3 @@ module _ (v : Instance) (plan : Plan) (bad : Set) (f : Shared v plan) where
     pub sent-read : (m : Message) → Sent (stateOf v plan h i) m → exactMessage (messageBytes m) ≡ Exactly.One m
     sent-read m s =
         tied-read v plan f i k (boardAfter h i) (log M i (told v plan h)) (held M i (told v plan h)) w m (subst (λ (q : Party). Sent q m) state-records s)
-
-  -- ---- answers read earlier
-
-  -- a state that answers z
-  abbrev Says : ℤ → Party → Type 0
-  Says z s = Inv s × (answerOf plan (outputOf s) ≡ Answer.At z)
-
-  -- an output never changes
-  says-rises : (z : ℤ) (s : Party) (e : Event Message ℕ) → Says z s → Says z (machineOf v plan .run s e)
-  says-rises z s e (r, x) =
-      let o = output-stays s (M .run s e) (le-called s (r .regular) e .grown) 0 (answer-reading plan (outputOf s) z x .0) in
-      (inv-called s r e, ap (answerOf plan) o ∙ x)
-
-  later-seen : (j : ℕ) (t : Tale) (H : List (HStep (machineOf v plan))) (i : ℕ) (P : Party → Type 0) → Seen (machineOf v plan) i P H → Seen (machineOf v plan) i P (added v plan j t H)
-  later-seen j nothing H i P x = x
-  later-seen j (acts e) H i P x = x
-  later-seen j (gives m) H i P x = inr x
-  later-seen j marks H i P x = inr x
-  later-seen j (cuts k) H i P x = x
-
-  -- a reading is a mark of a state with that answer
-  pub read-seen : (h : History) → Allowed v bad h → (i : ℕ) → i < v .n → (q : Party) (z : ℤ) → List·Memᴰ (calls i (read-answer q)) h → answeredOf q .answer ≡ Answer.At z
-      → Seen (machineOf v plan) i (λ s. Inv s × (answerOf plan (outputOf s) ≡ Answer.At z)) (told v plan h)
-  unfolding told
-  read-seen [] a i k q z x e = absurd (List·Memᴰ·not-nil x)
-  read-seen (s ∷ h) (m, a) i k q z x e = go (List·Memᴰ·cases-cons x) (λ y. read-seen h a i k q z y e)
-    where
-      answer : Refuses (read-answer q) ⊎ Accepts v bad i h (boardAfter h i) (read-answer q) → Says z (stateOf v plan h i)
-      answer (inl r) = let y : Answer.None ≡ Answer.At z = sym (refused-answer q (r .0) (r .1 .0) (r .1 .1)) ∙ e in let o : _≡_ {A = ℕ} 0 1 = cc in absurd (omega arith)
-      answer (inr (up, same)) = (state-inv h a i k, sym (state-answer h a i k q (same ∙ running-state h a i k up)) ∙ e)
-
-      first : May v bad (calls i (read-answer q)) h → Seen M i (Says z) (added v plan i (answerTale (answeredOf q .answer)) (told v plan h))
-      first n = subst (λ (y : Answer). Seen M i (Says z) (added v plan i (answerTale y) (told v plan h))) (sym e) (inl (refl, answer (n .1)))
-
-      go : (calls i (read-answer q) ≡ s) ⊎ List·Memᴰ (calls i (read-answer q)) h → (List·Memᴰ (calls i (read-answer q)) h → Seen M i (Says z) (told v plan h))
-          → Seen M i (Says z) (added v plan (whose s) (taleOf (boardAfter h (whose s)) s) (told v plan h))
-      go (inl y) ih = subst (λ (y : Step). May v bad y h → Seen M i (Says z) (added v plan (whose y) (taleOf (boardAfter h (whose y)) y) (told v plan h))) y first m
-      go (inr y) ih = later-seen (whose s) (taleOf (boardAfter h (whose s)) s) (told v plan h) i (Says z) (ih y)
-
-  module _ (h : History) (a : Allowed v bad h) where
-    -- an answer, held then or read earlier, is that of the board's state
-    pub answers-state : (i : ℕ) → i < v .n → (z : ℤ) → Answers v h i z → answerOf plan (outputOf (stateOf v plan h i)) ≡ Answer.At z
-    answers-state i k z (inl e) = sym (answer-now h a i k) ∙ e
-    answers-state i k z (inr (q, x, e)) =
-        still M (Says z) (says-rises z) (v .n) bad (told v plan h) (told-valid v plan bad f h a) i (read-seen h a i k q z x e) .1
-
-    -- so it stands for the output
-    pub answers-stand : (i : ℕ) → i < v .n → (z : ℤ) → Answers v h i z
-        → (outputOf (stateOf v plan h i) ≡ noOutput → ⊥) × Stands plan (outputOf (stateOf v plan h i)) z
-    answers-stand i k z x =
-        let r = answer-reading plan (outputOf (stateOf v plan h i)) z (answers-state i k z x) in
-        (r .0, (low (level-holds (stateOf v plan h i) (state-formed h a i k) 0 (omega arith) .output) (r .0), r .1))
-      where
-        low : Output (stateOf v plan h i .plan .count) (outputOf (stateOf v plan h i)) → (outputOf (stateOf v plan h i) ≡ noOutput → ⊥) → outputOf (stateOf v plan h i) < plan .count
-        low (inl e) d = absurd (d e)
-        low (inr l) d = subst (λ (y : Plan). outputOf (stateOf v plan h i) < y .count) (state-plan h a i k) l
-
-    -- a board with an output has an answer
-    pub output-answers : (i : ℕ) → i < v .n → (outputOf (stateOf v plan h i) ≡ noOutput → ⊥) → (z : ℤ) × (answerNow v h i ≡ Answer.At z)
-    output-answers i k d = (readingOf plan (outputOf (stateOf v plan h i)), answer-now h a i k ∙ answer-at plan (outputOf (stateOf v plan h i)) d)

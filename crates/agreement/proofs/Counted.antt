@@ -7,7 +7,6 @@ use Prim.Native.Nat.{ℕ, zero, suc, _≤_}
 use native.Mathlib.Omega.{arith}
 use borrow.Author.Tests.{leb-true, leb-false}
 use lib.Dec.{T, leb}
-use lib.IntN.{ℤ}
 use lib.ListN.{length, drop}
 use Rattle.base.specs.Pick.{pick}
 use Rattle.plan.specs.Plan.{Plan}
@@ -21,11 +20,11 @@ use Rattle.journal.proofs.Records.{journal-length}
 use Rattle.party.specs.Party.{Party}
 use Rattle.party_life.specs.Life.{replayed, lived, madeAlong}
 use Rattle.board_calls.specs.Answers.{positionOf}
-use Rattle.agreement.specs.History.{Act, a-start, a-take, Counted, keptCalls}
+use Rattle.agreement.specs.History.{StartInput, votedInput, Act, a-start, a-take, Counted, keptCalls}
 
 -- the record of a call
 abbrev pub Says : Plan → Act → Record → Type 0
-Says plan (a-start x z) r = (a : ℕ) × (Start a x ≡ r) × (positionOf plan z ≡ x) × (x ≡ noOutput → ⊥)
+Says plan (a-start x input) r = (a : ℕ) × (Start a x ≡ r) × (positionOf plan (votedInput input) ≡ x) × (x ≡ noOutput → ⊥)
 Says plan (a-take s e) r = (m : Message) × (e ≡ Exactly.One m) × (Taken s m ≡ r)
 
 -- the call wrote the newest of the records rs, where `older` were there before, from the party p on
@@ -166,15 +165,15 @@ module _ (plan : Plan) (p : Party) where
   isStart (Taken s m) = false
 
   -- a record of a start is a start's
-  pub says-start : (a : Act) (b x : ℕ) → Says plan a (Start b x) → (z : ℤ) × (a ≡ a-start x z) × (positionOf plan z ≡ x) × (x ≡ noOutput → ⊥)
-  says-start (a-start y z) b x (c, e, at, on) =
+  pub says-start : (a : Act) (b x : ℕ) → Says plan a (Start b x) → (input : StartInput) × (a ≡ a-start x input) × (positionOf plan (votedInput input) ≡ x) × (x ≡ noOutput → ⊥)
+  says-start (a-start y input) b x (c, e, at, on) =
       let i : y ≡ x = cc in
-      (z, ap (λ (k : ℕ). a-start k z) i, at ∙ i, λ n. on (i ∙ n))
+      (input, ap (λ (k : ℕ). a-start k input) i, at ∙ i, λ n. on (i ∙ n))
   says-start (a-take s e) b x (m, i, j) = absurd (subst (λ (r : Record). T (not (isStart r))) j tt)
 
   -- a record of a message taken is that take's
   pub says-take : (a : Act) (s : ℕ) (m : Message) → Says plan a (Taken s m) → a ≡ a-take s (Exactly.One m)
-  says-take (a-start y z) s m (c, e, at, on) = absurd (subst (λ (r : Record). T (isStart r)) e tt)
+  says-take (a-start y input) s m (c, e, at, on) = absurd (subst (λ (r : Record). T (isStart r)) e tt)
   says-take (a-take t e) s m (n, i, j) =
       let k : t ≡ s = cc in
       let l : n ≡ m = cc in

@@ -31,6 +31,8 @@ use Rattle.party_life.specs.Life.{replayed, Fits}
 use Rattle.party_life.proofs.Fits.{fits-start, fitting-start, fits-taken, fitting-taken}
 use Rattle.board_calls.specs.Answers.{onPlan, rangePosition, positionOf}
 use Rattle.board_calls.specs.Calls.{Entry, again, fresh, atDoor, fitting, startQuestions, takeMessage, takeQuestions}
+use Rattle.board_laws.proofs.Counts.{count-start}
+use Rattle.agreement.specs.History.{Lent, StartInput, plain, by-count, votedInput, startFinds}
 
 -- ---- inputs
 
@@ -88,14 +90,14 @@ pub record Recorded (p : Party) (room used : ℕ) (r : Record) (ran : Ran) : Typ
   pub inside : used + length (recordBytes r) ≤ room
   pub does : replayed p r ≡ ran
 
--- an accepted start records the position of its input
-pub start-recorded : (p : Party) (input : ℤ) (room used out : ℕ) (r : Record) (ran : Ran) → startQuestions p input room used out ≡ found (fresh r ran)
-    → (Start (p .agreement) (positionOf (p .plan) input) ≡ r) × (positionOf (p .plan) input ≡ noOutput → ⊥) × Recorded p room used r ran
+-- an accepted start of a vertex or reading records its position
+position-recorded : (p : Party) (z : ℤ) (room used out : ℕ) (r : Record) (ran : Ran) → startQuestions p z room used out ≡ found (fresh r ran)
+    → (Start (p .agreement) (positionOf (p .plan) z) ≡ r) × (positionOf (p .plan) z ≡ noOutput → ⊥) × Recorded p room used r ran
 unfolding startQuestions replayed
-start-recorded p input room used out r ran e = go (input-placed (p .plan) input)
+position-recorded p z room used out r ran e = go (input-placed (p .plan) z)
   where
     x : ℕ
-    x = positionOf (p .plan) input
+    x = positionOf (p .plan) z
 
     last : Found Entry
     last = fitting room used (Start (p .agreement) x) (starting p x)
@@ -107,20 +109,33 @@ start-recorded p input room used out r ran e = go (input-placed (p .plan) input)
     twelve = asked (not (eqb x noOutput)) 12 0 last (fresh r ran) (thirteen .1)
 
     on : x ≡ noOutput → ⊥
-    on z = T-not (eqb x noOutput) (twelve .0) (subst (λ (y : ℕ). T (eqb x y)) z (eqb-refl x))
+    on n = T-not (eqb x noOutput) (twelve .0) (subst (λ (y : ℕ). T (eqb x y)) n (eqb-refl x))
 
     go : (x ≡ noOutput) ⊎ (x < p .plan .count) → (Start (p .agreement) x ≡ r) × (x ≡ noOutput → ⊥) × Recorded p room used r ran
-    go (inl z) = absurd (on z)
+    go (inl n) = absurd (on n)
     go (inr h) =
         let f = fitted room used (Start (p .agreement) x) r (starting p x) ran (twelve .1) in
         (f .1, on, subst (λ (q : Record). Recorded p room used q ran) (f .1) (record { fits = fitting-start p (p .agreement) x (refl, T-not (started p) (thirteen .0), h); inside = f .0; does = f .2 }))
 
+-- what is accepted of a count is accepted of its nearest step
+pub voted-start : (p : Party) (input : StartInput) (lent : Lent) (used : ℕ) (x : Entry) → startFinds p input lent used ≡ found x
+    → startQuestions p (votedInput input) (length (lent .journal)) used (lent .out) ≡ found x
+voted-start p (plain z) lent used x e = e
+voted-start p (by-count g c) lent used x e = count-start p g c (length (lent .journal)) used (lent .out) e .2
+
+-- an accepted start records the position of what is voted on
+pub start-recorded : (p : Party) (input : StartInput) (lent : Lent) (used : ℕ) (r : Record) (ran : Ran) → startFinds p input lent used ≡ found (fresh r ran) →
+    let x = positionOf (p .plan) (votedInput input) in
+    (Start (p .agreement) x ≡ r) × (x ≡ noOutput → ⊥) × Recorded p (length (lent .journal)) used r ran
+start-recorded p input lent used r ran e =
+    position-recorded p (votedInput input) (length (lent .journal)) used (lent .out) r ran (voted-start p input lent used (fresh r ran) e)
+
 -- at position x, so the call finds the record of a start at x and what that does
-pub start-at : (p : Party) (input : ℤ) (room used out x : ℕ) (r : Record) (ran : Ran) → startQuestions p input room used out ≡ found (fresh r ran)
-    → positionOf (p .plan) input ≡ x → startQuestions p input room used out ≡ found (fresh (Start (p .agreement) x) (starting p x))
+pub start-at : (p : Party) (input : StartInput) (lent : Lent) (used x : ℕ) (r : Record) (ran : Ran) → startFinds p input lent used ≡ found (fresh r ran)
+    → positionOf (p .plan) (votedInput input) ≡ x → startFinds p input lent used ≡ found (fresh (Start (p .agreement) x) (starting p x))
 unfolding replayed
-start-at p input room used out x r ran e at =
-    let g = start-recorded p input room used out r ran e in
+start-at p input lent used x r ran e at =
+    let g = start-recorded p input lent used r ran e in
     let s : r ≡ Start (p .agreement) x = sym (g .0) ∙ ap (Start (p .agreement)) at in
     let does : ran ≡ starting p x = sym (g .2 .does) ∙ ap (replayed p) s in
     e ∙ (λ z. found (fresh (s z) (does z)))

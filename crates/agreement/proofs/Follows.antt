@@ -36,11 +36,11 @@ use Rattle.board_calls.specs.Answers.{positionOf}
 use Rattle.board_calls.specs.Calls.{Entry, again, fresh, fitting, setUpOf, startQuestions, takeMessage, takeQuestions, answeredOf}
 use Rattle.board_calls.specs.Restore.{Replay}
 use Rattle.vote_machine.specs.Machine.{Heard}
-use Rattle.agreement.specs.History.{Instance, Lent, Call, set-up, start, take-message, read-answer, restore, startFinds, takeFinds, restoreFinds, Step, calls, hands, cut, whose, History, Stage, waiting, running, down, a-start, a-take, Counted, Board, afterSetUp, afterAnswer, afterRestore, cutOff, afterCut, boardAfter}
+use Rattle.agreement.specs.History.{Instance, Lent, StartInput, votedInput, Call, set-up, start, take-message, read-answer, read-count, restore, startFinds, takeFinds, restoreFinds, readAsCount, Step, calls, hands, cut, whose, History, Stage, waiting, running, down, a-start, a-take, Counted, Board, afterSetUp, afterAnswer, afterRestore, cutOff, afterCut, boardAfter}
 use Rattle.agreement.specs.Allowed.{Refuses, Continues, Accepts, Allowed}
 use Rattle.agreement.specs.Demand.{Shared}
 use Rattle.agreement.specs.Inner.{recordsOf}
-use Rattle.agreement.proofs.Entries.{past-door, Recorded, start-recorded, take-recorded, exact-table}
+use Rattle.agreement.proofs.Entries.{past-door, Recorded, voted-start, start-recorded, take-recorded, exact-table}
 use Rattle.agreement.proofs.Lent.{entered}
 use Rattle.agreement.proofs.Tied.{newBoard, Running, AtStage}
 use Rattle.agreement.proofs.Histories.{TiedAfter, tied}
@@ -58,9 +58,9 @@ fitting-fresh room used r ran e =
     let o : _≡_ {A = ℕ} 0 1 = cc in omega arith
 
 -- an accepted start has one
-start-fresh : (p : Party) (z : ℤ) (room used out : ℕ) → startQuestions p z room used out ≡ found again → ⊥
+position-fresh : (p : Party) (z : ℤ) (room used out : ℕ) → startQuestions p z room used out ≡ found again → ⊥
 unfolding startQuestions
-start-fresh p z room used out e = fitting-fresh room used (Start (p .agreement) x) (starting p x) (twelve .1)
+position-fresh p z room used out e = fitting-fresh room used (Start (p .agreement) x) (starting p x) (twelve .1)
   where
     x : ℕ
     x = positionOf (p .plan) z
@@ -73,6 +73,9 @@ start-fresh p z room used out e = fitting-fresh room used (Start (p .agreement) 
 
     twelve : T (not (eqb x noOutput)) × (last ≡ found again)
     twelve = asked (not (eqb x noOutput)) 12 0 last again (thirteen .1)
+
+start-fresh : (p : Party) (input : StartInput) (lent : Lent) (used : ℕ) → startFinds p input lent used ≡ found again → ⊥
+start-fresh p input lent used e = position-fresh p (votedInput input) (length (lent .journal)) used (lent .out) (voted-start p input lent used again e)
 
 -- a take without one read a message that was heard before
 held-heard : (p : Party) (s : ℕ) (bytes : List ℕ) (room used out : ℕ) → takeQuestions p s bytes room used out ≡ found again
@@ -161,21 +164,21 @@ module _ (v : Instance) (plan : Plan) (bad : Set) (f : Shared v plan) where
     by-call : (c : Call) → Allowed v bad (calls i c ∷ h) → Accepts v bad i h (boardAfter h i) c → FollowsIn i (boardAfter (calls i c ∷ h) i)
     by-call (set-up n t o g bytes) al x =
         subst (FollowsIn i) (sym (own (calls i (set-up n t o g bytes)) h)) (by-set-up (setUpOf n t o g bytes .verdict) (setUpOf n t o g bytes .party))
-    by-call (start p z lent used) al c = go (startFinds p z lent used) refl
+    by-call (start p input lent used) al c = go (startFinds p input lent used) refl
       where
-        board : (q : Found Entry) → startFinds p z lent used ≡ q → boardAfter (calls i (start p z lent used) ∷ h) i ≡ entered (boardAfter h i) (a-start (positionOf (p .plan) z) z) q
-        board q e = start-board v plan bad f h i p lent used z c ∙ ap (entered (boardAfter h i) (a-start (positionOf (p .plan) z) z)) e
+        board : (q : Found Entry) → startFinds p input lent used ≡ q → boardAfter (calls i (start p input lent used) ∷ h) i ≡ entered (boardAfter h i) (a-start (positionOf (p .plan) (votedInput input)) input) q
+        board q e = start-board v plan bad f h i p lent used input c ∙ ap (entered (boardAfter h i) (a-start (positionOf (p .plan) (votedInput input)) input)) e
 
-        go : (q : Found Entry) → startFinds p z lent used ≡ q → FollowsIn i (boardAfter (calls i (start p z lent used) ∷ h) i)
-        go (found again) e = absurd (start-fresh p z (length (lent .journal)) used (lent .out) e)
+        go : (q : Found Entry) → startFinds p input lent used ≡ q → FollowsIn i (boardAfter (calls i (start p input lent used) ∷ h) i)
+        go (found again) e = absurd (start-fresh p input lent used e)
         go (refused number place) e = subst (FollowsIn i) (sym (board (refused number place) e)) ih
         go (found (fresh r ran)) e =
-            let g = start-recorded p z (length (lent .journal)) used (lent .out) r ran e in
-            let at : positionOf plan z ≡ positionOf (p .plan) z = ap (λ (y : Plan). positionOf y z) (sym (same-plan p lent used c)) in
-            subst (λ (cs : List Counted). Follows plan (newBoard v plan i) cs (recordsOf (calls i (start p z lent used) ∷ h) i))
+            let g = start-recorded p input lent used r ran e in
+            let at : positionOf plan (votedInput input) ≡ positionOf (p .plan) (votedInput input) = ap (λ (y : Plan). positionOf y (votedInput input)) (sym (same-plan p lent used c)) in
+            subst (λ (cs : List Counted). Follows plan (newBoard v plan i) cs (recordsOf (calls i (start p input lent used) ∷ h) i))
             (ap (λ (y : Board). y .counted) (sym (board (found (fresh r ran)) e)))
-            (by-fresh p lent used c (record { act = a-start (positionOf (p .plan) z) z; made = ran .made; used = length (b .journal) + length (recordBytes r) }) r ran (g .2)
-            (p .agreement, g .0, at, g .1) refl refl (recordsOf (calls i (start p z lent used) ∷ h) i) (start-newest v plan bad f h i p lent used z al r ran e))
+            (by-fresh p lent used c (record { act = a-start (positionOf (p .plan) (votedInput input)) input; made = ran .made; used = length (b .journal) + length (recordBytes r) }) r ran (g .2)
+            (p .agreement, g .0, at, g .1) refl refl (recordsOf (calls i (start p input lent used) ∷ h) i) (start-newest v plan bad f h i p lent used input al r ran e))
     by-call (take-message p s bytes lent used) al (c, from) = go (takeFinds p s bytes lent used) refl
       where
         board : (q : Found Entry) → takeFinds p s bytes lent used ≡ q → boardAfter (calls i (take-message p s bytes lent used) ∷ h) i ≡ entered (boardAfter h i) (a-take s (exactMessage bytes)) q
@@ -206,6 +209,7 @@ module _ (v : Instance) (plan : Plan) (bad : Set) (f : Shared v plan) where
             (by-fresh p lent used c (record { act = a-take s (exactMessage bytes); made = ran .made; used = length (b .journal) + length (recordBytes r) }) r ran (g .3)
             (g .0, g .1, g .2) refl refl (recordsOf (calls i (take-message p s bytes lent used) ∷ h) i) (take-newest v plan bad f h i p lent used s bytes al r ran e))
     by-call (read-answer p) al x = subst (FollowsIn i) (sym (own (calls i (read-answer p)) h)) (by-answer (answeredOf p .answer))
+    by-call (read-count p g c) al x = subst (FollowsIn i) (sym (own (calls i (read-count p g c)) h)) (by-answer (readAsCount p g c .answer))
     by-call (restore n t o g bytes lent) al x =
         subst₂ (Follows plan (newBoard v plan i))
         (sym (ap (λ (y : Board). y .counted) (own (calls i (restore n t o g bytes lent)) h) ∙ restored-counted lent (restoreFinds n t o g bytes lent)))

@@ -27,13 +27,14 @@ use Rattle.board_calls.specs.declared.Answered.{Answered}
 use Rattle.board_calls.specs.Answers.{positionOf, answerOf}
 use Rattle.board_calls.specs.Calls.{SetUp, Entry, again, fresh, setUpOf, answeredOf}
 use Rattle.board_calls.specs.Restore.{Replay}
+use Rattle.board_laws.proofs.Counts.{count-refused}
 use Rattle.execution.specs.Machine.{Event, Machine}
 use Rattle.execution.specs.History as logs
 use Rattle.execution.specs.History.{HStep, log, held, FairH}
 use Rattle.execution.specs.Inner.{ValidH}
 use Rattle.vote_machine.specs.Machine.{Sent, voteMachine, eventOf}
 use Rattle.vote_machine.proofs.Laws.{after-lived}
-use Rattle.agreement.specs.History.{Instance, Lent, Call, set-up, start, take-message, read-answer, restore, startFinds, takeFinds, restoreFinds, Step, calls, hands, cut, whose, History, Stage, waiting, running, down, Act, a-start, a-take, Board, afterSetUp, afterEntry, afterAnswer, afterRestore, afterCall, afterCut, afterOwn, boardAfter}
+use Rattle.agreement.specs.History.{Instance, Lent, votedInput, Call, set-up, start, take-message, read-answer, read-count, restore, startFinds, takeFinds, restoreFinds, readAsCount, Step, calls, hands, cut, whose, History, Stage, waiting, running, down, Act, a-start, a-take, Board, afterSetUp, afterEntry, afterAnswer, afterRestore, afterCall, afterCut, afterOwn, boardAfter}
 use Rattle.agreement.specs.Allowed.{Refuses, Accepts, May, Allowed}
 use Rattle.agreement.specs.Demand.{Shared}
 use Rattle.agreement.proofs.Restored.{Begins, lendable-begins, livedReplay, restored-found}
@@ -133,26 +134,14 @@ module _ (v : Instance) (plan : Plan) (bad : Set) (f : Shared v plan) where
     abbrev H : List (HStep (machineOf v plan))
     H = told v plan h
 
-    -- a refused call changes nothing
-    by-refusal : (c : Call) → Refuses c → Goes i (afterCall (boardAfter h i) c) (callTale c) (told v plan h)
-    by-refusal (set-up n t a g bytes) e =
-        subst (λ (y : Verdict). Goes i (afterSetUp b y (setUpOf n t a g bytes .party)) nothing H) (sym (e .1 .1)) (stays i seat b H w)
-    by-refusal (start p input lent used) e =
-        subst (λ (y : Found Entry). Goes i (afterEntry b (a-start (positionOf (p .plan) input) input) p lent used y) (entryTale y) H) (sym (e .1 .1)) (stays i seat b H w)
-    by-refusal (take-message p sender bytes lent used) e =
-        subst (λ (y : Found Entry). Goes i (afterEntry b (a-take sender (exactMessage bytes)) p lent used y) (entryTale y) H) (sym (e .1 .1)) (stays i seat b H w)
-    by-refusal (read-answer p) e =
-        subst (λ (y : Answer). Goes i (afterAnswer b y) (answerTale y) H) (sym (refused-answer p (e .0) (e .1 .0) (e .1 .1))) (stays i seat b H w)
-    by-refusal (restore n t a g bytes lent) e = subst (λ (y : Found Replay). Goes i (afterRestore b lent y) (restoreTale y) H) (sym (e .1 .1)) (stays i seat b H w)
-
     by-call : (c : Call) → Accepts v bad i h (boardAfter h i) c → Goes i (afterCall (boardAfter h i) c) (callTale c) (told v plan h)
     by-call (set-up n t a g bytes) (e, o) =
         by-set-up i seat b H w (setUpOf n t a g bytes) e
         ((λ z. setUpOf (o .boards z) (o .faults z) (o .seat z) (o .number z) (o .bytes z)) ∙ set-up-found v plan f i seat)
     by-call (start p input lent used) c =
         subst (λ (y : Board). Goes i y (callTale (start p input lent used)) H) (sym (start-entered b p lent used c input))
-        (by-entry i seat b H w (a-start (positionOf (p .plan) input) input) (startFinds p input lent used) (length (lent .journal)) used (c .up) (λ r ran e.
-        let x = start-recorded p input (length (lent .journal)) used (lent .out) r ran e in
+        (by-entry i seat b H w (a-start (positionOf (p .plan) (votedInput input)) input) (startFinds p input lent used) (length (lent .journal)) used (c .up) (λ r ran e.
+        let x = start-recorded p input lent used r ran e in
         (subst (λ (q : Party). Recorded q (length (lent .journal)) used r ran) (c .same) (x .2), subst (λ (y : Record). FairH M (v .n) bad (eventOf y) H) (x .0) tt)))
     by-call (take-message p sender bytes lent used) (c, from) =
         subst (λ (y : Board). Goes i y (callTale (take-message p sender bytes lent used)) H) (sym (take-entered b p lent used c sender bytes))
@@ -162,11 +151,26 @@ module _ (v : Instance) (plan : Plan) (bad : Set) (f : Shared v plan) where
           subst (λ (y : Record). FairH M (v .n) bad (eventOf y) H) (x .2) (λ g. handed-told v plan h sender bytes (x .0) (from g) (x .1)),
         )))
     by-call (read-answer p) e = by-answer i seat b H w (answeredOf p .answer) (e .0)
+    by-call (read-count p g c) e = by-answer i seat b H w (readAsCount p g c .answer) (e .0)
     by-call (restore n t a g bytes lent) (e, o, given) =
         let l : Begins (lent .journal) (w .records) = lendable-begins (b .journal) (lent .journal) (w .records) (w .holds) given in
         by-restore i seat b H w lent l (restoreFinds n t a g bytes lent) (λ r x.
         restored-found (v .n) (v .t) i (v .agreement) (v .plan) plan (f .boards) (f .faults) seat (f .reads) (w .records) (w .life) (lent .journal) l (lent .out) r
         (sym (λ z. restoreFinds (o .boards z) (o .faults z) (o .seat z) (o .number z) (o .bytes z) lent) ∙ x))
+
+    -- a refused call changes nothing
+    by-refusal : (c : Call) → Refuses c → Goes i (afterCall (boardAfter h i) c) (callTale c) (told v plan h)
+    by-refusal (set-up n t a g bytes) e =
+        subst (λ (y : Verdict). Goes i (afterSetUp b y (setUpOf n t a g bytes .party)) nothing H) (sym (e .1 .1)) (stays i seat b H w)
+    by-refusal (start p input lent used) e =
+        subst (λ (y : Found Entry). Goes i (afterEntry b (a-start (positionOf (p .plan) (votedInput input)) input) p lent used y) (entryTale y) H) (sym (e .1 .1)) (stays i seat b H w)
+    by-refusal (take-message p sender bytes lent used) e =
+        subst (λ (y : Found Entry). Goes i (afterEntry b (a-take sender (exactMessage bytes)) p lent used y) (entryTale y) H) (sym (e .1 .1)) (stays i seat b H w)
+    by-refusal (read-answer p) e =
+        subst (λ (y : Answer). Goes i (afterAnswer b y) (answerTale y) H) (sym (refused-answer p (e .0) (e .1 .0) (e .1 .1))) (stays i seat b H w)
+    by-refusal (read-count p g c) e =
+        subst (λ (y : Answer). Goes i (afterAnswer b y) (answerTale y) H) (sym (count-refused p g c (e .1 .1))) (stays i seat b H w)
+    by-refusal (restore n t a g bytes lent) e = subst (λ (y : Found Replay). Goes i (afterRestore b lent y) (restoreTale y) H) (sym (e .1 .1)) (stays i seat b H w)
 
   -- ---- steps
 

@@ -30,7 +30,7 @@ use Rattle.execution.specs.Machine as machine
 use Rattle.execution.specs.Machine.{Event}
 use Rattle.execution.specs.History.{log}
 use Rattle.vote_machine.specs.Machine.{eventOf, eventsOf}
-use Rattle.agreement.specs.History.{Instance, Lent, set-up, start, take-message, read-answer, restore, startFinds, takeFinds, restoreFinds, Step, calls, hands, cut, whose, History, Stage, waiting, running, down, boardAfter}
+use Rattle.agreement.specs.History.{Instance, Lent, StartInput, votedInput, set-up, start, take-message, read-answer, read-count, restore, startFinds, takeFinds, restoreFinds, readAsCount, Step, calls, hands, cut, whose, History, Stage, waiting, running, down, boardAfter}
 use Rattle.agreement.specs.Allowed.{Refuses, Accepts, May, Allowed}
 use Rattle.agreement.specs.Demand.{Stands, Shared}
 use Rattle.agreement.specs.Inner.{StartRecorded, AcceptedStart, StartedRecorded}
@@ -101,24 +101,24 @@ module _ (v : Instance) (plan : Plan) (bad : Set) (f : Shared v plan) where
     z,
     e,
     d,
-    record { party = c .party; lent = c .lent; used = c .used; call = List·Memᴰ·tail (c .call); accepted = c .accepted },
+    record { party = c .party; input = c .input; lent = c .lent; used = c .used; call = List·Memᴰ·tail (c .call); accepted = c .accepted; voted = c .voted },
   )
 
   module _ (h : History) (a : Allowed v bad h) (i : ℕ) (k : i < v .n) where
     -- the start is accepted, so its party is the board's
-    by-start : (p : Party) (z : ℤ) (lent : Lent) (used x : ℕ)
-        → Refuses (start p z lent used) ⊎ Accepts v bad i h (boardAfter h i) (start p z lent used)
-        → (q : Found Entry) → startFinds p z lent used ≡ q → entryTale q ≡ acts (machine.start x)
-        → (positionOf plan z ≡ x) × (x ≡ noOutput → ⊥) × (startFinds p z lent used ≡ found (fresh (Start (p .agreement) x) (starting p x)))
-    by-start p z lent used x m (found again) e t = absurd (idle tt t)
-    by-start p z lent used x m (refused number place) e t = absurd (idle tt t)
-    by-start p z lent used x (inl r) (found (fresh c ran)) e t =
+    by-start : (p : Party) (input : StartInput) (lent : Lent) (used x : ℕ)
+        → Refuses (start p input lent used) ⊎ Accepts v bad i h (boardAfter h i) (start p input lent used)
+        → (q : Found Entry) → startFinds p input lent used ≡ q → entryTale q ≡ acts (machine.start x)
+        → (positionOf plan (votedInput input) ≡ x) × (x ≡ noOutput → ⊥) × (startFinds p input lent used ≡ found (fresh (Start (p .agreement) x) (starting p x)))
+    by-start p input lent used x m (found again) e t = absurd (idle tt t)
+    by-start p input lent used x m (refused number place) e t = absurd (idle tt t)
+    by-start p input lent used x (inl r) (found (fresh c ran)) e t =
         let y : found (fresh c ran) ≡ refused (r .0) (r .1 .0) = sym e ∙ r .1 .1 in let o : _≡_ {A = ℕ} 0 1 = cc in absurd (omega arith)
-    by-start p z lent used x (inr c) (found (fresh r ran)) e t =
-        let g = start-recorded p z (length (lent .journal)) used (lent .out) r ran e in
+    by-start p input lent used x (inr c) (found (fresh r ran)) e t =
+        let g = start-recorded p input lent used r ran e in
         let same : p .plan ≡ plan = ap (λ (y : Party). y .plan) (c .same ∙ running-state v plan bad f h a i k (c .up)) ∙ state-plan v plan bad f h a i k in
-        let at : positionOf (p .plan) z ≡ x = ap startAt (ap eventOf (g .0) ∙ ap acted t) in
-        (ap (λ (y : Plan). positionOf y z) (sym same) ∙ at, λ n. g .1 (at ∙ n), start-at p z (length (lent .journal)) used (lent .out) x r ran e at)
+        let at : positionOf (p .plan) (votedInput input) ≡ x = ap startAt (ap eventOf (g .0) ∙ ap acted t) in
+        (ap (λ (y : Plan). positionOf y (votedInput input)) (sym same) ∙ at, λ n. g .1 (at ∙ n), start-at p input lent used x r ran e at)
 
     by-take : (p : Party) (s : ℕ) (bytes : List ℕ) (lent : Lent) (used x : ℕ)
         → (q : Found Entry) → takeFinds p s bytes lent used ≡ q → entryTale q ≡ acts (machine.start x) → ⊥
@@ -151,21 +151,24 @@ module _ (v : Instance) (plan : Plan) (bad : Set) (f : Shared v plan) where
     by-step (cut j left) e m x t = absurd (idle (cut-idle (boardAfter h j .stage) _) t)
     by-step (calls j (set-up n u own g bytes)) e m x t = absurd (idle tt t)
     by-step (calls j (read-answer p)) e m x t = absurd (idle (answer-idle (answeredOf p .answer)) t)
+    by-step (calls j (read-count p g c)) e m x t = absurd (idle (answer-idle (readAsCount p g c .answer)) t)
     by-step (calls j (restore n u own g bytes lent)) e m x t = absurd (idle (restore-idle (restoreFinds n u own g bytes lent)) t)
     by-step (calls j (take-message p s bytes lent used)) e m x t = absurd (by-take p s bytes lent used x (takeFinds p s bytes lent used) refl t)
-    by-step (calls j (start p z lent used)) e m x t =
-        let g = by-start p z lent used x
-        (subst (λ (y : ℕ). Refuses (start p z lent used) ⊎ Accepts v bad y h (boardAfter h y) (start p z lent used)) e (m .1))
-        (startFinds p z lent used) refl t in (
-          z,
+    by-step (calls j (start p input lent used)) e m x t =
+        let g = by-start p input lent used x
+        (subst (λ (y : ℕ). Refuses (start p input lent used) ⊎ Accepts v bad y h (boardAfter h y) (start p input lent used)) e (m .1))
+        (startFinds p input lent used) refl t in (
+          votedInput input,
           g .0,
           g .1,
           record {
             party = p;
+            input = input;
             lent = lent;
             used = used;
-            call = List·Memᴰ·head (ap (λ (y : ℕ). calls y (start p z lent used)) (sym e));
+            call = List·Memᴰ·head (ap (λ (y : ℕ). calls y (start p input lent used)) (sym e));
             accepted = g .2;
+            voted = refl;
           },
         )
 
@@ -208,11 +211,12 @@ module _ (v : Instance) (plan : Plan) (bad : Set) (f : Shared v plan) where
 
   -- ---- the accepted call
 
-  -- Naming any start of the list with the input z, perhaps a refused one, says the same: an accepted call wrote the record that is kept.
+  -- Naming any start of the list that votes on z, perhaps a refused one, says the same: an accepted call wrote the record that is kept.
   pub started-by-some : (h : History) → Allowed v bad h → (i : ℕ) → i < v .n → (x : ℕ) (z : ℤ)
       → StartedRecorded plan h i x z
-      ↔ (((p : Party) × (lent : Lent) × (used : ℕ) × List·Memᴰ (calls i (start p z lent used)) h) × Stands plan x z × StartRecorded h i x)
+      ↔ (((p : Party) × (input : StartInput) × (lent : Lent) × (used : ℕ) × List·Memᴰ (calls i (start p input lent used)) h × (votedInput input ≡ z))
+      × Stands plan x z × StartRecorded h i x)
   started-by-some h a i k x z = (
-    λ w. let c = w .call in ((c .party, c .lent, c .used, c .call), w .stands, w .kept),
+    λ w. let c = w .call in ((c .party, c .input, c .lent, c .used, c .call, c .voted), w .stands, w .kept),
     λ w. let g = started-with h a i k x (w .2) in subst (StartedRecorded plan h i x) (sym (g .1 .stands .1) ∙ w .1 .1) (g .1),
   )

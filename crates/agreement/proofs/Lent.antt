@@ -3,7 +3,6 @@ use mathlib.Core.Path.{_≡_, refl, sym, ap, _∙_, subst}
 use mathlib.Core.List.{List, [], _∷_, _++_, append-assoc, append-nil}
 use Prim.Native.Nat.{ℕ, _+_, _≤_}
 use native.Mathlib.Omega.{arith}
-use lib.IntN.{ℤ}
 use lib.ListN.{length, take, drop, length-append, length-take}
 use lib.Seq.{take-at}
 use Rattle.base.specs.Put.{putAt}
@@ -17,7 +16,7 @@ use Rattle.party.specs.Run.{Ran, bytesOf}
 use Rattle.board_calls.specs.Answers.{positionOf}
 use Rattle.board_calls.specs.Calls.{Entry, again, fresh, calledOf, journalAfter, outgoingAfter}
 use Rattle.board_calls.specs.Restore.{Replay, restoredOf, restoreOutgoing}
-use Rattle.agreement.specs.History.{Lent, start, take-message, startFinds, takeFinds, Act, a-start, a-take, Counted, Board, afterSetUp, madeIn, afterEntry, afterCall}
+use Rattle.agreement.specs.History.{Lent, StartInput, votedInput, start, take-message, startFinds, takeFinds, Act, a-start, a-take, Counted, Board, afterSetUp, madeIn, afterEntry, afterCall}
 use Rattle.agreement.specs.Allowed.{Continues}
 use Rattle.agreement.proofs.Entries.{start-recorded, take-recorded}
 
@@ -67,8 +66,8 @@ entered b a (refused number place) = b
 abbrev Room : Lent → ℕ → Found Entry → Type 0
 Room lent used q = (r : Record) (ran : Ran) → q ≡ found (fresh r ran) → used + length (recordBytes r) ≤ length (lent .journal)
 
-start-room : (p : Party) (input : ℤ) (lent : Lent) (used : ℕ) → Room lent used (startFinds p input lent used)
-start-room p input lent used r ran e = start-recorded p input (length (lent .journal)) used (lent .out) r ran e .2 .inside
+start-room : (p : Party) (input : StartInput) (lent : Lent) (used : ℕ) → Room lent used (startFinds p input lent used)
+start-room p input lent used r ran e = start-recorded p input lent used r ran e .2 .inside
 
 take-room : (p : Party) (sender : ℕ) (bytes : List ℕ) (lent : Lent) (used : ℕ) → Room lent used (takeFinds p sender bytes lent used)
 take-room p sender bytes lent used r ran e = take-recorded p sender bytes (length (lent .journal)) used (lent .out) r ran e .3 .inside
@@ -122,8 +121,8 @@ module _ (b : Board) (p : Party) (lent : Lent) (used : ℕ) (c : Continues b p l
       subst (λ (x : Board). Continues x (calledOf p used q .party) (lentAfter lent used q) (calledOf p used q .used)) (sym (after-entry a q h)) (entered-continues a q h)
 
   -- what a start leaves is the board with its record appended, if it has one
-  pub start-entered : (input : ℤ) → afterCall b (start p input lent used) ≡ entered b (a-start (positionOf (p .plan) input) input) (startFinds p input lent used)
-  start-entered input = after-entry (a-start (positionOf (p .plan) input) input) (startFinds p input lent used) (start-room p input lent used)
+  pub start-entered : (input : StartInput) → afterCall b (start p input lent used) ≡ entered b (a-start (positionOf (p .plan) (votedInput input)) input) (startFinds p input lent used)
+  start-entered input = after-entry (a-start (positionOf (p .plan) (votedInput input)) input) (startFinds p input lent used) (start-room p input lent used)
 
   -- and so for a take
   pub take-entered : (sender : ℕ) (bytes : List ℕ)
@@ -131,10 +130,10 @@ module _ (b : Board) (p : Party) (lent : Lent) (used : ℕ) (c : Continues b p l
   take-entered sender bytes = after-entry (a-take sender (exactMessage bytes)) (takeFinds p sender bytes lent used) (take-room p sender bytes lent used)
 
   -- "each later call gets the record, journal and used length as the call before left them"
-  pub start-continues : (input : ℤ) →
+  pub start-continues : (input : StartInput) →
       let q = startFinds p input lent used in
       Continues (afterCall b (start p input lent used)) (calledOf p used q .party) (lentAfter lent used q) (calledOf p used q .used)
-  start-continues input = entry-continues (a-start (positionOf (p .plan) input) input) (startFinds p input lent used) (start-room p input lent used)
+  start-continues input = entry-continues (a-start (positionOf (p .plan) (votedInput input)) input) (startFinds p input lent used) (start-room p input lent used)
 
   pub take-continues : (sender : ℕ) (bytes : List ℕ) →
       let q = takeFinds p sender bytes lent used in

@@ -6,6 +6,7 @@ pub mod Tied
 pub mod Keeps
 pub mod Histories
 pub mod Boards
+pub mod Answers
 pub mod Readings
 pub mod Inputs
 pub mod Steps

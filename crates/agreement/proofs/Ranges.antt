@@ -1,15 +1,13 @@
 -- On a range, at most one edge apart is readings at most 1 apart, and on the path between two positions is between their readings.
-use mathlib.Core.Path.{_≡_, refl, sym, ap, ap₂, _∙_, subst, subst₂}
+use mathlib.Core.Path.{_≡_, sym, _∙_}
 use mathlib.Core.Logic.{_⊎_, inl, inr, _↔_}
-use mathlib.Core.Bool.{Bool, true, false, cond}
-use Prim.Native.Nat.{ℕ, zero, suc, _+_, _-_, min, max, _≤_, _<_}
+use Prim.Native.Nat.{ℕ, suc, _+_, min, max, _≤_, _<_}
 use native.Mathlib.Decide.{ℕ-discrete, decLe}
 use native.Mathlib.Omega.{arith}
-use borrow.Author.Tests.{ltb-true, ltb-false}
-use lib.Dec.{T, ltb, leb→le, le→leb}
-use lib.IntN.{ℤ, pos, negsuc, negℤ, natAbs, _+ℤ_, _-ℤ_, +ℤ-comm, +ℤ-assoc, +ℤ-negℤ-cancel, negℤ-+ℤ}
-use lib.Signed.{leZ, _≤ℤ_}
+use lib.IntN.{ℤ, pos, _+ℤ_}
+use lib.Signed.{_≤ℤ_}
 use Rattle.base.specs.Sets.{Set}
+use Rattle.integers.proofs.Offsets.{Within, order-of, distance-of}
 use Rattle.signed.specs.Signed.{fromOffset}
 use Rattle.tree.specs.Walk.{OnPath}
 use Rattle.tree.specs.Edges.{Adjacent}
@@ -22,46 +20,6 @@ use Rattle.agreement.specs.Demand.{Near, Stands, Holds, Premises}
 use Rattle.agreement.specs.Ranges.{apart, Between, Input, HoldsOnRange}
 use Rattle.agreement.proofs.Theorem.{demand3}
 
--- ---- readings from one low reading on
-
--- two of them differ as their positions do
-difference : (low : ℤ) (x w : ℕ) → apart (low +ℤ pos x) (low +ℤ pos w) ≡ natAbs (pos x -ℤ pos w)
-difference low x w =
-    ap natAbs
-    (ap (λ (z : ℤ). (low +ℤ pos x) +ℤ z) (negℤ-+ℤ low (pos w))
-    ∙ sym (+ℤ-assoc (low +ℤ pos x) (negℤ low) (negℤ (pos w)))
-    ∙ ap (λ (z : ℤ). z +ℤ negℤ (pos w)) (ap (λ (z : ℤ). z -ℤ low) (+ℤ-comm low (pos x)) ∙ +ℤ-negℤ-cancel (pos x) low))
-
--- at most 1 apart as numbers
-abbrev Close : ℕ → ℕ → Type 0
-Close x w = (x ≤ suc w) × (w ≤ suc x)
-
-close : (x w : ℕ) → (natAbs (pos x -ℤ pos w) ≤ 1) ↔ Close x w
-close x zero = (λ h. (omega arith, omega arith), λ h. omega (arith, h .0))
-close x (suc w) = go (ltb x (suc w)) refl
-  where
-    go : (b : Bool) → ltb x (suc w) ≡ b → (natAbs (cond b (negsuc (suc w - suc x)) (pos (x - suc w))) ≤ 1) ↔ Close x (suc w)
-    go true e = let l = ltb-true x (suc w) e in (λ h. (omega arith, omega arith), λ h. omega (arith, h .1))
-    go false e = let l = ltb-false x (suc w) e in (λ h. (omega arith, omega arith), λ h. omega (arith, h .0))
-
--- and are in the same order
-order : (low : ℤ) (x w : ℕ) → ((low +ℤ pos x) ≤ℤ (low +ℤ pos w)) ↔ (x ≤ w)
-order (pos l) x w = (λ h. omega (arith, leb→le (l + x) (l + w) (h .le)), λ h. record { le = le→leb (l + x) (l + w) (omega arith) })
-order (negsuc l) x w = let r = go (ltb x (suc l)) refl (ltb w (suc l)) refl in (λ h. r .0 (h .le), λ h. record { le = r .1 h })
-  where
-    go : (b : Bool) → ltb x (suc l) ≡ b → (c : Bool) → ltb w (suc l) ≡ c
-        → T (leZ (cond b (negsuc (suc l - suc x)) (pos (x - suc l))) (cond c (negsuc (suc l - suc w)) (pos (w - suc l)))) ↔ (x ≤ w)
-    go true e true f =
-        let i = ltb-true x (suc l) e in
-        let j = ltb-true w (suc l) f in
-        (λ h. omega (arith, leb→le (suc l - suc w) (suc l - suc x) h), λ h. le→leb (suc l - suc w) (suc l - suc x) (omega arith))
-    go true e false f = let i = ltb-true x (suc l) e in let j = ltb-false w (suc l) f in (λ h. omega arith, λ h. tt)
-    go false e true f = let i = ltb-false x (suc l) e in let j = ltb-true w (suc l) f in (λ h. absurd h, λ h. omega arith)
-    go false e false f =
-        let i = ltb-false x (suc l) e in
-        let j = ltb-false w (suc l) f in
-        (λ h. omega (arith, leb→le (x - suc l) (w - suc l) h), λ h. le→leb (x - suc l) (w - suc l) (omega arith))
-
 -- ---- positions and readings of a range
 
 module _ (p : Plan) (k : p .kind ≡ 2) where
@@ -70,36 +28,35 @@ module _ (p : Plan) (k : p .kind ≡ 2) where
   stands-sum x z s = sym (s .1) ∙ reading-sum p k x
 
   -- one edge apart at most
-  near-close : (x w : ℕ) → x < p .count → w < p .count → Near p x w ↔ Close x w
-  near-close x w l m = (to, λ h. from (h .0) (h .1) (ℕ-discrete x w))
+  near-close : (x w : ℕ) → x < p .count → w < p .count → Near p x w ↔ Within 1 x w
+  near-close x w l m = (to, λ h. back (h .0) (h .1) (ℕ-discrete x w))
     where
-      next : (w ≡ suc x) ⊎ (x ≡ suc w) → Close x w
+      next : (w ≡ suc x) ⊎ (x ≡ suc w) → Within 1 x w
       next (inl e) = (omega arith, omega arith)
       next (inr e) = (omega arith, omega arith)
 
-      to : Near p x w → Close x w
+      to : Near p x w → Within 1 x w
       to (inl e) = (omega arith, omega arith)
       to (inr h) = next (range-adjacent p k x w l m .0 h)
 
-      beside : x ≤ suc w → w ≤ suc x → (x ≡ w → ⊥) → Dec (x ≤ w) → (w ≡ suc x) ⊎ (x ≡ suc w)
+      beside : x ≤ w + 1 → w ≤ x + 1 → (x ≡ w → ⊥) → Dec (x ≤ w) → (w ≡ suc x) ⊎ (x ≡ suc w)
       beside a b d (yes i) = inl (omega arith)
       beside a b d (no i) = inr (omega arith)
 
-      from : x ≤ suc w → w ≤ suc x → Dec (x ≡ w) → Near p x w
-      from a b (yes e) = inl e
-      from a b (no d) = inr (range-adjacent p k x w l m .1 (beside a b d (decLe x w)))
+      back : x ≤ w + 1 → w ≤ x + 1 → Dec (x ≡ w) → Near p x w
+      back a b (yes e) = inl e
+      back a b (no d) = inr (range-adjacent p k x w l m .1 (beside a b d (decLe x w)))
 
   -- At most one edge apart on a range is readings at most 1 apart.
   pub near-readings : (x w : ℕ) (y z : ℤ) → Stands p x y → Stands p w z → Near p x w ↔ (apart y z ≤ 1)
   near-readings x w y z s t =
-      let e : apart y z ≡ natAbs (pos x -ℤ pos w) = ap₂ apart (stands-sum x y s) (stands-sum w z t) ∙ difference (fromOffset (p .low)) x w in
       let n = near-close x w (s .0) (t .0) in
-      let c = close x w in
-      (λ h. subst (λ (d : ℕ). d ≤ 1) (sym e) (c .1 (n .0 h)), λ h. n .1 (c .0 (subst (λ (d : ℕ). d ≤ 1) e h)))
+      let d = distance-of (fromOffset (p .low)) y z 1 x w (stands-sum x y s) (stands-sum w z t) in
+      (λ h. d .1 (n .0 h), λ h. n .1 (d .0 h))
 
   -- readings are in the order of their positions
   pub readings-order : (x w : ℕ) (y z : ℤ) → Stands p x y → Stands p w z → (y ≤ℤ z) ↔ (x ≤ w)
-  readings-order x w y z s t = subst₂ (λ (c d : ℤ). (c ≤ℤ d) ↔ (x ≤ w)) (sym (stands-sum x y s)) (sym (stands-sum w z t)) (order (fromOffset (p .low)) x w)
+  readings-order x w y z s t = order-of (fromOffset (p .low)) y z x w (stands-sum x y s) (stands-sum w z t)
 
   -- On the path between two positions of a range is between their readings.
   pub path-readings : (a b x : ℕ) (c d y : ℤ) → Stands p a c → Stands p b d → Stands p x y → OnPath (Adjacent (edgesOf p)) a b x ↔ Between c d y

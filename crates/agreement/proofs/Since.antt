@@ -9,7 +9,7 @@ use Rattle.base.specs.Pick.{pick}
 use Rattle.base.specs.Found.{Found, found}
 use Rattle.base.proofs.Bools.{T-left, T→true, not-T→false, false→not-T}
 use Rattle.board_calls.specs.Restore.{Replay}
-use Rattle.agreement.specs.History.{Lent, Call, set-up, start, take-message, read-answer, restore, restoreFinds, Step, calls, hands, cut, whose, History}
+use Rattle.agreement.specs.History.{Lent, Call, set-up, start, take-message, read-answer, read-count, restore, restoreFinds, Step, calls, hands, cut, whose, History}
 use Rattle.agreement.specs.Allowed.{Handed, Refuses}
 use Rattle.agreement.specs.Demand.{accepted, isRestoreOf, sinceRestore, HandedSince}
 
@@ -21,6 +21,7 @@ restore-own i (calls j (set-up n t own agreement plan)) k = absurd k
 restore-own i (calls j (start p input lent used)) k = absurd k
 restore-own i (calls j (take-message p sender bytes lent used)) k = absurd k
 restore-own i (calls j (read-answer p)) k = absurd k
+restore-own i (calls j (read-count p g c)) k = absurd k
 restore-own i (calls j (restore n t own agreement plan lent)) k = eqb→eq j i (T-left (eqb j i) (accepted (restoreFinds n t own agreement plan lent)) k)
 restore-own i (hands j bytes) k = absurd k
 restore-own i (cut j left) k = absurd k
@@ -35,6 +36,7 @@ refused-none i j (set-up n t own agreement plan) r = refl
 refused-none i j (start p input lent used) r = refl
 refused-none i j (take-message p sender bytes lent used) r = refl
 refused-none i j (read-answer p) r = refl
+refused-none i j (read-count p g c) r = refl
 refused-none i j (restore n t own agreement plan lent) (k, (at, e)) = ap (λ (q : Found Replay). eqb j i && accepted q) e ∙ never (eqb j i)
   where
     never : (b : Bool) → (b && false) ≡ false

@@ -6,7 +6,6 @@ use mathlib.Core.List.{List, _∷_, _++_}
 use Prim.Native.Nat.{ℕ, _≤_, _<_}
 use native.Mathlib.Omega.{arith}
 use lib.Dec.{eqb, eqb-refl}
-use lib.IntN.{ℤ}
 use lib.ListN.{length, take, drop, length-append, length-take}
 use Rattle.base.specs.Sets.{Set}
 use Rattle.base.proofs.Bools.{T→true}
@@ -25,7 +24,8 @@ use Rattle.party_life.specs.Life.{replayed, lived, madeAlong}
 use Rattle.board_calls.specs.Answers.{positionOf}
 use Rattle.board_calls.specs.Calls.{Entry, again, fresh, setUpOf}
 use Rattle.board_calls.specs.Restore.{Replay}
-use Rattle.agreement.specs.History.{Instance, Lent, Call, set-up, start, take-message, read-answer, restore, startFinds, takeFinds, restoreFinds, Step, calls, cut, whose, History, Stage, waiting, running, down, Act, a-start, a-take, Board, afterSetUp, afterEntry, afterAnswer, afterRestore, afterCall, afterCut, afterOwn, boardAfter}
+use Rattle.board_laws.proofs.Counts.{count-refused}
+use Rattle.agreement.specs.History.{Instance, Lent, StartInput, votedInput, Call, set-up, start, take-message, read-answer, read-count, restore, startFinds, takeFinds, restoreFinds, Step, calls, cut, whose, History, Stage, waiting, running, down, Act, a-start, a-take, Board, afterSetUp, afterEntry, afterAnswer, afterRestore, afterCall, afterCut, afterOwn, boardAfter}
 use Rattle.agreement.specs.Allowed.{Refuses, Continues, Allowed}
 use Rattle.agreement.specs.Demand.{Shared}
 use Rattle.agreement.specs.Inner.{recordsOf}
@@ -62,9 +62,10 @@ refused-nothing h i c r = own (calls i c) h ∙ go c r
 
     go : (c : Call) → Refuses c → afterCall b c ≡ b
     go (set-up n t a g bytes) e = ap (λ (y : Verdict). afterSetUp b y (setUpOf n t a g bytes .party)) (e .1 .1)
-    go (start p input lent used) e = ap (afterEntry b (a-start (positionOf (p .plan) input) input) p lent used) (e .1 .1)
+    go (start p input lent used) e = ap (afterEntry b (a-start (positionOf (p .plan) (votedInput input)) input) p lent used) (e .1 .1)
     go (take-message p sender bytes lent used) e = ap (afterEntry b (a-take sender (exactMessage bytes)) p lent used) (e .1 .1)
     go (read-answer p) e = ap (afterAnswer b) (refused-answer p (e .0) (e .1 .0) (e .1 .1))
+    go (read-count p g c) e = ap (afterAnswer b) (count-refused p g c (e .1 .1))
     go (restore n t a g bytes lent) e = ap (afterRestore b lent) (e .1 .1)
 
 -- an accepted call is not refused
@@ -110,35 +111,35 @@ module _ (v : Instance) (plan : Plan) (bad : Set) (f : Shared v plan) where
         ap (madeAlong (newBoard v plan i)) e
         ∙ ap (λ (y : Ran). madeSoFar h i ++ y .made) (ap (λ (q : Party). replayed q r) (sym (party-lived a k c)) ∙ d .does)
 
-    module _ (z : ℤ) where
+    module _ (input : StartInput) where
       abbrev startStep : Step
-      startStep = calls i (start p z lent used)
+      startStep = calls i (start p input lent used)
 
       -- the board after it
       pub start-board : Continues (boardAfter h i) p lent used
-          → boardAfter (calls i (start p z lent used) ∷ h) i ≡ entered (boardAfter h i) (a-start (positionOf (p .plan) z) z) (startFinds p z lent used)
-      start-board c = own startStep h ∙ start-entered (boardAfter h i) p lent used c z
+          → boardAfter (calls i (start p input lent used) ∷ h) i ≡ entered (boardAfter h i) (a-start (positionOf (p .plan) (votedInput input)) input) (startFinds p input lent used)
+      start-board c = own startStep h ∙ start-entered (boardAfter h i) p lent used c input
 
       -- "Each start or taken message appends one record": the record of an accepted start is its board's newest
-      pub start-newest : Allowed v bad (startStep ∷ h) → (r : Record) (ran : Ran) → startFinds p z lent used ≡ found (fresh r ran)
+      pub start-newest : Allowed v bad (startStep ∷ h) → (r : Record) (ran : Ran) → startFinds p input lent used ≡ found (fresh r ran)
           → recordsOf (startStep ∷ h) i ≡ r ∷ recordsOf h i
       start-newest ((o, inl x), a) r ran e = absurd (not-refused (x .0) (x .1 .0) (x .1 .1) e)
       start-newest ((o, inr c), a) r ran e =
-          appended a (o .0) c r ran (start-recorded p z (length (lent .journal)) used (lent .out) r ran e .2) (a-start (positionOf (p .plan) z) z) (boardAfter (startStep ∷ h) i)
-          (start-board c ∙ ap (entered (boardAfter h i) (a-start (positionOf (p .plan) z) z)) e)
+          appended a (o .0) c r ran (start-recorded p input lent used r ran e .2) (a-start (positionOf (p .plan) (votedInput input)) input) (boardAfter (startStep ∷ h) i)
+          (start-board c ∙ ap (entered (boardAfter h i) (a-start (positionOf (p .plan) (votedInput input)) input)) e)
 
       -- "what a board's calls made": an accepted start adds the messages whose bytes it wrote into the outgoing buffer (Lent, `entry-outgoing`), no others
-      pub start-makes : Allowed v bad (startStep ∷ h) → (r : Record) (ran : Ran) → startFinds p z lent used ≡ found (fresh r ran)
+      pub start-makes : Allowed v bad (startStep ∷ h) → (r : Record) (ran : Ran) → startFinds p input lent used ≡ found (fresh r ran)
           → madeSoFar (startStep ∷ h) i ≡ madeSoFar h i ++ ran .made
       start-makes ((o, inl x), a) r ran e = absurd (not-refused (x .0) (x .1 .0) (x .1 .1) e)
       start-makes ((o, inr c), a) r ran e =
-          appended-makes a (o .0) c r ran (start-recorded p z (length (lent .journal)) used (lent .out) r ran e .2) (recordsOf (startStep ∷ h) i) (start-newest ((o, inr c), a) r ran e)
+          appended-makes a (o .0) c r ran (start-recorded p input lent used r ran e .2) (recordsOf (startStep ∷ h) i) (start-newest ((o, inr c), a) r ran e)
 
       -- its messages may be handed over from then on
-      pub start-posts : Allowed v bad (startStep ∷ h) → (r : Record) (ran : Ran) → startFinds p z lent used ≡ found (fresh r ran)
+      pub start-posts : Allowed v bad (startStep ∷ h) → (r : Record) (ran : Ran) → startFinds p input lent used ≡ found (fresh r ran)
           → boardAfter (startStep ∷ h) i .outbox ≡ boardAfter h i .outbox ++ ran .made
       start-posts ((o, inl x), a) r ran e = absurd (not-refused (x .0) (x .1 .0) (x .1 .1) e)
-      start-posts ((o, inr c), a) r ran e = ap (λ (b : Board). b .outbox) (start-board c ∙ ap (entered (boardAfter h i) (a-start (positionOf (p .plan) z) z)) e)
+      start-posts ((o, inr c), a) r ran e = ap (λ (b : Board). b .outbox) (start-board c ∙ ap (entered (boardAfter h i) (a-start (positionOf (p .plan) (votedInput input)) input)) e)
 
     module _ (s : ℕ) (bytes : List ℕ) where
       abbrev takeStep : Step

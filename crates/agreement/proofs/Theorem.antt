@@ -14,7 +14,8 @@ use Rattle.agreement.specs.Allowed.{Sound, Allowed}
 use Rattle.agreement.specs.Demand.{answerNow, StartedWith, Shared, Premises, Holds, Demand3}
 use Rattle.agreement.specs.Ending.{Delivered, Ends, Ending}
 use Rattle.agreement.proofs.Told.{told}
-use Rattle.agreement.proofs.Boards.{stateOf, answers-stand, output-answers, started-state}
+use Rattle.agreement.proofs.Boards.{stateOf, started-state}
+use Rattle.agreement.proofs.Answers.{answers-stand, output-answers}
 use Rattle.agreement.proofs.Words.{started-records, started-stands}
 use Rattle.agreement.proofs.Logs.{log-premises, complete-delivered, set-up-delivered, log-complete}
 

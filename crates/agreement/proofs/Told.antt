@@ -22,7 +22,7 @@ use Rattle.execution.specs.History as logs
 use Rattle.execution.specs.History.{HStep, act, hand, mark, log, held, FairH}
 use Rattle.execution.specs.Inner.{ValidH}
 use Rattle.vote_machine.specs.Machine.{voteMachine, eventOf}
-use Rattle.agreement.specs.History.{Instance, Call, set-up, start, take-message, read-answer, restore, startFinds, takeFinds, restoreFinds, Step, calls, hands, cut, whose, History, Stage, waiting, running, down, Board, boardAfter}
+use Rattle.agreement.specs.History.{Instance, Call, set-up, start, take-message, read-answer, read-count, restore, startFinds, takeFinds, restoreFinds, readAsCount, Step, calls, hands, cut, whose, History, Stage, waiting, running, down, Board, boardAfter}
 use Rattle.agreement.specs.Allowed.{Handed}
 
 -- the vote as a machine
@@ -57,6 +57,7 @@ callTale (set-up n t own agreement plan) = nothing
 callTale (start p input lent used) = entryTale (startFinds p input lent used)
 callTale (take-message p sender bytes lent used) = entryTale (takeFinds p sender bytes lent used)
 callTale (read-answer p) = answerTale (answeredOf p .answer)
+callTale (read-count p g c) = answerTale (readAsCount p g c .answer)
 callTale (restore n t own agreement plan lent) = restoreTale (restoreFinds n t own agreement plan lent)
 
 -- the message that the bytes are

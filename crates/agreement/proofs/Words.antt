@@ -20,7 +20,7 @@ use Rattle.board_calls.specs.Answers.{positionOf}
 use Rattle.board_calls.specs.Calls.{Entry, calledOf}
 use Rattle.execution.proofs.Logs.{handed-sent}
 use Rattle.vote_machine.proofs.Laws.{vote-lawful}
-use Rattle.agreement.specs.History.{Instance, Lent, start, take-message, startFinds, takeFinds, Step, calls, hands, History, Act, a-start, a-take, Counted, Board, madeIn, afterEntry, boardAfter}
+use Rattle.agreement.specs.History.{Instance, Lent, StartInput, votedInput, start, take-message, startFinds, takeFinds, Step, calls, hands, History, Act, a-start, a-take, Counted, Board, madeIn, afterEntry, boardAfter}
 use Rattle.agreement.specs.Allowed.{Handed, Refuses, Accepts, May, Allowed}
 use Rattle.agreement.specs.Demand.{Started, Took, Made, StartedWith, Shared}
 use Rattle.agreement.specs.Inner.{recordsOf, StartRecorded, TakeRecorded, RecordsMade, StartedRecorded}
@@ -41,12 +41,13 @@ module _ (v : Instance) (plan : Plan) (bad : Set) (f : Shared v plan) where
   module _ (h : History) (a : Allowed v bad h) (i : ℕ) where
     -- a start that counts is at its input's position
     pub started-at : (x : ℕ) (z : ℤ) → Started h i x z → StartRecorded h i x × (positionOf plan z ≡ x) × (readingOf plan x ≡ z)
-    started-at x z (c, m, e) =
+    started-at x z (input, (c, m, e), voted) =
         let y = record-of plan (newBoard v plan i) (boardAfter h i .counted) (recordsOf h i) (follows v plan bad f h a i) c m in
-        let s : Says plan (a-start x z) (y .0) = subst (λ (k : Act). Says plan k (y .0)) e (y .2) in (
+        let s : Says plan (a-start x input) (y .0) = subst (λ (k : Act). Says plan k (y .0)) e (y .2) in
+        let at : positionOf plan z ≡ x = ap (positionOf plan) (sym voted) ∙ s .2 in (
           (s .0, subst (λ (r : Record). List·Memᴰ r (recordsOf h i)) (sym (s .1)) (y .1)),
-          s .2,
-          subst (λ (k : ℕ). readingOf plan k ≡ z) (s .2) (position-reading plan z (λ n. s .3 (sym (s .2) ∙ n))),
+          at,
+          subst (λ (k : ℕ). readingOf plan k ≡ z) at (position-reading plan z (λ n. s .3 (sym at ∙ n))),
         )
 
     -- board i started at x: its journal has a record of a start there
@@ -57,7 +58,7 @@ module _ (v : Instance) (plan : Plan) (bad : Set) (f : Shared v plan) where
         from (b, m) =
             let c = call-of plan (newBoard v plan i) (boardAfter h i .counted) (recordsOf h i) (follows v plan bad f h a i) (Start b x) m in
             let s = says-start plan (newBoard v plan i) (c .0 .act) b x (c .2) in
-            (s .0, (c .0, c .1, s .1))
+            (votedInput (s .0), (s .0, (c .0, c .1, s .1), refl))
 
     -- it took m from board s: its journal has that record, wherever the take was of a message held already
     pub took-records : (s : ℕ) (m : Message) → Took h i s m ↔ TakeRecorded h i s m
@@ -83,7 +84,7 @@ module _ (v : Instance) (plan : Plan) (bad : Set) (f : Shared v plan) where
       λ y. made-by plan (newBoard v plan i) (boardAfter h i .counted) (recordsOf h i) (follows v plan bad f h a i) m y,
     )
 
-    -- it started with the input z: an accepted call of the list was given z, and its record is there
+    -- it started with z: an accepted call of the list votes on z, and its record is there
     pub started-with-records : i < v .n → (x : ℕ) (z : ℤ) → StartedWith plan h i x z ↔ StartedRecorded plan h i x z
     started-with-records k x z = (to, from)
       where
@@ -109,25 +110,29 @@ module _ (v : Instance) (plan : Plan) (bad : Set) (f : Shared v plan) where
   -- ---- right after an accepted call
 
   module _ (h : History) (i : ℕ) (p : Party) (lent : Lent) (used : ℕ) where
-    -- "Started and taken mean in an accepted call": right after an accepted start with input z, the board has started with z
-    pub start-counts : (z : ℤ) → Allowed v bad (calls i (start p z lent used) ∷ h) → (e : Entry) → startFinds p z lent used ≡ found e
-        → StartedWith plan (calls i (start p z lent used) ∷ h) i (positionOf plan z) z
-    start-counts z (m, a) e g = started-stands (s ∷ h) (m, a) i (m .0 .0) (positionOf plan z) z (head, there, ap (λ (y : Plan). a-start (positionOf y z) z) (same (m .1)))
+    -- "Started and taken mean in an accepted call": right after an accepted start the board has started with what its input votes on
+    pub start-counts : (input : StartInput) → Allowed v bad (calls i (start p input lent used) ∷ h) → (e : Entry) → startFinds p input lent used ≡ found e
+        → StartedWith plan (calls i (start p input lent used) ∷ h) i (positionOf plan (votedInput input)) (votedInput input)
+    start-counts input (m, a) e g =
+        started-stands (s ∷ h) (m, a) i (m .0 .0) (positionOf plan z) z (input, (head, there, ap (λ (y : Plan). a-start (positionOf y z) input) (same (m .1))), refl)
       where
-        s : Step
-        s = calls i (start p z lent used)
+        z : ℤ
+        z = votedInput input
 
-        same : Refuses (start p z lent used) ⊎ Accepts v bad i h (boardAfter h i) (start p z lent used) → p .plan ≡ plan
+        s : Step
+        s = calls i (start p input lent used)
+
+        same : Refuses (start p input lent used) ⊎ Accepts v bad i h (boardAfter h i) (start p input lent used) → p .plan ≡ plan
         same (inl x) = absurd (not-refused (x .0) (x .1 .0) (x .1 .1) g)
         same (inr c) = ap (λ (q : Party). q .plan) (c .same ∙ running-state v plan bad f h a i (m .0 .0) (c .up)) ∙ state-plan v plan bad f h a i (m .0 .0)
 
         head : Counted
-        head = record { act = a-start (positionOf (p .plan) z) z; made = madeIn e; used = calledOf p used (found e) .used }
+        head = record { act = a-start (positionOf (p .plan) z) input; made = madeIn e; used = calledOf p used (found e) .used }
 
         there : List·Memᴰ head (boardAfter (s ∷ h) i .counted)
         there =
             subst (λ (b : Board). List·Memᴰ head (b .counted))
-            (sym (own s h ∙ ap (afterEntry (boardAfter h i) (a-start (positionOf (p .plan) z) z) p lent used) g)) (List·Memᴰ·head refl)
+            (sym (own s h ∙ ap (afterEntry (boardAfter h i) (a-start (positionOf (p .plan) z) input) p lent used) g)) (List·Memᴰ·head refl)
 
     -- right after an accepted take of the bytes of m, fresh or already held, the board has taken m
     pub take-counts : (s : ℕ) (bytes : List ℕ) (m : Message) → exactMessage bytes ≡ Exactly.One m → (e : Entry) → takeFinds p s bytes lent used ≡ found e

@@ -14,7 +14,7 @@ use Rattle.journal.specs.Reading.{recordAt, recordsIn}
 use Rattle.journal.specs.Records.{journalBytes}
 use Rattle.party.specs.Party.{Party}
 use Rattle.board_calls.specs.Calls.{setUpOf, answeredOf}
-use Rattle.agreement.specs.History.{Instance, Lent, Call, set-up, start, take-message, read-answer, restore, startFinds, takeFinds, restoreFinds, Step, calls, hands, cut, History, waiting, running, Board, boardAfter}
+use Rattle.agreement.specs.History.{Instance, Lent, Call, set-up, start, take-message, read-answer, read-count, restore, startFinds, takeFinds, restoreFinds, readAsCount, Step, calls, hands, cut, History, waiting, running, Board, boardAfter}
 
 -- board i is sound: it "follows these rules for its whole life"; bad are the faulty ones
 abbrev pub Sound : Instance → Set → ℕ → Type 0
@@ -30,6 +30,7 @@ RefusedBy k (set-up n t own agreement plan) = (at : ℕ) × (setUpOf n t own agr
 RefusedBy k (start p input lent used) = (at : ℕ) × (startFinds p input lent used ≡ refused k at)
 RefusedBy k (take-message p sender bytes lent used) = (at : ℕ) × (takeFinds p sender bytes lent used ≡ refused k at)
 RefusedBy k (read-answer p) = (at : ℕ) × (answeredOf p .verdict ≡ Verdict.Refused k at)
+RefusedBy k (read-count p g c) = (at : ℕ) × (readAsCount p g c .verdict ≡ Verdict.Refused k at)
 RefusedBy k (restore n t own agreement plan lent) = (at : ℕ) × (restoreFinds n t own agreement plan lent ≡ refused k at)
 
 -- the call is refused: then it may be given anything, since it changes nothing
@@ -69,6 +70,7 @@ Accepts v bad i h b (start p input lent used) = Continues b p lent used
 -- "a message taken as a sound board's was handed over earlier by it for that vote"
 Accepts v bad i h b (take-message p sender bytes lent used) = Continues b p lent used × (Sound v bad sender → Handed sender bytes h)
 Accepts v bad i h b (read-answer p) = (b .stage ≡ running) × (p ≡ b .party)
+Accepts v bad i h b (read-count p g c) = (b .stage ≡ running) × (p ≡ b .party)
 -- "each restore has the same settings, and after a cut later than the set-up only a restore goes on, from what the cut left"
 Accepts v bad i h b (restore n t own agreement plan lent) = (b .stage ≡ waiting → ⊥) × Ours v i n t own agreement plan × Lendable (b .journal) (lent .journal)
 

@@ -23,14 +23,18 @@ use Rattle.party.specs.Party.{Party}
 use Rattle.board_calls.specs.declared.Answer.{Answer}
 use Rattle.board_calls.specs.Calls.{answeredOf, noParty}
 use Rattle.board_calls.specs.Restore.{Replay, restoredOf}
-use Rattle.agreement.specs.History.{Instance, set-up, start, take-message, read-answer, restore, restoreFinds, Step, calls, hands, cut, History, Stage, waiting, running, down, a-start, a-take, Counted, Board, boardAfter}
+use Rattle.agreement.specs.History.{Instance, StartInput, votedInput, set-up, start, take-message, read-answer, read-count, restore, restoreFinds, readAsCount, Step, calls, hands, cut, History, Stage, waiting, running, down, a-start, a-take, Counted, Board, boardAfter}
 use Rattle.agreement.specs.Allowed.{Sound, Handed, Allowed}
 
 -- ---- started, taken, made
 
--- "Started and taken mean in an accepted call not lost": board i started at position x, with the input z of its caller
+-- "Started and taken mean in an accepted call not lost": board i started at position x, and this is what its caller gave
+abbrev pub StartedBy : History → ℕ → ℕ → StartInput → Type 0
+StartedBy h i x input = (c : Counted) × List·Memᴰ c (boardAfter h i .counted) × (c .act ≡ a-start x input)
+
+-- it started at position x with the vertex or reading z: its caller gave z, or a count whose nearest step is z
 abbrev pub Started : History → ℕ → ℕ → ℤ → Type 0
-Started h i x z = (c : Counted) × List·Memᴰ c (boardAfter h i .counted) × (c .act ≡ a-start x z)
+Started h i x z = (input : StartInput) × StartedBy h i x input × (votedInput input ≡ z)
 
 -- it took message m from board s, held already or not
 abbrev pub Took : History → ℕ → ℕ → Message → Type 0
@@ -53,6 +57,7 @@ isRestoreOf i (calls j (set-up n t own agreement plan)) = false
 isRestoreOf i (calls j (start p input lent used)) = false
 isRestoreOf i (calls j (take-message p sender bytes lent used)) = false
 isRestoreOf i (calls j (read-answer p)) = false
+isRestoreOf i (calls j (read-count p g c)) = false
 isRestoreOf i (calls j (restore n t own agreement plan lent)) = eqb j i && accepted (restoreFinds n t own agreement plan lent)
 isRestoreOf i (hands j bytes) = false
 isRestoreOf i (cut j left) = false
@@ -69,20 +74,29 @@ HandedSince i bytes h = Handed i bytes (sinceRestore i h)
 
 -- ---- answers
 
--- the party that reading would be asked of
+-- the party of a board by its stage: none before the set-up; after a cut, the one that a restore would give
 abbrev pub partyBy : Instance → ℕ → Board → Stage → Party
 partyBy v i b waiting = noParty
 partyBy v i b running = b .party
 partyBy v i b down = restoredOf (restoreFinds (v .n) (v .t) i (v .agreement) (v .plan) (record { journal = b .journal; out = outgoingSize })) .party
 
+-- the party that a reading of board i would be asked of: after a cut, the one restored
+abbrev pub partyNow : Instance → History → ℕ → Party
+partyNow v h i = partyBy v i (boardAfter h i) (boardAfter h i .stage)
+
 -- "A board's answer is what reading gives or, after a cut, would give once restored."
 abbrev pub answerNow : Instance → History → ℕ → Answer
-answerNow v h i = answeredOf (partyBy v i (boardAfter h i) (boardAfter h i .stage)) .answer
+answerNow v h i = answeredOf (partyNow v h i) .answer
+
+-- board i's answer was "read earlier", from the party p: as it is, or by a reading that gave it as a count
+abbrev pub WasRead : History → ℕ → Party → Type 0
+WasRead h i p =
+    List·Memᴰ (calls i (read-answer p)) h
+    ⊎ ((g : ℕ) × (c : ℤ) × (a : ℤ) × List·Memᴰ (calls i (read-count p g c)) h × (readAsCount p g c .answer ≡ Answer.At a))
 
 -- "held then or read earlier"
 abbrev pub Answers : Instance → History → ℕ → ℤ → Type 0
-Answers v h i z =
-    (answerNow v h i ≡ Answer.At z) ⊎ ((p : Party) × List·Memᴰ (calls i (read-answer p)) h × (answeredOf p .answer ≡ Answer.At z))
+Answers v h i z = (answerNow v h i ≡ Answer.At z) ⊎ ((p : Party) × WasRead h i p × (answeredOf p .answer ≡ Answer.At z))
 
 -- ---- the demand
 
@@ -94,7 +108,7 @@ Near p x y = (x ≡ y) ⊎ Adjacent (edgesOf p) x y
 abbrev pub Stands : Plan → ℕ → ℤ → Type 0
 Stands p x z = (x < p .count) × (readingOf p x ≡ z)
 
--- board i started with the input z of its caller, whose position is x
+-- board i started with the vertex or reading z, whose position is x
 pub record StartedWith (plan : Plan) (h : History) (i x : ℕ) (z : ℤ) : Type 0 where
   pub started : Started h i x z
   pub stands : Stands plan x z

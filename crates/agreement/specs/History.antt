@@ -7,13 +7,16 @@ use lib.ListN.{length, take}
 use Rattle.base.specs.Pick.{pick}
 use Rattle.base.specs.declared.Verdict.{Verdict}
 use Rattle.base.specs.Found.{Found, found, refused}
+use Rattle.rounding.specs.Rounding.{nearestStep}
 use Rattle.message.specs.declared.Message.{Message}
 use Rattle.message.specs.declared.Exactly.{Exactly}
 use Rattle.message.specs.Reading.{exactMessage}
 use Rattle.party.specs.Party.{Party}
 use Rattle.board_calls.specs.declared.Answer.{Answer}
+use Rattle.board_calls.specs.declared.Answered.{Answered}
 use Rattle.board_calls.specs.Answers.{positionOf}
 use Rattle.board_calls.specs.Calls.{Entry, again, fresh, setUpOf, startQuestions, takeQuestions, calledOf, journalAfter, answeredOf, noParty}
+use Rattle.board_calls.specs.Counts.{startCountQuestions, countQuestions, countGives}
 use Rattle.board_calls.specs.Restore.{Replay, restoreQuestions, restoredOf}
 
 -- "Boards share n, t, agreement number and plan": one vote
@@ -28,23 +31,39 @@ pub record Lent : Type 0 where
   pub journal : List ℕ
   pub out : ℕ
 
+-- what a start is given: a vertex or a reading; or, by document 02, Q-6, a probe's count c in steps of g counts
+pub data StartInput : Type 0 where
+  plain : (z : ℤ) → StartInput
+  by-count : (g : ℕ) (c : ℤ) → StartInput
+
+-- the vertex or reading that is voted on: of a count, its nearest step
+abbrev pub votedInput : StartInput → ℤ
+votedInput (plain z) = z
+votedInput (by-count g c) = nearestStep g c
+
 -- a call with all that it is given; p is the party that the caller's record stands for, `used` the journal's used length
 pub data Call : Type 0 where
   set-up : (n t own agreement : ℕ) (plan : List ℕ) → Call
-  start : (p : Party) (input : ℤ) (lent : Lent) (used : ℕ) → Call
+  start : (p : Party) (input : StartInput) (lent : Lent) (used : ℕ) → Call
   take-message : (p : Party) (sender : ℕ) (bytes : List ℕ) (lent : Lent) (used : ℕ) → Call
   read-answer : (p : Party) → Call
+  read-count : (p : Party) (g : ℕ) (c : ℤ) → Call
   restore : (n t own agreement : ℕ) (plan : List ℕ) (lent : Lent) → Call
 
 -- what the questions at the door find
-abbrev pub startFinds : Party → ℤ → Lent → ℕ → Found Entry
-startFinds p input lent used = startQuestions p input (length (lent .journal)) used (lent .out)
+abbrev pub startFinds : Party → StartInput → Lent → ℕ → Found Entry
+startFinds p (plain z) lent used = startQuestions p z (length (lent .journal)) used (lent .out)
+startFinds p (by-count g c) lent used = startCountQuestions p g c (length (lent .journal)) used (lent .out)
 
 abbrev pub takeFinds : Party → ℕ → List ℕ → Lent → ℕ → Found Entry
 takeFinds p sender bytes lent used = takeQuestions p sender bytes (length (lent .journal)) used (lent .out)
 
 abbrev pub restoreFinds : ℕ → ℕ → ℕ → ℕ → List ℕ → Lent → Found Replay
 restoreFinds n t own agreement plan lent = restoreQuestions n t own agreement plan (lent .journal) (lent .out)
+
+-- what reading the answer as a count gives
+abbrev pub readAsCount : Party → ℕ → ℤ → Answered
+readAsCount p g c = countGives (countQuestions p g c)
 
 -- board i's steps: a call, handing a message's bytes over to all boards, a power cut that leaves so many journal bytes.
 -- "A cut inside a start or take leaves what one right after it may": it is that call with the cut after it.
@@ -71,7 +90,7 @@ pub data Stage : Type 0 where
 
 -- what a start or take was: a start at a position, with the input of its caller; what was read of a sender's bytes
 pub data Act : Type 0 where
-  a-start : (position : ℕ) (input : ℤ) → Act
+  a-start : (position : ℕ) (input : StartInput) → Act
   a-take : (sender : ℕ) (read : Exactly) → Act
 
 -- an accepted start or take: what it was, the messages that it made, and the journal's used length after it
@@ -131,7 +150,7 @@ guarding b = record {
   counted = b .counted;
 }
 
--- a reading that gives an answer guards what was written before it; one that finds none guards nothing, which covers more cuts
+-- a reading that gives an answer, as it is or as a count, guards what was written before it; one that finds none guards nothing, which covers more cuts
 abbrev pub afterAnswer : Board → Answer → Board
 afterAnswer b Answer.None = b
 afterAnswer b (Answer.At z) = guarding b
@@ -150,9 +169,10 @@ afterRestore b lent (refused number place) = b
 
 abbrev pub afterCall : Board → Call → Board
 afterCall b (set-up n t own agreement plan) = afterSetUp b (setUpOf n t own agreement plan .verdict) (setUpOf n t own agreement plan .party)
-afterCall b (start p input lent used) = afterEntry b (a-start (positionOf (p .plan) input) input) p lent used (startFinds p input lent used)
+afterCall b (start p input lent used) = afterEntry b (a-start (positionOf (p .plan) (votedInput input)) input) p lent used (startFinds p input lent used)
 afterCall b (take-message p sender bytes lent used) = afterEntry b (a-take sender (exactMessage bytes)) p lent used (takeFinds p sender bytes lent used)
 afterCall b (read-answer p) = afterAnswer b (answeredOf p .answer)
+afterCall b (read-count p g c) = afterAnswer b (readAsCount p g c .answer)
 afterCall b (restore n t own agreement plan lent) = afterRestore b lent (restoreFinds n t own agreement plan lent)
 
 -- "a start or message whose record is lost counts as not made or taken, and each later call of that board before the cut is lost with it": of some calls,

@@ -14,7 +14,7 @@ use Rattle.party.specs.Party.{Party, newParty}
 use Rattle.party.specs.Run.{starting}
 use Rattle.party_life.specs.Life.{madeAlong}
 use Rattle.board_calls.specs.Calls.{fresh}
-use Rattle.agreement.specs.History.{Instance, Lent, start, startFinds, calls, History, boardAfter}
+use Rattle.agreement.specs.History.{Instance, Lent, StartInput, votedInput, start, startFinds, calls, History, boardAfter}
 use Rattle.agreement.specs.Demand.{Stands}
 
 -- the records of board i's calls that are not lost
@@ -32,15 +32,17 @@ TakeRecorded h i s m = List·Memᴰ (Taken s m) (recordsOf h i)
 abbrev pub RecordsMade : Instance → Plan → History → ℕ → Message → Type 0
 RecordsMade v plan h i m = List·Memᴰ m (madeAlong (newParty (v .n) (v .t) i (v .agreement) plan) (recordsOf h i))
 
--- an accepted start of board i in the list: its caller gave the input z, and the call's record is of a start at position x
+-- an accepted start of board i in the list: what its caller gave is voted on as z, and the call's record is of a start at position x
 pub record AcceptedStart (h : History) (i x : ℕ) (z : ℤ) : Type 0 where
   pub party : Party
+  pub input : StartInput
   pub lent : Lent
   pub used : ℕ
-  pub call : List·Memᴰ (calls i (start party z lent used)) h
-  pub accepted : startFinds party z lent used ≡ found (fresh (Start (party .agreement) x) (starting party x))
+  pub call : List·Memᴰ (calls i (start party input lent used)) h
+  pub accepted : startFinds party input lent used ≡ found (fresh (Start (party .agreement) x) (starting party x))
+  pub voted : votedInput input ≡ z
 
--- board i started with the input z of its caller: in an accepted call, at the position x of z, and there is a record of a start at x
+-- board i started with z: in an accepted call, at the position x of z, and there is a record of a start at x
 pub record StartedRecorded (plan : Plan) (h : History) (i x : ℕ) (z : ℤ) : Type 0 where
   pub call : AcceptedStart h i x z
   pub stands : Stands plan x z

@@ -6,7 +6,6 @@ use mathlib.Core.List.{List}
 use Prim.Native.Nat.{ℕ, _+_, _≤_, _<_}
 use native.Mathlib.Omega.{arith}
 use lib.Dec.{T, leb, leb→le}
-use lib.IntN.{ℤ}
 use lib.ListN.{length}
 use Rattle.base.specs.Pick.{pick}
 use Rattle.base.specs.Limits.{lastLevel, maxRules, outgoingSize}
@@ -33,7 +32,8 @@ use Rattle.board_laws.proofs.Restored.{settled-new}
 use Rattle.board_promises.specs.Restored.{LivedAgain}
 use Rattle.board_promises.proofs.Restored.{restore-lived}
 use Rattle.board_laws.proofs.Replays.{outgoing-most}
-use Rattle.agreement.proofs.Entries.{Recorded, start-recorded, take-recorded}
+use Rattle.agreement.specs.History.{Lent, StartInput, votedInput, startFinds}
+use Rattle.agreement.proofs.Entries.{Recorded, voted-start, start-recorded, take-recorded}
 
 -- what ran fits the outgoing buffer and counts few enough rules
 pub record Bounded (r : Ran) : Type 0 where
@@ -50,23 +50,11 @@ module _ (p : Party) (t : Typed p) (room used out : ℕ) where
   recorded-bounded r ran v d =
       subst Bounded (d .does) (within-bounded p (replayed p r) (replayed-within (lastLevel + 1) (omega arith) p (typed-sized p t v) r (d .fits)))
 
-  pub start-bounded : (z : ℤ) (r : Record) (ran : Ran) → startQuestions p z room used out ≡ found (fresh r ran) → Bounded ran
-  unfolding startQuestions
-  start-bounded z r ran e = recorded-bounded r ran (asked (partyValid p) 19 0 _ (fresh r ran) e .0) (start-recorded p z room used out r ran e .2)
-
   pub take-bounded : (s : ℕ) (bytes : List ℕ) (r : Record) (ran : Ran) → takeQuestions p s bytes room used out ≡ found (fresh r ran) → Bounded ran
   unfolding takeQuestions
   take-bounded s bytes r ran e = recorded-bounded r ran (asked (partyValid p) 19 0 _ (fresh r ran) e .0) (take-recorded p s bytes room used out r ran e .3)
 
   -- where it made a record, no rule applies after it
-  pub start-quiescent : (z : ℤ) (r : Record) (ran : Ran) → startQuestions p z room used out ≡ found (fresh r ran) → Quiescent (ran .party)
-  unfolding startQuestions replayed
-  start-quiescent z r ran e =
-      let v = asked (partyValid p) 19 0 _ (fresh r ran) e .0 in
-      let (i, on, d) = start-recorded p z room used out r ran e in
-      let f = fits-start p (p .agreement) (positionOf (p .plan) z) (subst (Fits p) (sym i) (d .fits)) in
-      subst (λ (y : Ran). Quiescent (y .party)) (ap (replayed p) i ∙ d .does) (starting-quiescent p (typed-sized p t v) (positionOf (p .plan) z) (f .1) (f .2))
-
   pub take-quiescent : (s : ℕ) (bytes : List ℕ) (r : Record) (ran : Ran) → takeQuestions p s bytes room used out ≡ found (fresh r ran) → Quiescent (ran .party)
   unfolding takeQuestions replayed taking
   take-quiescent s bytes r ran e =
@@ -93,6 +81,23 @@ module _ (p : Party) (t : Typed p) (room used out : ℕ) where
   called-rules (found again) h = omega arith
   called-rules (found (fresh r ran)) h = h r ran refl .rules
   called-rules (refused number place) h = omega arith
+
+module _ (p : Party) (t : Typed p) (input : StartInput) (lent : Lent) (used : ℕ) (r : Record) (ran : Ran)
+    (e : startFinds p input lent used ≡ found (fresh r ran)) where
+  start-valid : T (partyValid p)
+  unfolding startQuestions
+  start-valid = asked (partyValid p) 19 0 _ (fresh r ran) (voted-start p input lent used (fresh r ran) e) .0
+
+  pub start-bounded : Bounded ran
+  start-bounded = recorded-bounded p t (length (lent .journal)) used (lent .out) r ran start-valid (start-recorded p input lent used r ran e .2)
+
+  pub start-quiescent : Quiescent (ran .party)
+  unfolding replayed
+  start-quiescent =
+      let x : ℕ = positionOf (p .plan) (votedInput input) in
+      let (i, on, d) = start-recorded p input lent used r ran e in
+      let f = fits-start p (p .agreement) x (subst (Fits p) (sym i) (d .fits)) in
+      subst (λ (y : Ran). Quiescent (y .party)) (ap (replayed p) i ∙ d .does) (starting-quiescent p (typed-sized p t start-valid) x (f .1) (f .2))
 
 -- ---- restore
 

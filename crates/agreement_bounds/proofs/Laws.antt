@@ -5,7 +5,7 @@ use mathlib.Core.List.{List, _∷_}
 use Prim.Native.Nat.{ℕ, _+_, _≤_}
 use native.Mathlib.Omega.{arith}
 use lib.Dec.{T}
-use lib.IntN.{ℤ}
+use lib.ListN.{length}
 use Rattle.base.specs.Limits.{lastLevel, levelCount, maxRules, outgoingSize}
 use Rattle.base.specs.Sets.{Set}
 use Rattle.base.specs.declared.Verdict.{Verdict}
@@ -18,10 +18,10 @@ use Rattle.party.specs.Run.{Ran, openLevel, runUpTo, run}
 use Rattle.party.specs.Valid.{partyValid}
 use Rattle.party_life.specs.Life.{lived}
 use Rattle.party_bounds.proofs.Laws.{rules-most, run-quiescent, runs-same, set-up-rules, typed-sized}
-use Rattle.board_calls.specs.Calls.{again, fresh, startQuestions, takeQuestions, calledOf}
+use Rattle.board_calls.specs.Calls.{again, fresh, takeQuestions, calledOf}
 use Rattle.board_calls.specs.Restore.{Replay, restoreQuestions, restoredOf}
 use Rattle.party.specs.Typed.{Typed}
-use Rattle.agreement.specs.History.{Instance, Lent, restore, restoreFinds, calls, History, boardAfter}
+use Rattle.agreement.specs.History.{Instance, Lent, StartInput, restore, startFinds, restoreFinds, calls, History, boardAfter}
 use Rattle.agreement.specs.Allowed.{Sound, Refuses, Accepts, Allowed}
 use Rattle.agreement.specs.Demand.{Shared}
 use Rattle.agreement.specs.Inner.{recordsOf}
@@ -36,8 +36,9 @@ use Rattle.agreement_bounds.proofs.Reported.{along-total, reported}
 -- ---- each call, of any party record with its type's shape and any bytes
 
 -- "Has the outgoing buffer 2,640 bytes (15 × 22 × 8)?": no call sends more
-pub start-sent : (p : Party) → Typed p → (input : ℤ) (room used out : ℕ) → calledOf p used (startQuestions p input room used out) .sent ≤ outgoingSize
-start-sent p t z room used out = called-sent p t room used out (startQuestions p z room used out) (start-bounded p t room used out z)
+pub start-sent : (p : Party) → Typed p → (input : StartInput) (lent : Lent) (used : ℕ) → calledOf p used (startFinds p input lent used) .sent ≤ outgoingSize
+start-sent p t input lent used =
+    called-sent p t (length (lent .journal)) used (lent .out) (startFinds p input lent used) (start-bounded p t input lent used)
 
 pub take-sent : (p : Party) → Typed p → (sender : ℕ) (bytes : List ℕ) (room used out : ℕ) → calledOf p used (takeQuestions p sender bytes room used out) .sent ≤ outgoingSize
 take-sent p t s bytes room used out = called-sent p t room used out (takeQuestions p s bytes room used out) (take-bounded p t room used out s bytes)
@@ -46,8 +47,9 @@ pub restore-sent : (n t own agreement : ℕ) (plan journal : List ℕ) (out : �
 restore-sent n t own a bytes j out all = restored-sent (restoreQuestions n t own a bytes j out) (restore-bounded n t own a bytes j all out)
 
 -- none reports more than 390 rules; for a restore these are the rules of all its records
-pub start-rules : (p : Party) → Typed p → (input : ℤ) (room used out : ℕ) → calledOf p used (startQuestions p input room used out) .rules ≤ maxRules
-start-rules p t z room used out = called-rules p t room used out (startQuestions p z room used out) (start-bounded p t room used out z)
+pub start-rules : (p : Party) → Typed p → (input : StartInput) (lent : Lent) (used : ℕ) → calledOf p used (startFinds p input lent used) .rules ≤ maxRules
+start-rules p t input lent used =
+    called-rules p t (length (lent .journal)) used (lent .out) (startFinds p input lent used) (start-bounded p t input lent used)
 
 pub take-rules : (p : Party) → Typed p → (sender : ℕ) (bytes : List ℕ) (room used out : ℕ) → calledOf p used (takeQuestions p sender bytes room used out) .rules ≤ maxRules
 take-rules p t s bytes room used out = called-rules p t room used out (takeQuestions p s bytes room used out) (take-bounded p t room used out s bytes)
@@ -105,9 +107,9 @@ run-any p t v f h =
     runs-same (lastLevel + 1) (omega arith) f maxRules p (typed-sized p t v) (omega arith) (omega arith)
 
 -- so none applies after an accepted start, a take that made a record, or an accepted restore
-pub start-ends : (p : Party) → Typed p → (input : ℤ) (room used out : ℕ) (r : Record) (ran : Ran) → startQuestions p input room used out ≡ found (fresh r ran)
+pub start-ends : (p : Party) → Typed p → (input : StartInput) (lent : Lent) (used : ℕ) (r : Record) (ran : Ran) → startFinds p input lent used ≡ found (fresh r ran)
     → openLevel (ran .party) ≡ levelCount
-start-ends p t z room used out = start-quiescent p t room used out z
+start-ends = start-quiescent
 
 pub take-ends : (p : Party) → Typed p → (sender : ℕ) (bytes : List ℕ) (room used out : ℕ) (r : Record) (ran : Ran)
     → takeQuestions p sender bytes room used out ≡ found (fresh r ran) → openLevel (ran .party) ≡ levelCount

@@ -22,7 +22,7 @@ use Rattle.party_life.specs.Life.{replayed, lived}
 use Rattle.board_calls.specs.declared.Answer.{Answer}
 use Rattle.board_calls.specs.Answers.{positionOf}
 use Rattle.board_calls.specs.Calls.{Entry, again, fresh, setUpOf, answeredOf}
-use Rattle.agreement.specs.History.{Instance, Lent, Call, set-up, start, take-message, read-answer, restore, startFinds, takeFinds, Step, calls, hands, cut, whose, History, Act, a-start, a-take, Board, afterSetUp, afterAnswer, boardAfter}
+use Rattle.agreement.specs.History.{Instance, Lent, votedInput, Call, set-up, start, take-message, read-answer, read-count, restore, startFinds, takeFinds, readAsCount, Step, calls, hands, cut, whose, History, Act, a-start, a-take, Board, afterSetUp, afterAnswer, boardAfter}
 use Rattle.agreement.specs.Allowed.{Refuses, Continues, Accepts, Allowed}
 use Rattle.agreement.specs.Demand.{Shared}
 use Rattle.agreement.specs.Inner.{recordsOf}
@@ -84,12 +84,18 @@ unfolding recordsFrom
 set-up-kept b Verdict.Accepted p e = refl
 set-up-kept b (Verdict.Refused number place) p e = e
 
+-- a reading leaves them
+answer-kept : (b : Board) (z : Answer) → heldRecords (afterAnswer b z) ≡ heldRecords b
+answer-kept b Answer.None = refl
+answer-kept b (Answer.At z) = refl
+
 -- a refused call reports nothing
 refused-reports : (c : Call) → Refuses c → (l : List ℕ) → callReports c l ≡ l
 refused-reports (set-up n t a g bytes) e l = refl
 refused-reports (start p input lent used) e l = ap (λ (q : Found Entry). entryReports p used q l) (e .1 .1)
 refused-reports (take-message p sender bytes lent used) e l = ap (λ (q : Found Entry). entryReports p used q l) (e .1 .1)
 refused-reports (read-answer p) e l = refl
+refused-reports (read-count p g c) e l = refl
 refused-reports (restore n t a g bytes lent) e l = refl
 
 module _ (v : Instance) (plan : Plan) (bad : Set) (f : Shared v plan) where
@@ -123,19 +129,17 @@ module _ (v : Instance) (plan : Plan) (bad : Set) (f : Shared v plan) where
         let z : recordsOf h i ≡ [] = records-of v plan bad f h al i (m .0 .0) ∙ subst (AtStage v plan i (boardAfter h i) (w .records)) e (w .stage) in
         stays (boardAfter (s ∷ h) i) (ap heldRecords (own s h) ∙ set-up-kept (boardAfter h i) (setUpOf n t a g bytes .verdict) (setUpOf n t a g bytes .party) z ∙ sym z)
     by-call (start p input lent used) (m, al) c =
-        by-entry al (m .0 .0) p lent used c (a-start (positionOf (p .plan) input) input) (startFinds p input lent used) (boardAfter (calls i (start p input lent used) ∷ h) i)
+        by-entry al (m .0 .0) p lent used c (a-start (positionOf (p .plan) (votedInput input)) input) (startFinds p input lent used) (boardAfter (calls i (start p input lent used) ∷ h) i)
         (start-board v plan bad f h i p lent used input c) (λ r ran e.
-        (start-newest v plan bad f h i p lent used input (m, al) r ran e, start-recorded p input (length (lent .journal)) used (lent .out) r ran e .2))
+        (start-newest v plan bad f h i p lent used input (m, al) r ran e, start-recorded p input lent used r ran e .2))
     by-call (take-message p sender bytes lent used) (m, al) (c, from) =
         by-entry al (m .0 .0) p lent used c (a-take sender (exactMessage bytes)) (takeFinds p sender bytes lent used) (boardAfter (calls i (take-message p sender bytes lent used) ∷ h) i)
         (take-board v plan bad f h i p lent used sender bytes c) (λ r ran e.
         (take-newest v plan bad f h i p lent used sender bytes (m, al) r ran e, take-recorded p sender bytes (length (lent .journal)) used (lent .out) r ran e .3))
     by-call (read-answer p) al e =
-        stays (boardAfter (calls i (read-answer p) ∷ h) i) (ap heldRecords (own (calls i (read-answer p)) h) ∙ same (answeredOf p .answer))
-      where
-        same : (z : Answer) → heldRecords (afterAnswer (boardAfter h i) z) ≡ recordsOf h i
-        same Answer.None = refl
-        same (Answer.At z) = refl
+        stays (boardAfter (calls i (read-answer p) ∷ h) i) (ap heldRecords (own (calls i (read-answer p)) h) ∙ answer-kept (boardAfter h i) (answeredOf p .answer))
+    by-call (read-count p g c) al e =
+        stays (boardAfter (calls i (read-count p g c) ∷ h) i) (ap heldRecords (own (calls i (read-count p g c)) h) ∙ answer-kept (boardAfter h i) (readAsCount p g c .answer))
     by-call (restore n t a g bytes lent) al e =
         stays (boardAfter (calls i (restore n t a g bytes lent) ∷ h) i) (restore-records v plan bad f h i n t a g bytes lent al)
 

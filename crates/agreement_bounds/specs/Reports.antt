@@ -10,7 +10,7 @@ use Rattle.journal.specs.declared.Record.{Record}
 use Rattle.journal.specs.Reading.{recordsIn}
 use Rattle.party.specs.Party.{Party}
 use Rattle.board_calls.specs.Calls.{Entry, again, fresh, calledOf}
-use Rattle.agreement.specs.History.{Call, set-up, start, take-message, read-answer, restore, startFinds, takeFinds, Step, calls, hands, cut, whose, History, boardAfter}
+use Rattle.agreement.specs.History.{Call, set-up, start, take-message, read-answer, read-count, restore, startFinds, takeFinds, Step, calls, hands, cut, whose, History, boardAfter}
 
 -- the reports after a start or take, the latest first, where they were l before: one for each record. A take of a message already held, which has no
 -- record, reports 0 and is left out; so is a refused call
@@ -25,6 +25,7 @@ callReports (set-up n t own agreement plan) l = l
 callReports (start p input lent used) l = entryReports p used (startFinds p input lent used) l
 callReports (take-message p sender bytes lent used) l = entryReports p used (takeFinds p sender bytes lent used) l
 callReports (read-answer p) l = l
+callReports (read-count p g c) l = l
 callReports (restore n t own agreement plan lent) l = l
 
 -- the k oldest, where the latest come first

@@ -4,7 +4,6 @@ use mathlib.Core.Bool.{false}
 use mathlib.Core.List.{List, [], _∷_, _++_, append-nil, List·Memᴰ, List·Memᴰ·tail}
 use Prim.Native.Nat.{ℕ, _+_, _≤_, _<_}
 use native.Mathlib.Omega.{arith}
-use lib.IntN.{ℤ}
 use lib.ListN.{length, replicate, length-append, length-replicate}
 use lib.Seq.{take-at}
 use Rattle.base.specs.Sets.{Set}
@@ -20,7 +19,7 @@ use Rattle.party_life.specs.Life.{Life}
 use Rattle.party_bounds.proofs.Laws.{Sized, sized-new, sized-lived, messagesLeft, replayed-within}
 use Rattle.board_calls.specs.Answers.{positionOf}
 use Rattle.board_calls.specs.Calls.{Entry, again, fresh}
-use Rattle.agreement.specs.History.{Instance, Lent, start, take-message, startFinds, takeFinds, Step, calls, History, running, Act, a-start, a-take, Board, boardAfter}
+use Rattle.agreement.specs.History.{Instance, Lent, StartInput, votedInput, start, take-message, startFinds, takeFinds, Step, calls, History, running, Act, a-start, a-take, Board, boardAfter}
 use Rattle.agreement.specs.Allowed.{Continues, Allowed}
 use Rattle.agreement.specs.Demand.{isRestoreOf, HandedSince, Shared}
 use Rattle.agreement.specs.Inner.{recordsOf}
@@ -94,12 +93,12 @@ module _ (v : Instance) (plan : Plan) (bad : Set) (f : Shared v plan) (h : Histo
     fewer = omega (arith, ap (λ (b : Board). messagesLeft (lastLevel + 1) (b .party)) e);
   }
 
-  pub start-grown : (z : ℤ) (r : Record) (ran : Ran) → startFinds p z lent used ≡ found (fresh r ran)
-      → Grown h i (calls i (start p z lent used))
-  start-grown z r ran e =
-      let d : Act = a-start (positionOf (p .plan) z) z in
-      by-fresh (calls i (start p z lent used)) d r ran refl (start-recorded p z (length (lent .journal)) used (lent .out) r ran e .2)
-      (start-board v plan bad f h i p lent used z c ∙ ap (entered (boardAfter h i) d) e)
+  pub start-grown : (input : StartInput) (r : Record) (ran : Ran) → startFinds p input lent used ≡ found (fresh r ran)
+      → Grown h i (calls i (start p input lent used))
+  start-grown input r ran e =
+      let d : Act = a-start (positionOf (p .plan) (votedInput input)) input in
+      by-fresh (calls i (start p input lent used)) d r ran refl (start-recorded p input lent used r ran e .2)
+      (start-board v plan bad f h i p lent used input c ∙ ap (entered (boardAfter h i) d) e)
 
   pub take-grown : (j : ℕ) (bytes : List ℕ) (e : Entry) → takeFinds p j bytes lent used ≡ found e
       → Grown h i (calls i (take-message p j bytes lent used))

@@ -14,7 +14,7 @@ use Rattle.message.specs.declared.Exactly.{Exactly}
 use Rattle.message.specs.Message.{messageBytes}
 use Rattle.message.specs.Reading.{exactMessage}
 use Rattle.board_calls.specs.Calls.{Entry}
-use Rattle.agreement.specs.History.{Instance, Lent, Call, take-message, takeFinds, calls, History, Board, boardAfter}
+use Rattle.agreement.specs.History.{Instance, Lent, StartInput, Call, take-message, takeFinds, calls, History, Board, boardAfter}
 use Rattle.agreement.specs.Allowed.{Sound, Handed, Continues, Allowed}
 use Rattle.agreement.specs.Demand.{Took, Shared}
 use Rattle.agreement.proofs.Boards.{makes-state, sent-read}
@@ -35,27 +35,27 @@ module _ (v : Instance) (plan : Plan) (bad : Set) (f : Shared v plan) where
   posted-read h a j o u m x =
       sent-read v plan bad f h a j (o .0) m (makes-state v plan bad f h a j (o .0) m .0 (subst (List·Memᴰ m) (running-posted v plan bad f h a j (u .stage)) x))
 
-  module _ (h : History) where
+  module _ (h : History) (input : StartInput) where
     -- how many messages can still come
-    abbrev left : Way v bad h → ℕ
-    left w = leftOf (v .n) (at v bad h w)
+    abbrev left : Way v bad h input → ℕ
+    left w = leftOf (v .n) (at v bad h input w)
 
     -- ---- one letter, one board
 
     -- board k has taken the letter l; beside it `queue` waits, and letters that wait and messages to come are together no more than before
-    record To (w : Way v bad h) (l : Letter) (q : List Letter) (k : ℕ) : Type 0 where
-      after : Way v bad h
+    record To (w : Way v bad h input) (l : Letter) (q : List Letter) (k : ℕ) : Type 0 where
+      after : Way v bad h input
       queue : List Letter
-      open-still : Open v bad (at v bad h after) (l ∷ queue)
-      took : Took (at v bad h after) k (l .sender) (l .message)
-      counts : (i : ℕ) → Counts i (at v bad h w) (at v bad h after)
+      open-still : Open v bad (at v bad h input after) (l ∷ queue)
+      took : Took (at v bad h input after) k (l .sender) (l .message)
+      counts : (i : ℕ) → Counts i (at v bad h input w) (at v bad h input after)
       fewer : length queue + left after ≤ length q + left w
 
-    take-one : (w : Way v bad h) (l : Letter) (q : List Letter) → Open v bad (at v bad h w) (l ∷ q) → (k : ℕ) → Sound v bad k → To w l q k
-    take-one w l q ready k o = go (serve v bad h w k o (ready .up k o) c (is .0, ready .up j (is .0) .handed (l .message) (is .1), ready .up k o .handed) (ok .0 .0) g)
+    take-one : (w : Way v bad h input) (l : Letter) (q : List Letter) → Open v bad (at v bad h input w) (l ∷ q) → (k : ℕ) → Sound v bad k → To w l q k
+    take-one w l q ready k o = go (serve v bad h input w k o (ready .up k o) c tt (is .0, ready .up j (is .0) .handed (l .message) (is .1), ready .up k o .handed) (ok .0 .0) g)
       where
         now : History
-        now = at v bad h w
+        now = at v bad h input w
 
         j : ℕ
         j = l .sender
@@ -98,7 +98,7 @@ module _ (v : Instance) (plan : Plan) (bad : Set) (f : Shared v plan) where
             let e : Exactly.One (ok .1 .0) ≡ Exactly.One (l .message) = sym (ok .1 .1) ∙ posted-read now (w .allowed) j (is .0) (ready .up j (is .0)) (l .message) (is .1) in
             cc
 
-        go : Served v bad h w k c → To w l q k
+        go : Served v bad h input w k c → To w l q k
         go r = record {
           after = r .after;
           queue = map (letter k) (g .new) ++ q;
@@ -109,7 +109,7 @@ module _ (v : Instance) (plan : Plan) (bad : Set) (f : Shared v plan) where
         }
           where
             later : History
-            later = at v bad h (r .after)
+            later = at v bad h input (r .after)
 
             x : Changes now later k (g .new)
             x = changes now later k c g (r .up) (r .own) (r .others)
@@ -117,21 +117,21 @@ module _ (v : Instance) (plan : Plan) (bad : Set) (f : Shared v plan) where
     -- ---- one letter, all sound boards
 
     -- and so have all sound boards below k
-    record ToAll (w : Way v bad h) (l : Letter) (q : List Letter) (k : ℕ) : Type 0 where
-      after : Way v bad h
+    record ToAll (w : Way v bad h input) (l : Letter) (q : List Letter) (k : ℕ) : Type 0 where
+      after : Way v bad h input
       queue : List Letter
-      open-still : Open v bad (at v bad h after) (l ∷ queue)
-      took : (i : ℕ) → i < k → Sound v bad i → Took (at v bad h after) i (l .sender) (l .message)
+      open-still : Open v bad (at v bad h input after) (l ∷ queue)
+      took : (i : ℕ) → i < k → Sound v bad i → Took (at v bad h input after) i (l .sender) (l .message)
       fewer : length queue + left after ≤ length q + left w
 
-    module _ (w : Way v bad h) (l : Letter) (q : List Letter) where
+    module _ (w : Way v bad h input) (l : Letter) (q : List Letter) where
       one-more : (k : ℕ) (r : ToAll w l q k) → To (r .after) l (r .queue) k → ToAll w l q (suc k)
       one-more k r t = record {
         after = t .after;
         queue = t .queue;
         open-still = t .open-still;
-        took = λ i n. either (λ (y : ℕ). Sound v bad y → Took (at v bad h (t .after)) y (l .sender) (l .message)) k i (λ s. t .took) (λ e s.
-            took-later i (at v bad h (r .after)) (at v bad h (t .after)) (t .counts i) (l .sender) (l .message) (r .took i (below k i n e) s));
+        took = λ i n. either (λ (y : ℕ). Sound v bad y → Took (at v bad h input (t .after)) y (l .sender) (l .message)) k i (λ s. t .took) (λ e s.
+            took-later i (at v bad h input (r .after)) (at v bad h input (t .after)) (t .counts i) (l .sender) (l .message) (r .took i (below k i n e) s));
         fewer = omega (arith, r .fewer, t .fewer);
       }
 
@@ -144,7 +144,7 @@ module _ (v : Instance) (plan : Plan) (bad : Set) (f : Shared v plan) where
         fewer = r .fewer;
       }
 
-      to-all : Open v bad (at v bad h w) (l ∷ q) → ToAll w l q (v .n)
+      to-all : Open v bad (at v bad h input w) (l ∷ q) → ToAll w l q (v .n)
       to-all ready =
           over-sound v bad (ToAll w l q) (record { after = w; queue = q; open-still = ready; took = λ i n s. absurd (omega arith); fewer = omega arith }) faulty
           (λ k o r. one-more k r (take-one (r .after) l (r .queue) (r .open-still) k o)) (v .n) (omega arith)
@@ -170,11 +170,11 @@ module _ (v : Instance) (plan : Plan) (bad : Set) (f : Shared v plan) where
     -- ---- all letters
 
     -- each delivery takes one letter off, and what it makes could come before
-    pub delivered : (fuel : ℕ) (w : Way v bad h) (q : List Letter) → length q + leftOf (v .n) (at v bad h w) ≤ fuel → Open v bad (at v bad h w) q
-        → (later : Way v bad h) × Open v bad (at v bad h later) []
+    pub delivered : (fuel : ℕ) (w : Way v bad h input) (q : List Letter) → length q + leftOf (v .n) (at v bad h input w) ≤ fuel → Open v bad (at v bad h input w) q
+        → (later : Way v bad h input) × Open v bad (at v bad h input later) []
     delivered zero w [] n ready = (w, ready)
     delivered zero w (l ∷ q) n ready = absurd (omega arith)
     delivered (suc fuel) w [] n ready = (w, ready)
     delivered (suc fuel) w (l ∷ q) n ready =
         let r : ToAll w l q (v .n) = to-all w l q ready in
-        delivered fuel (r .after) (r .queue) (omega (arith, r .fewer)) (closed (at v bad h (r .after)) l (r .queue) (r .open-still) (λ i o. r .took i (o .0) o))
+        delivered fuel (r .after) (r .queue) (omega (arith, r .fewer)) (closed (at v bad h input (r .after)) l (r .queue) (r .open-still) (λ i o. r .took i (o .0) o))

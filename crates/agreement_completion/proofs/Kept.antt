@@ -87,7 +87,7 @@ abbrev pub Begun : History → ℕ → Type 0
 Begun h i = (x : ℕ) × (z : ℤ) × Started h i x z
 
 pub begun-later : (i : ℕ) (h later : History) → Counts i h later → Begun h i → Begun later i
-begun-later i h later k (x, z, (c, m, e)) = (x, z, (c, k c m, e))
+begun-later i h later k (x, z, (input, (c, m, e), voted)) = (x, z, (input, (c, k c m, e), voted))
 
 pub took-later : (i : ℕ) (h later : History) → Counts i h later → (j : ℕ) (m : Message) → Took h i j m → Took later i j m
 took-later i h later k j m (c, x, e) = (c, k c x, e)

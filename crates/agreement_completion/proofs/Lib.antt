@@ -1,6 +1,7 @@
 pub mod Boards
 pub mod Posted
 pub mod Kept
+pub mod Keeping
 pub mod Ways
 pub mod Calls
 pub mod Serving

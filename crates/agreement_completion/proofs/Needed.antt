@@ -1,4 +1,4 @@
--- What completion cannot do without: further steps, and restores among them.
+-- What completion cannot do without: further steps, and starts and restores among them.
 use mathlib.Core.Path.{_≡_, refl, sym, ap, _∙_, subst}
 use mathlib.Core.Logic.{_⊎_, inl, inr}
 use mathlib.Core.Bool.{Bool, true, false}
@@ -9,9 +9,9 @@ use lib.Dec.{T}
 use Rattle.base.specs.Sets.{Set}
 use Rattle.plan.specs.Plan.{Plan}
 use Rattle.board_calls.specs.Calls.{SetUp}
-use Rattle.agreement.specs.History.{Instance, Call, set-up, start, take-message, read-answer, restore, Step, calls, hands, cut, whose, History, Stage, running, down, Counted, Board, unborn, afterSetUp, keptCalls, afterCut, boardAfter}
+use Rattle.agreement.specs.History.{Instance, StartInput, Call, set-up, start, take-message, read-answer, read-count, restore, Step, calls, hands, cut, whose, History, Stage, running, down, Counted, Board, unborn, afterSetUp, keptCalls, afterCut, boardAfter}
 use Rattle.agreement.specs.Allowed.{Sound, Refuses, Accepts, May, Allowed}
-use Rattle.agreement.specs.Demand.{Complete, Shared}
+use Rattle.agreement.specs.Demand.{StartedBy, Complete, Shared}
 use Rattle.agreement.proofs.Tied.{newBoard, set-up-found}
 use Rattle.agreement.proofs.Steps.{own, other, refused-nothing}
 use Rattle.agreement_completion.proofs.Boards.{down-waiting, down-running, either}
@@ -19,7 +19,15 @@ use Rattle.agreement_completion.proofs.Boards.{down-waiting, down-runni
 -- at first no board has started
 pub not-at-once : (v : Instance) (bad : Set) (i : ℕ) → Sound v bad i → Complete v bad [] → ⊥
 unfolding boardAfter
-not-at-once v bad i o c = List·Memᴰ·not-nil (c .started i o .2 .1)
+not-at-once v bad i o c = List·Memᴰ·not-nil (c .started i o .2 .1 .1)
+
+-- so some start is not among those before
+pub start-needed : (v : Instance) (bad : Set) (i : ℕ) → Sound v bad i → (more : History) → Complete v bad (more ++ [])
+    → ((j x : ℕ) (input : StartInput) → StartedBy (more ++ []) j x input → StartedBy [] j x input) → ⊥
+unfolding boardAfter
+start-needed v bad i o more c before =
+    let (x, z, (input, s, voted)) = c .started i o in
+    List·Memᴰ·not-nil (before i x input s .1)
 
 -- no step is a restore
 abbrev otherCall : Call → Bool
@@ -27,6 +35,7 @@ otherCall (set-up n t own agreement plan) = true
 otherCall (start p input lent used) = true
 otherCall (take-message p sender bytes lent used) = true
 otherCall (read-answer p) = true
+otherCall (read-count p g c) = true
 otherCall (restore n t own agreement plan lent) = false
 
 abbrev pub otherStep : Step → Bool
@@ -50,6 +59,7 @@ module _ (v : Instance) (bad : Set) where
   by-call i h (start p input lent used) no-restore w x = down-running (boardAfter h i .stage) (w .stage) (x .up)
   by-call i h (take-message p sender bytes lent used) no-restore w x = down-running (boardAfter h i .stage) (w .stage) (x .0 .up)
   by-call i h (read-answer p) no-restore w x = down-running (boardAfter h i .stage) (w .stage) (x .0)
+  by-call i h (read-count p g c) no-restore w x = down-running (boardAfter h i .stage) (w .stage) (x .0)
   by-call i h (restore n t seat agreement plan lent) no-restore w x = no-restore
 
   by-own : (s : Step) (h : History) → T (otherStep s) → May v bad s h → Idle (boardAfter h (whose s)) → Idle (boardAfter (s ∷ h) (whose s))
@@ -97,5 +107,5 @@ restore-needed v plan bad f i o = (cut i 0 ∷ h, ((o, low), ((o, inr (refl, rec
 
     never : (more : History) → NoRestore more → Allowed v bad (more ++ (cut i 0 ∷ h)) → Complete v bad (more ++ (cut i 0 ∷ h)) → ⊥
     never more x a c =
-        let (y, z, (d, m, e)) = c .started i o in
+        let (y, z, (input, (d, m, e), voted)) = c .started i o in
         List·Memᴰ·not-nil (subst (λ (cs : List Counted). List·Memᴰ d cs) (stays-idle v bad more (cut i 0 ∷ h) i x a idle .counted) m)

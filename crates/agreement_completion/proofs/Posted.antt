@@ -16,7 +16,7 @@ use Rattle.board_calls.specs.declared.Answer.{Answer}
 use Rattle.board_calls.specs.Answers.{positionOf}
 use Rattle.board_calls.specs.Calls.{SetUp, Entry, again, fresh, setUpOf, answeredOf}
 use Rattle.board_calls.specs.Restore.{Replay}
-use Rattle.agreement.specs.History.{Instance, Lent, Call, set-up, start, take-message, read-answer, restore, startFinds, takeFinds, restoreFinds, Step, calls, hands, cut, whose, History, Stage, waiting, running, down, Act, a-start, a-take, Board, afterSetUp, afterAnswer, afterRestore, afterCut, boardAfter}
+use Rattle.agreement.specs.History.{Instance, Lent, votedInput, Call, set-up, start, take-message, read-answer, read-count, restore, startFinds, takeFinds, restoreFinds, readAsCount, Step, calls, hands, cut, whose, History, Stage, waiting, running, down, Act, a-start, a-take, Board, afterSetUp, afterAnswer, afterRestore, afterCut, boardAfter}
 use Rattle.agreement.specs.Allowed.{Refuses, Ours, Lendable, Accepts, Allowed}
 use Rattle.agreement.specs.Demand.{Shared}
 use Rattle.agreement.proofs.Restored.{lendable-begins, livedReplay, restored-found}
@@ -92,14 +92,16 @@ module _ (v : Instance) (plan : Plan) (bad : Set) (f : Shared v plan) where
   by-call : (h : History) (i : ℕ) (c : Call) → Allowed v bad (calls i c ∷ h) → Accepts v bad i h (boardAfter h i) c → Posts i (boardAfter h i)
       → Posts i (boardAfter (calls i c ∷ h) i)
   by-call h i (set-up n t seat agreement bytes) al (e, s) x = by-set-up h i (al .0 .0 .0) n t seat agreement bytes s
-  by-call h i (start p z lent used) al c x =
-      by-entry (calls i (start p z lent used)) h i (a-start (positionOf (p .plan) z) z) (startFinds p z lent used) (start-board v plan bad f h i p lent used z c)
-      (start-makes v plan bad f h i p lent used z al) x
+  by-call h i (start p input lent used) al c x =
+      by-entry (calls i (start p input lent used)) h i (a-start (positionOf (p .plan) (votedInput input)) input) (startFinds p input lent used)
+      (start-board v plan bad f h i p lent used input c) (start-makes v plan bad f h i p lent used input al) x
   by-call h i (take-message p j bytes lent used) al (c, from) x =
       by-entry (calls i (take-message p j bytes lent used)) h i (a-take j (exactMessage bytes)) (takeFinds p j bytes lent used)
       (take-board v plan bad f h i p lent used j bytes c) (take-makes v plan bad f h i p lent used j bytes al) x
   by-call h i (read-answer p) al c x =
       subst (Posts i) (sym (own (calls i (read-answer p)) h)) (by-answer i (boardAfter h i) (answeredOf p .answer) x)
+  by-call h i (read-count p g d) al c x =
+      subst (Posts i) (sym (own (calls i (read-count p g d)) h)) (by-answer i (boardAfter h i) (readAsCount p g d .answer) x)
   by-call h i (restore n t seat agreement bytes lent) al (e, s, given) x = by-restore h i n t seat agreement bytes lent al (al .0 .0 .0) s given x
 
   by-own : (s : Step) (h : History) → Allowed v bad (s ∷ h) → Posts (whose s) (boardAfter h (whose s)) → Posts (whose s) (boardAfter (s ∷ h) (whose s))

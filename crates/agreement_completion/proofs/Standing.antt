@@ -8,7 +8,7 @@ use Rattle.base.specs.Sets.{Set}
 use Rattle.base.specs.Limits.{outgoingSize}
 use Rattle.plan.specs.Plan.{Plan}
 use Rattle.board_calls.specs.Calls.{SetUp}
-use Rattle.agreement.specs.History.{Instance, Lent, Call, set-up, restore, calls, History, waiting, running, down, Board, afterSetUp, afterRestore, boardAfter}
+use Rattle.agreement.specs.History.{Instance, Lent, StartInput, Call, set-up, restore, calls, History, waiting, running, down, Board, afterSetUp, afterRestore, boardAfter}
 use Rattle.agreement.specs.Allowed.{Sound, Ours, May, Allowed}
 use Rattle.agreement.specs.Demand.{Shared}
 use Rattle.agreement.proofs.Tied.{set-up-found}
@@ -16,9 +16,11 @@ use Rattle.agreement.proofs.Steps.{own}
 use Rattle.agreement.proofs.Accepted.{restore-accepted}
 use Rattle.agreement_completion.specs.Statement.{Orderly}
 use Rattle.agreement_completion.proofs.Boards.{down-waiting}
+use Rattle.agreement_completion.proofs.Keeping.{Keeping}
 
 pub record Ready (v : Instance) (bad : Set) (h : History) (i : ℕ) : Type 0 where
   pub call : Call
+  pub keeping : (input : StartInput) → Keeping input (calls i call)
   pub order : Orderly v bad (calls i call) h
   pub may : May v bad (calls i call) h
   pub stage : boardAfter (calls i call ∷ h) i .stage ≡ running
@@ -30,6 +32,7 @@ module _ (v : Instance) (plan : Plan) (bad : Set) (f : Shared v plan) (h : Histo
   pub by-set-up : boardAfter h i .stage ≡ waiting → Ready v bad h i
   by-set-up e = record {
     call = set-up (v .n) (v .t) i (v .agreement) (v .plan);
+    keeping = λ input. tt;
     order = e;
     may = (o, inr (e, ours));
     stage =
@@ -41,6 +44,7 @@ module _ (v : Instance) (plan : Plan) (bad : Set) (f : Shared v plan) (h : Histo
   pub by-restore : boardAfter h i .stage ≡ down → Ready v bad h i
   by-restore e = record {
     call = restore (v .n) (v .t) i (v .agreement) (v .plan) lent;
+    keeping = λ input. tt;
     order = e;
     may = (o, inr (down-waiting (boardAfter h i .stage) e, ours, inl refl));
     stage =

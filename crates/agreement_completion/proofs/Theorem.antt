@@ -7,18 +7,26 @@ use native.Mathlib.Omega.{arith}
 use lib.ListN.{length}
 use Rattle.base.specs.Sets.{Set}
 use Rattle.plan.specs.Plan.{Plan}
+use Rattle.plan.specs.Positions.{readingOf}
+use Rattle.plan_laws.proofs.Shape.{shape}
 use Rattle.message.specs.declared.Message.{Message}
 use Rattle.message.specs.declared.Exactly.{Exactly}
 use Rattle.message.specs.Message.{messageBytes}
 use Rattle.message.specs.Reading.{exactMessage}
-use Rattle.agreement.specs.History.{Instance, History, boardAfter}
+use Rattle.level.specs.Level.{noOutput}
+use Rattle.board_calls.specs.Answers.{positionOf}
+use Rattle.board_laws.proofs.Inputs.{reading-position}
+use Rattle.agreement.specs.History.{Instance, StartInput, plain, History, boardAfter}
 use Rattle.agreement.specs.Allowed.{Sound, Allowed}
+use Rattle.agreement.specs.Starts.{Startable}
 use Rattle.agreement.specs.Demand.{Took, Made, Complete, Shared, Premises}
+use Rattle.agreement.proofs.Tied.{plan-valid}
 use Rattle.agreement.proofs.Words.{made-records, handed-made}
 use Rattle.agreement.proofs.Since.{since-handed}
 use Rattle.agreement.proofs.Theorem.{demand3}
-use Rattle.agreement_completion.specs.Statement.{Completed, Completes, ComesThrough}
+use Rattle.agreement_completion.specs.Statement.{Completed, Completes, CompletedWith, CompletesWith, ComesThrough}
 use Rattle.agreement_completion.proofs.Boards.{either, below, sound-below, over-sound}
+use Rattle.agreement_completion.proofs.Keeping.{starts-before}
 use Rattle.agreement_completion.proofs.Ways.{Way, at}
 use Rattle.agreement_completion.proofs.Posted.{running-posted}
 use Rattle.agreement_completion.proofs.Rising.{AllUp, all-up}
@@ -82,12 +90,12 @@ module _ (v : Instance) (plan : Plan) (bad : Set) (f : Shared v plan) where
           let same : n ≡ m = cc in
           subst (Took h i j) same (of i j n (w .waits i j n o p (posted j n p x)))
 
-  module _ (h : History) (a : Allowed v bad h) where
-    ready : AllUp v plan bad f h (v .n)
-    ready = all-up v plan bad f h a
+  module _ (h : History) (input : StartInput) (on : Startable plan input) (a : Allowed v bad h) where
+    ready : AllUp v plan bad f h input on (v .n)
+    ready = all-up v plan bad f h input on a
 
     abbrev now : History
-    now = at v bad h (ready .way)
+    now = at v bad h input (ready .way)
 
     waiting-letters : Letters v bad now (v .n)
     waiting-letters = all-letters v bad now
@@ -100,19 +108,29 @@ module _ (v : Instance) (plan : Plan) (bad : Set) (f : Shared v plan) where
       given = waiting-letters .good;
     }
 
-    ends : (later : Way v bad h) × Open v bad (at v bad h later) []
-    ends = delivered v plan bad f h (length (waiting-letters .letters) + leftOf (v .n) now) (ready .way) (waiting-letters .letters) (omega arith) open-first
+    ends : (later : Way v bad h input) × Open v bad (at v bad h input later) []
+    ends = delivered v plan bad f h input (length (waiting-letters .letters) + leftOf (v .n) now) (ready .way) (waiting-letters .letters) (omega arith) open-first
 
-    completed : Completed v bad h
+    completed : CompletedWith v bad h input
     completed = record {
-      more = ends .0 .more;
-      order = ends .0 .order;
-      allowed = ends .0 .allowed;
-      complete = nothing-waits (at v bad h (ends .0)) (ends .0 .allowed) (ends .1);
+      completed = record {
+        more = ends .0 .more;
+        order = ends .0 .order;
+        allowed = ends .0 .allowed;
+        complete = nothing-waits (at v bad h input (ends .0)) (ends .0 .allowed) (ends .1);
+      };
+      starts = starts-before input (ends .0 .more) h (ends .0 .keeping);
     }
 
+pub completes-with : CompletesWith
+completes-with v plan bad h input f on a = completed v plan bad f h input on a
+
+-- with the input of position 0, which every plan has
 pub completes : Completes
-completes v plan bad h f a = completed v plan bad f h a
+completes v plan bad h f a = completes-with v plan bad h (plain (readingOf plan 0)) f on a .completed
+  where
+    on : positionOf plan (readingOf plan 0) ≡ noOutput → ⊥
+    on e = let z : positionOf plan (readingOf plan 0) ≡ 0 = reading-position plan 0 (shape plan (plan-valid v plan f 0 (omega (arith, f .faults))) .some) in omega arith
 
 pub comes-through : ComesThrough
 comes-through v plan bad h given =

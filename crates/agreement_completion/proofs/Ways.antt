@@ -6,45 +6,47 @@ use Prim.Native.Nat.{ℕ}
 use Rattle.base.specs.Sets.{Set}
 use Rattle.message.specs.declared.Message.{Message}
 use Rattle.message.specs.Message.{messageBytes}
-use Rattle.agreement.specs.History.{Instance, Step, hands, History, running, boardAfter}
+use Rattle.agreement.specs.History.{Instance, StartInput, Step, hands, History, running, boardAfter}
 use Rattle.agreement.specs.Allowed.{Sound, May, Allowed}
 use Rattle.agreement.specs.Demand.{HandedSince}
 use Rattle.agreement.proofs.Since.{since-now}
 use Rattle.agreement_completion.specs.Statement.{Orderly, InOrder}
 use Rattle.agreement_completion.proofs.Kept.{Kept, kept-refl, kept-trans, kept-hand}
+use Rattle.agreement_completion.proofs.Keeping.{Keeping, KeepingAll}
 
--- steps after the history h
-pub record Way (v : Instance) (bad : Set) (h : History) : Type 0 where
+-- steps after the history h, with no start but with this input
+pub record Way (v : Instance) (bad : Set) (h : History) (input : StartInput) : Type 0 where
   pub more : History
   pub order : InOrder v bad h more
   pub allowed : Allowed v bad (more ++ h)
+  pub keeping : KeepingAll input more
 
-module _ (v : Instance) (bad : Set) (h : History) where
+module _ (v : Instance) (bad : Set) (h : History) (input : StartInput) where
   -- the history with them
-  abbrev pub at : Way v bad h → History
+  abbrev pub at : Way v bad h input → History
   at w = w .more ++ h
 
   -- none
-  abbrev pub none : Allowed v bad h → Way v bad h
-  none a = record { more = []; order = tt; allowed = a }
+  abbrev pub none : Allowed v bad h → Way v bad h input
+  none a = record { more = []; order = tt; allowed = a; keeping = tt }
 
   -- one step further
-  abbrev pub further : (w : Way v bad h) (s : Step) → Orderly v bad s (at w) → May v bad s (at w) → Way v bad h
-  further w s o m = record { more = s ∷ w .more; order = (o, w .order); allowed = (m, w .allowed) }
+  abbrev pub further : (w : Way v bad h input) (s : Step) → Keeping input s → Orderly v bad s (at w) → May v bad s (at w) → Way v bad h input
+  further w s k o m = record { more = s ∷ w .more; order = (o, w .order); allowed = (m, w .allowed); keeping = (k, w .keeping) }
 
   -- board i hands the messages ms over, and that changes no board
-  pub record HandsOver (w : Way v bad h) (i : ℕ) (ms : List Message) : Type 0 where
-    pub after : Way v bad h
+  pub record HandsOver (w : Way v bad h input) (i : ℕ) (ms : List Message) : Type 0 where
+    pub after : Way v bad h input
     pub kept : (j : ℕ) → Kept j (at w) (at after)
     pub given : (m : Message) → List·Memᴰ m ms → HandedSince i (messageBytes m) (at after)
 
-  pub hands-over : (w : Way v bad h) (i : ℕ) → Sound v bad i → boardAfter (at w) i .stage ≡ running → (ms : List Message)
+  pub hands-over : (w : Way v bad h input) (i : ℕ) → Sound v bad i → boardAfter (at w) i .stage ≡ running → (ms : List Message)
       → ((m : Message) → List·Memᴰ m ms → List·Memᴰ m (boardAfter (at w) i .outbox)) → HandsOver w i ms
   hands-over w i o up [] posted = record { after = w; kept = λ j. kept-refl j (at w); given = λ m x. absurd (List·Memᴰ·not-nil x) }
   hands-over w i o up (m ∷ ms) posted = go (hands-over w1 i o (first i .board .stage ∙ up) ms still)
     where
-      w1 : Way v bad h
-      w1 = further w (hands i (messageBytes m)) tt (o, up, (m, refl, posted m (List·Memᴰ·head refl)))
+      w1 : Way v bad h input
+      w1 = further w (hands i (messageBytes m)) tt tt (o, up, (m, refl, posted m (List·Memᴰ·head refl)))
 
       first : (j : ℕ) → Kept j (at w) (at w1)
       first j = kept-hand i (messageBytes m) (at w) j

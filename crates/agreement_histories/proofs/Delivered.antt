@@ -21,9 +21,9 @@ use Rattle.message.specs.Message.{messageBytes, inTable}
 use Rattle.message.specs.Reading.{exactMessage}
 use Rattle.message.proofs.RoundTrip.{exact-message-read}
 use Rattle.board_calls.specs.declared.Answer.{Answer}
-use Rattle.agreement.specs.History.{Instance, History, Act, a-start, a-take, Counted, Board, boardAfter}
+use Rattle.agreement.specs.History.{Instance, StartInput, votedInput, History, Act, a-start, a-take, Counted, Board, boardAfter}
 use Rattle.agreement.specs.Allowed.{Sound}
-use Rattle.agreement.specs.Demand.{Started, Took, Made, HandedSince, Complete}
+use Rattle.agreement.specs.Demand.{StartedBy, Started, Took, Made, HandedSince, Complete}
 use Rattle.agreement_histories.specs.Scripts.{Action, historyOf, Concludes}
 use Rattle.agreement_histories.proofs.Worlds.{Handing, World, boardOf, beginning, same, sentBy, sound}
 use Rattle.agreement_histories.proofs.Tests.{same→, sentBy→, →sound}
@@ -35,18 +35,18 @@ use Rattle.agreement_histories.proofs.Delivery.{startOf, startsIn, hasS
 
 -- it has a call of a start at x, with some input
 abbrev Starts : ℕ → List Counted → Type 0
-Starts x cs = (z : ℤ) × ((c : Counted) × List·Memᴰ c cs × (c .act ≡ a-start x z))
+Starts x cs = (input : StartInput) × ((c : Counted) × List·Memᴰ c cs × (c .act ≡ a-start x input))
 
-pub in-starts : (x : ℕ) (z : ℤ) (c : Counted) (cs : List Counted) → List·Memᴰ c cs → c .act ≡ a-start x z → List·Memᴰ x (startsIn cs)
+pub in-starts : (x : ℕ) (input : StartInput) (c : Counted) (cs : List Counted) → List·Memᴰ c cs → c .act ≡ a-start x input → List·Memᴰ x (startsIn cs)
 unfolding startsIn
-in-starts x z c [] h e = absurd (List·Memᴰ·not-nil h)
-in-starts x z c (d ∷ cs) h e = go (in-starts x z c cs) (List·Memᴰ·cases-cons h)
+in-starts x input c [] h e = absurd (List·Memᴰ·not-nil h)
+in-starts x input c (d ∷ cs) h e = go (in-starts x input c cs) (List·Memᴰ·cases-cons h)
   where
     later : (a : Act) → List·Memᴰ x (startsIn cs) → List·Memᴰ x (startOf a (startsIn cs))
     later (a-start y w) n = List·Memᴰ·tail n
     later (a-take s r) n = n
 
-    go : (List·Memᴰ c cs → c .act ≡ a-start x z → List·Memᴰ x (startsIn cs)) → (c ≡ d) ⊎ List·Memᴰ c cs → List·Memᴰ x (startOf (d .act) (startsIn cs))
+    go : (List·Memᴰ c cs → c .act ≡ a-start x input → List·Memᴰ x (startsIn cs)) → (c ≡ d) ⊎ List·Memᴰ c cs → List·Memᴰ x (startOf (d .act) (startsIn cs))
     go below (inl i) = subst (λ (a : Act). List·Memᴰ x (startOf a (startsIn cs))) (sym e ∙ ap (λ (y : Counted). y .act) i) (List·Memᴰ·head refl)
     go below (inr n) = later (d .act) (below n e)
 
@@ -58,12 +58,12 @@ starts-in x (c ∷ cs) h = go (starts-in x cs) (c .act) refl h
     later : Starts x cs → Starts x (c ∷ cs)
     later k = (k .0, (k .1 .0, List·Memᴰ·tail (k .1 .1), k .1 .2))
 
-    first : (List·Memᴰ x (startsIn cs) → Starts x cs) → (y : ℕ) (z : ℤ) → c .act ≡ a-start y z → (x ≡ y) ⊎ List·Memᴰ x (startsIn cs) → Starts x (c ∷ cs)
-    first below y z e (inl i) = (z, (c, List·Memᴰ·head refl, e ∙ ap (λ (k : ℕ). a-start k z) (sym i)))
-    first below y z e (inr n) = later (below n)
+    first : (List·Memᴰ x (startsIn cs) → Starts x cs) → (y : ℕ) (input : StartInput) → c .act ≡ a-start y input → (x ≡ y) ⊎ List·Memᴰ x (startsIn cs) → Starts x (c ∷ cs)
+    first below y input e (inl i) = (input, (c, List·Memᴰ·head refl, e ∙ ap (λ (k : ℕ). a-start k input) (sym i)))
+    first below y input e (inr n) = later (below n)
 
     go : (List·Memᴰ x (startsIn cs) → Starts x cs) → (a : Act) → c .act ≡ a → List·Memᴰ x (startOf a (startsIn cs)) → Starts x (c ∷ cs)
-    go below (a-start y z) e n = first below y z e (List·Memᴰ·cases-cons n)
+    go below (a-start y input) e n = first below y input e (List·Memᴰ·cases-cons n)
     go below (a-take s r) e n = later (below n)
 
 hasStart→ : (cs : List Counted) → T (hasStart cs) → (x : ℕ) × Starts x cs
@@ -74,7 +74,7 @@ hasStart→ cs h = go (startsIn cs) refl h
     go (x ∷ l) e k = (x, starts-in x cs (subst (λ (s : List ℕ). List·Memᴰ x s) (sym e) (List·Memᴰ·head refl)))
 
 isTaken→ : (j : ℕ) (m : Message) (a : Act) → T (isTaken j m a) → a ≡ a-take j (Exactly.One m)
-isTaken→ j m (a-start x z) h = absurd h
+isTaken→ j m (a-start x input) h = absurd h
 isTaken→ j m (a-take s (Exactly.One y)) h =
     sym (ap₂ (λ (k : ℕ) (n : Message). a-take k (Exactly.One n)) (eqb→eq j s (T-left (eqb j s) (same m y) h)) (same→ m y (T-right (eqb j s) (same m y) h)))
 isTaken→ j m (a-take s (Exactly.Broken fault at)) h = absurd h
@@ -144,7 +144,7 @@ module _ (v : Instance) (bad : Set) (w : World) (h : History) (s : Shows v w h) 
     board-started : (x : ℕ) × (z : ℤ) × Started h i x z
     board-started =
         let k = hasStart→ cs (T-left (hasStart cs) (allSent i (allMade cs) (w .since) && allTaken v bad cs (w .since)) (at-board i o)) in
-        (k .0, k .1 .0, k .1 .1)
+        (k .0, votedInput (k .1 .0), (k .1 .0, k .1 .1, refl))
 
     board-handed : (m : Message) → Made h i m → HandedSince i (messageBytes m) h
     board-handed m k =
@@ -186,12 +186,15 @@ module _ (v : Instance) (bad : Set) (script : List Action) (f : passes v bad scr
 
     -- board i started at x, and nowhere else
     module _ (x : ℕ) (e : startsIn counted ≡ x ∷ []) where
+      pub started-by : (input : StartInput) × StartedBy (historyOf v script) i x input
+      started-by = starts-in x (boardAfter h i .counted) (subst (λ (l : List Counted). List·Memᴰ x (startsIn l)) same-calls (subst (λ (l : List ℕ). List·Memᴰ x l) (sym e) (List·Memᴰ·head refl)))
+
       pub started : (z : ℤ) × Started (historyOf v script) i x z
-      started = starts-in x (boardAfter h i .counted) (subst (λ (l : List Counted). List·Memᴰ x (startsIn l)) same-calls (subst (λ (l : List ℕ). List·Memᴰ x l) (sym e) (List·Memᴰ·head refl)))
+      started = (votedInput (started-by .0), (started-by .0, started-by .1, refl))
 
       pub only-there : (y : ℕ) (z : ℤ) → Started (historyOf v script) i y z → y ≡ x
-      only-there y z (c, m, k) =
-          List·Memᴰ·eq-of-singleton (subst (λ (l : List ℕ). List·Memᴰ y l) e (subst (λ (l : List Counted). List·Memᴰ y (startsIn l)) (sym same-calls) (in-starts y z c (boardAfter h i .counted) m k)))
+      only-there y z (input, (c, m, k), voted) =
+          List·Memᴰ·eq-of-singleton (subst (λ (l : List ℕ). List·Memᴰ y l) e (subst (λ (l : List Counted). List·Memᴰ y (startsIn l)) (sym same-calls) (in-starts y input c (boardAfter h i .counted) m k)))
 
     -- board i took m from board j
     pub took : (j : ℕ) (m : Message) → hasTaken j m counted ≡ true → Took (historyOf v script) i j m

@@ -20,7 +20,7 @@ use Rattle.agreement_histories.proofs.Passing.{listed, answerIn}
 
 -- the positions at which it was started
 abbrev pub startOf : Act → List ℕ → List ℕ
-startOf (a-start x z) l = x ∷ l
+startOf (a-start x input) l = x ∷ l
 startOf (a-take s e) l = l
 
 unfoldable pub startsIn : List Counted → List ℕ
@@ -32,7 +32,7 @@ hasStart cs = ltb 0 (length (startsIn cs))
 
 -- it took m from board j
 abbrev pub isTaken : ℕ → Message → Act → Bool
-isTaken j m (a-start x z) = false
+isTaken j m (a-start x input) = false
 isTaken j m (a-take s (Exactly.One y)) = eqb j s && same m y
 isTaken j m (a-take s (Exactly.Broken fault at)) = false
 

@@ -14,7 +14,7 @@ use Rattle.agreement.specs.History.{Instance, Step, calls, hands, cut, whose, H
 use Rattle.agreement.specs.Allowed.{Handed}
 use Rattle.agreement.specs.Demand.{isRestoreOf, sinceRestore, HandedSince}
 use Rattle.agreement.proofs.Since.{restore-own, since-later}
-use Rattle.agreement_histories.specs.Scripts.{Action, sets-up, starts, takes, reads, sends, cuts, restores, restores-torn, tries, actor, stepOf}
+use Rattle.agreement_histories.specs.Scripts.{Action, sets-up, starts, starts-count, takes, reads, reads-count, sends, cuts, restores, restores-torn, tries, actor, stepOf}
 use Rattle.agreement_histories.proofs.Worlds.{Handing, sentWith, notBy, sinceWith}
 
 -- an entry of the list says that board i handed these bytes over
@@ -25,8 +25,10 @@ Known l i bytes = (x : Handing) × List·Memᴰ x l × (i ≡ x .by) × (bytes �
 pub whose-action : (v : Instance) (b : Board) (a : Action) → whose (stepOf v b a) ≡ actor a
 whose-action v b (sets-up j) = refl
 whose-action v b (starts j z) = refl
+whose-action v b (starts-count j g c) = refl
 whose-action v b (takes j s m) = refl
 whose-action v b (reads j) = refl
+whose-action v b (reads-count j g c) = refl
 whose-action v b (sends j m) = refl
 whose-action v b (cuts j k) = refl
 whose-action v b (restores j) = refl
@@ -57,8 +59,10 @@ module _ (v : Instance) (l : List Handing) (h : History) (b : Board) (i : ℕ) w
       → (a : Action) → List·Memᴰ (record { by = i; message = m }) (sentWith l a) → Handed i (messageBytes m) (stepOf v b a ∷ h)
   handed-more m f (sets-up j) x = List·Memᴰ·tail (f x)
   handed-more m f (starts j z) x = List·Memᴰ·tail (f x)
+  handed-more m f (starts-count j g c) x = List·Memᴰ·tail (f x)
   handed-more m f (takes j s y) x = List·Memᴰ·tail (f x)
   handed-more m f (reads j) x = List·Memᴰ·tail (f x)
+  handed-more m f (reads-count j g c) x = List·Memᴰ·tail (f x)
   handed-more m f (sends j y) x = go (List·Memᴰ·cases-cons x)
     where
       go : (_≡_ {A = Handing} (record { by = i; message = m }) (record { by = j; message = y })) ⊎ List·Memᴰ (record { by = i; message = m }) l
@@ -78,8 +82,10 @@ module _ (v : Instance) (l : List Handing) (h : History) (b : Board) (i : ℕ) w
     pub known-more : (a : Action) → Handed i bytes (stepOf v b a ∷ h) → Known (sentWith l a) i bytes
     known-more (sets-up j) x = known-still (stepOf v b (sets-up j)) tt (List·Memᴰ·cases-cons x)
     known-more (starts j z) x = known-still (stepOf v b (starts j z)) tt (List·Memᴰ·cases-cons x)
+    known-more (starts-count j g c) x = known-still (stepOf v b (starts-count j g c)) tt (List·Memᴰ·cases-cons x)
     known-more (takes j s y) x = known-still (stepOf v b (takes j s y)) tt (List·Memᴰ·cases-cons x)
     known-more (reads j) x = known-still (stepOf v b (reads j)) tt (List·Memᴰ·cases-cons x)
+    known-more (reads-count j g c) x = known-still (stepOf v b (reads-count j g c)) tt (List·Memᴰ·cases-cons x)
     known-more (sends j y) x = go (List·Memᴰ·cases-cons x)
       where
         new : Handing

@@ -22,7 +22,7 @@ use Rattle.board_calls.specs.Calls.{answeredOf}
 use Rattle.agreement.specs.History.{Instance, History, Board, boardAfter}
 use Rattle.agreement.specs.Allowed.{Sound, Handed, Continues, Ours, TornAfter, May, Allowed}
 use Rattle.agreement.specs.Demand.{partyBy, answerNow, Shared, Premises}
-use Rattle.agreement_histories.specs.Scripts.{Action, sets-up, starts, takes, reads, sends, cuts, restores, restores-torn, tries, actor, lent, stepOf, followed, historyOf, RefusedIn, Refusing}
+use Rattle.agreement_histories.specs.Scripts.{Action, sets-up, starts, starts-count, takes, reads, reads-count, sends, cuts, restores, restores-torn, tries, actor, lent, stepOf, followed, historyOf, RefusedIn, Refusing}
 use Rattle.agreement_histories.proofs.Worlds.{World, boardOf, beginning, acted, worldAfter, same, among, sentBy, sound, isWaiting, isRunning, tornBehind, fitsBoard, fits, allFit}
 use Rattle.agreement_histories.proofs.Tests.{among→, sentBy→, sound→, →sound, waiting→, running→, not-waiting→, torn-behind→, isRefused→}
 use Rattle.agreement_histories.proofs.Shows.{Shows, shows-beginning, shows-action}
@@ -39,6 +39,7 @@ module _ (v : Instance) (bad : Set) (w : World) (h : History) (s : Shows v w h) 
   may-board : (b : Board) (a : Action) → b ≡ boardAfter h (actor a) → Sound v bad (actor a) → T (fitsBoard v bad (w .sent) b a) → May v bad (stepOf v b a) h
   may-board b (sets-up i) e o f = (o, inr (ap (λ (c : Board). c .stage) (sym e) ∙ waiting→ (b .stage) f, ours v i))
   may-board b (starts i z) e o f = (o, inr (subst (λ (c : Board). Continues c (b .party) (lent (b .journal)) (length (b .journal))) e (continues b f)))
+  may-board b (starts-count i g c) e o f = (o, inr (subst (λ (c : Board). Continues c (b .party) (lent (b .journal)) (length (b .journal))) e (continues b f)))
   may-board b (takes i j m) e o f = (
     o,
     inr (
@@ -57,6 +58,7 @@ module _ (v : Instance) (bad : Set) (w : World) (h : History) (s : Shows v w h) 
       go k (inl d) = absurd (T-not (sound v bad j) d (→sound v bad j k))
       go k (inr t) = s .handed j m (sentBy→ j m (w .sent) t)
   may-board b (reads i) e o f = (o, inr (ap (λ (c : Board). c .stage) (sym e) ∙ running→ (b .stage) f, ap (λ (c : Board). c .party) e))
+  may-board b (reads-count i g c) e o f = (o, inr (ap (λ (c : Board). c .stage) (sym e) ∙ running→ (b .stage) f, ap (λ (c : Board). c .party) e))
   may-board b (sends i m) e o f = (
     o,
     ap (λ (c : Board). c .stage) (sym e) ∙ running→ (b .stage) (T-left (isRunning (b .stage)) (among m (b .outbox)) f),
@@ -85,8 +87,10 @@ module _ (v : Instance) (bad : Set) (w : World) (h : History) (s : Shows v w h) 
   refused-in : (b : Board) (a : Action) → T (fitsBoard v bad (w .sent) b a) → RefusedIn b a
   refused-in b (sets-up i) f = tt
   refused-in b (starts i z) f = tt
+  refused-in b (starts-count i g c) f = tt
   refused-in b (takes i j m) f = tt
   refused-in b (reads i) f = tt
+  refused-in b (reads-count i g c) f = tt
   refused-in b (sends i m) f = tt
   refused-in b (cuts i k) f = tt
   refused-in b (restores i) f = tt

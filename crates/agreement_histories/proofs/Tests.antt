@@ -19,7 +19,7 @@ use Rattle.journal.specs.declared.RecordRead.{RecordRead}
 use Rattle.journal.specs.Reading.{recordAt, recordsIn}
 use Rattle.journal.specs.Records.{journalBytes}
 use Rattle.board_calls.specs.Calls.{setUpOf, answeredOf}
-use Rattle.agreement.specs.History.{Instance, Call, set-up, start, take-message, read-answer, restore, startFinds, takeFinds, restoreFinds, Stage, waiting, running, down}
+use Rattle.agreement.specs.History.{Instance, Call, set-up, start, take-message, read-answer, read-count, restore, startFinds, takeFinds, restoreFinds, readAsCount, Stage, waiting, running, down}
 use Rattle.agreement.specs.Allowed.{Sound, RefusedBy, TornAfter}
 use Rattle.agreement_histories.specs.Scripts.{saying}
 use Rattle.agreement_histories.proofs.Worlds.{Handing, same, among, sentBy, sound, isWaiting, isRunning, refusal, notFound, isRefused, sameBytes, isTorn, tornBehind}
@@ -125,4 +125,5 @@ isRefused→ k (set-up n t own agreement plan) h = refusal→ k (setUpOf n t own
 isRefused→ k (start p input lent used) h = notFound→ k (startFinds p input lent used) h
 isRefused→ k (take-message p sender bytes lent used) h = notFound→ k (takeFinds p sender bytes lent used) h
 isRefused→ k (read-answer p) h = refusal→ k (answeredOf p .verdict) h
+isRefused→ k (read-count p g c) h = refusal→ k (readAsCount p g c .verdict) h
 isRefused→ k (restore n t own agreement plan lent) h = notFound→ k (restoreFinds n t own agreement plan lent) h

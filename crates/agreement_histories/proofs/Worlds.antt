@@ -15,9 +15,9 @@ use Rattle.journal.specs.declared.RecordRead.{RecordRead}
 use Rattle.journal.specs.Reading.{recordAt, recordsIn}
 use Rattle.journal.specs.Records.{journalBytes}
 use Rattle.board_calls.specs.Calls.{setUpOf, answeredOf}
-use Rattle.agreement.specs.History.{Instance, Call, set-up, start, take-message, read-answer, restore, startFinds, takeFinds, restoreFinds, Step, Stage, waiting, running, down, Board, unborn, afterOwn}
+use Rattle.agreement.specs.History.{Instance, Call, set-up, start, take-message, read-answer, read-count, restore, startFinds, takeFinds, restoreFinds, readAsCount, Step, Stage, waiting, running, down, Board, unborn, afterOwn}
 use Rattle.agreement.specs.Demand.{isRestoreOf}
-use Rattle.agreement_histories.specs.Scripts.{Action, sets-up, starts, takes, reads, sends, cuts, restores, restores-torn, tries, actor, stepOf}
+use Rattle.agreement_histories.specs.Scripts.{Action, sets-up, starts, starts-count, takes, reads, reads-count, sends, cuts, restores, restores-torn, tries, actor, stepOf}
 
 pub record Handing : Type 0 where
   pub by : ℕ
@@ -38,8 +38,10 @@ beginning v = record { boards = replicate (v .n) unborn; sent = []; since = [] }
 abbrev pub sentWith : List Handing → Action → List Handing
 sentWith l (sets-up i) = l
 sentWith l (starts i z) = l
+sentWith l (starts-count i g c) = l
 sentWith l (takes i s m) = l
 sentWith l (reads i) = l
+sentWith l (reads-count i g c) = l
 sentWith l (sends i m) = record { by = i; message = m } ∷ l
 sentWith l (cuts i k) = l
 sentWith l (restores i) = l
@@ -106,6 +108,7 @@ isRefused k (set-up n t own agreement plan) = refusal k (setUpOf n t own agreeme
 isRefused k (start p input lent used) = notFound k (startFinds p input lent used)
 isRefused k (take-message p sender bytes lent used) = notFound k (takeFinds p sender bytes lent used)
 isRefused k (read-answer p) = refusal k (answeredOf p .verdict)
+isRefused k (read-count p g c) = refusal k (readAsCount p g c .verdict)
 isRefused k (restore n t own agreement plan lent) = notFound k (restoreFinds n t own agreement plan lent)
 
 unfoldable pub sameBytes : List ℕ → List ℕ → Bool
@@ -126,8 +129,10 @@ tornBehind whole journal = sameBytes (take (length whole) journal) whole && isTo
 abbrev pub fitsBoard : Instance → Set → List Handing → Board → Action → Bool
 fitsBoard v bad l b (sets-up i) = isWaiting (b .stage)
 fitsBoard v bad l b (starts i z) = isRunning (b .stage)
+fitsBoard v bad l b (starts-count i g c) = isRunning (b .stage)
 fitsBoard v bad l b (takes i s m) = isRunning (b .stage) && (not (sound v bad s) || sentBy s m l)
 fitsBoard v bad l b (reads i) = isRunning (b .stage)
+fitsBoard v bad l b (reads-count i g c) = isRunning (b .stage)
 fitsBoard v bad l b (sends i m) = isRunning (b .stage) && among m (b .outbox)
 fitsBoard v bad l b (cuts i k) = leb (b .guarded) k
 fitsBoard v bad l b (restores i) = not (isWaiting (b .stage))

@@ -11,7 +11,7 @@ use Rattle.plan.specs.Positions.{rangePlan}
 use Rattle.message.specs.declared.Message.{Message}
 use Rattle.message.specs.declared.Body.the-variants.{FirstEcho}
 use Rattle.message.specs.Message.{messageBytes}
-use Rattle.agreement.specs.History.{Instance, Call, set-up, start, take-message, read-answer, restore, Board}
+use Rattle.agreement.specs.History.{Instance, plain, Call, set-up, start, take-message, read-answer, restore, Board}
 use Rattle.agreement_histories.specs.Scripts.{Action, sets-up, starts, takes, reads, sends, cuts, restores, tries, lent, lentBack, saying, says}
 use Rattle.agreement_histories.specs.OneFaulty.{echoing, answering}
 pub use Rattle.agreement_histories.specs.OneFaulty.{bad}
@@ -24,7 +24,7 @@ plan = rangePlan offsetZero 2
 
 -- a start and a take with what the board has
 abbrev pub startAt : ℤ → Board → Call
-startAt z b = start (b .party) z (lent (b .journal)) (length (b .journal))
+startAt z b = start (b .party) (plain z) (lent (b .journal)) (length (b .journal))
 
 abbrev pub takeFrom : ℕ → Message → Board → Call
 takeFrom s m b = take-message (b .party) s (messageBytes m) (lent (b .journal)) (length (b .journal))

@@ -12,7 +12,7 @@ use Rattle.message.specs.declared.Body.{Body}
 use Rattle.message.specs.declared.Message.{Message}
 use Rattle.message.specs.Message.{messageBytes}
 use Rattle.board_calls.specs.declared.Answer.{Answer}
-use Rattle.agreement.specs.History.{Instance, Lent, Call, set-up, start, take-message, read-answer, restore, Step, calls, hands, cut, History, Board, boardAfter}
+use Rattle.agreement.specs.History.{Instance, Lent, plain, by-count, Call, set-up, start, take-message, read-answer, read-count, restore, Step, calls, hands, cut, History, Board, boardAfter}
 use Rattle.agreement.specs.Allowed.{RefusedBy}
 use Rattle.agreement.specs.Demand.{answerNow, Complete, Premises}
 
@@ -28,9 +28,13 @@ pub data Action : Type 0 where
   sets-up : ℕ → Action
   -- at a vertex or a reading
   starts : ℕ → ℤ → Action
+  -- by a count, in steps of so many counts
+  starts-count : ℕ → ℕ → ℤ → Action
   -- from a board, a message
   takes : ℕ → ℕ → Message → Action
   reads : ℕ → Action
+  -- as a count, by the size of a step and the start's count
+  reads-count : ℕ → ℕ → ℤ → Action
   -- to all boards
   sends : ℕ → Message → Action
   -- a cut leaves so many bytes of the journal
@@ -44,8 +48,10 @@ pub data Action : Type 0 where
 abbrev pub actor : Action → ℕ
 actor (sets-up i) = i
 actor (starts i z) = i
+actor (starts-count i g c) = i
 actor (takes i s m) = i
 actor (reads i) = i
+actor (reads-count i g c) = i
 actor (sends i m) = i
 actor (cuts i k) = i
 actor (restores i) = i
@@ -63,9 +69,11 @@ lentBack bytes = record { journal = bytes; out = outgoingSize }
 -- the step of a board that is b before it
 abbrev pub stepOf : Instance → Board → Action → Step
 stepOf v b (sets-up i) = calls i (set-up (v .n) (v .t) i (v .agreement) (v .plan))
-stepOf v b (starts i z) = calls i (start (b .party) z (lent (b .journal)) (length (b .journal)))
+stepOf v b (starts i z) = calls i (start (b .party) (plain z) (lent (b .journal)) (length (b .journal)))
+stepOf v b (starts-count i g c) = calls i (start (b .party) (by-count g c) (lent (b .journal)) (length (b .journal)))
 stepOf v b (takes i s m) = calls i (take-message (b .party) s (messageBytes m) (lent (b .journal)) (length (b .journal)))
 stepOf v b (reads i) = calls i (read-answer (b .party))
+stepOf v b (reads-count i g c) = calls i (read-count (b .party) g c)
 stepOf v b (sends i m) = hands i (messageBytes m)
 stepOf v b (cuts i k) = cut i k
 stepOf v b (restores i) = calls i (restore (v .n) (v .t) i (v .agreement) (v .plan) (lentBack (b .journal)))
@@ -81,8 +89,10 @@ followed v h (a ∷ rest) = followed v (stepOf v (boardAfter h (actor a)) a ∷ 
 abbrev pub RefusedIn : Board → Action → Type 0
 RefusedIn b (sets-up i) = Unit {0}
 RefusedIn b (starts i z) = Unit {0}
+RefusedIn b (starts-count i g c) = Unit {0}
 RefusedIn b (takes i s m) = Unit {0}
 RefusedIn b (reads i) = Unit {0}
+RefusedIn b (reads-count i g c) = Unit {0}
 RefusedIn b (sends i m) = Unit {0}
 RefusedIn b (cuts i k) = Unit {0}
 RefusedIn b (restores i) = Unit {0}

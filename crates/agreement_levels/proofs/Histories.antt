@@ -6,7 +6,6 @@ use mathlib.Core.List.{List, [], _∷_, _++_, List·Memᴰ, List·Memᴰ·head, 
 use Prim.Native.Nat.{ℕ, _+_, _≤_, _<_}
 use native.Mathlib.Omega.{arith}
 use lib.Dec.{T}
-use lib.IntN.{ℤ}
 use lib.ListN.{length, length-append}
 use lib.Seq.{take-at}
 use Rattle.base.specs.Limits.{outgoingSize}
@@ -33,7 +32,7 @@ use Rattle.board_calls.specs.Answers.{positionOf}
 use Rattle.board_calls.specs.Calls.{SetUp, Entry, fresh}
 use Rattle.board_promises.proofs.Starts.{start-anywhere}
 use Rattle.board_laws.proofs.Questions.{take-fits}
-use Rattle.agreement.specs.History.{Instance, Lent, set-up, start, take-message, startFinds, takeFinds, Step, calls, hands, History, running, a-start, a-take, Board, unborn, afterSetUp, afterEntry, boardAfter}
+use Rattle.agreement.specs.History.{Instance, Lent, StartInput, plain, votedInput, set-up, start, take-message, startFinds, takeFinds, Step, calls, hands, History, running, a-start, a-take, Board, unborn, afterSetUp, afterEntry, boardAfter}
 use Rattle.agreement.specs.Allowed.{Sound, Handed, Continues, Allowed}
 use Rattle.agreement.specs.Demand.{Shared}
 use Rattle.agreement.specs.Inner.{recordsOf}
@@ -129,19 +128,19 @@ module _ (a : ℕ) (bytes : List ℕ) (plan : Plan) (f : Shared (aloneInstance a
         let r : Record = Start (p .agreement) x in
         let j : Lent = lent r in
         let used : ℕ = length (b .journal) in
-        let e : startFinds p (readingOf (p .plan) x) j used ≡ found (fresh r (starting p x)) =
+        let z : StartInput = plain (readingOf (p .plan) x) in
+        let e : startFinds p z j used ≡ found (fresh r (starting p x)) =
         start-anywhere p valid (λ t. new (subst (λ (q : Party). T (started q)) party-is t)) x (length (j .journal)) used outgoingSize
         (subst (λ (q : Party). x < q .plan .count) (sym party-is) on) (omega arith) (room r) in
-        let s : Step = calls 0 (start p (readingOf (p .plan) x) j used) in
+        let s : Step = calls 0 (start p z j used) in
         let ok : Allowed v nobody (s ∷ w .h) = ((sound, inr (continues r)), w .allowed) in
-        let z : ℤ = readingOf (p .plan) x in
         let same : r ≡ Start c x = ap (λ (k : ℕ). Start k x) (ap (λ (q : Party). q .agreement) party-is ∙ sym number) in
         let newest : recordsOf (s ∷ w .h) 0 ≡ Start c x ∷ rs =
         start-newest v plan nobody f (w .h) 0 p j used z ok r (starting p x) e ∙ ap₂ (λ (y : Record) (ts : List Record). y ∷ ts) same (w .records) in
         record {
           h = s ∷ w .h;
           allowed = ok;
-          up = ap (λ (q : Found Entry). afterEntry b (a-start (positionOf (p .plan) z) z) p j used q .stage) e ∙ w .up;
+          up = ap (λ (q : Found Entry). afterEntry b (a-start (positionOf (p .plan) (votedInput z)) z) p j used q .stage) e ∙ w .up;
           records = newest;
           posted = posted-more (Start c x) (starting p x) (s ∷ w .h) newest (start-makes v plan nobody f (w .h) 0 p j used z ok r (starting p x) e)
               (start-posts v plan nobody f (w .h) 0 p j used z ok r (starting p x) e);

@@ -10,10 +10,9 @@ use Rattle.board_calls.specs.declared.Answer.{Answer}
 use Rattle.board_calls.specs.Calls.{answeredOf}
 use Rattle.agreement.specs.History.{Instance, History, Stage, waiting, running, down, boardAfter}
 use Rattle.agreement.specs.Allowed.{Sound}
-use Rattle.agreement.specs.Demand.{partyBy, answerNow, Premises}
+use Rattle.agreement.specs.Demand.{partyBy, partyNow, answerNow, Premises}
 use Rattle.agreement.proofs.Tied.{newBoard}
 use Rattle.agreement.proofs.Boards.{answered-none, stateOf, running-state, down-state, state-board}
-use Rattle.agreement_pair.specs.Demand.{partyNow}
 
 module _ (v : Instance) (plan : Plan) (bad : Set) (h : History) (given : Premises v plan bad h) (i : ℕ) (o : Sound v bad i) (z : ℤ) where
   -- it is that of the board's log: a board not set up gives no answer

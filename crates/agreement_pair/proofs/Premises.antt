@@ -9,14 +9,14 @@ use Rattle.plan.specs.Reading.{planOf}
 use Rattle.board_pair.specs.declared.PairAnswer.{PairAnswer}
 use Rattle.board_pair.specs.Pair.{pairQuestions, pairGives}
 use Rattle.agreement.specs.History.{Instance}
-use Rattle.agreement.specs.Demand.{Complete, Premises}
+use Rattle.agreement.specs.Demand.{partyNow, Complete, Premises}
 use Rattle.agreement_histories.specs.Scripts.{historyOf}
 use Rattle.agreement_histories.proofs.Passing.{passes, ending, settled, premises-of}
 use Rattle.agreement_histories.proofs.Delivery.{full}
 use Rattle.agreement_histories.proofs.Delivered.{complete}
 use Rattle.agreement_histories.proofs.Computing.{computing}
 use Rattle.agreement_pair.specs.History.{Coordinate, first, second, historyIn}
-use Rattle.agreement_pair.specs.Demand.{SoundInBoth, partyNow}
+use Rattle.agreement_pair.specs.Demand.{SoundInBoth}
 use Rattle.agreement_pair.specs.Example.{both}
 use Rattle.agreement_pair.specs.Claims.{plan, bad, begins}
 use Rattle.agreement_pair.specs.Premises.{Ends, started, WithoutNumbers, sameNumber, WithoutRanges, onTree, treeOfTwo}

@@ -23,14 +23,15 @@ use Rattle.board_pair.specs.declared.PairAnswer.{PairAnswer}
 use Rattle.board_pair.specs.Pair.{pairQuestions, pairGives}
 use Rattle.board_pair.proofs.Theorem.{exact}
 use Rattle.agreement.specs.History.{Instance, read-answer, calls, History, Board, afterOwn, boardAfter}
-use Rattle.agreement.specs.Demand.{answerNow, Answers}
+use Rattle.agreement.specs.Demand.{partyNow, answerNow, Answers}
 use Rattle.agreement.specs.Ranges.{HoldsOnRange}
 use Rattle.agreement.proofs.Tied.{newBoard}
-use Rattle.agreement.proofs.Boards.{answer-now, answers-state}
+use Rattle.agreement.proofs.Boards.{answer-now}
+use Rattle.agreement.proofs.Answers.{answers-state}
 use Rattle.agreement.proofs.Theorem.{demand3}
 use Rattle.agreement.proofs.Ranges.{demand3-range}
 use Rattle.agreement_pair.specs.History.{Coordinate, first, second, Seats, PairHistory, readSteps, historyIn}
-use Rattle.agreement_pair.specs.Demand.{SoundInBoth, partyNow, pairNow, PairAnswers, PairHolds, PairPremises, PairDemand, PairExactly, PairStays, PairGuards}
+use Rattle.agreement_pair.specs.Demand.{SoundInBoth, pairNow, PairAnswers, PairHolds, PairPremises, PairDemand, PairExactly, PairStays, PairGuards}
 use Rattle.agreement_pair.proofs.Parties.{answering-board}
 use Rattle.agreement_pair.proofs.Steps.{read-now, read-in}
 
@@ -60,7 +61,7 @@ now-each v h own y e = of-each (λ c. partyNow (v c) (historyIn c h) (own c)) y 
 pub pair-answers : (v : Coordinate → Instance) (h : PairHistory) (own : Seats) (y : Coordinate → ℤ) → PairAnswers v h own y
     → (c : Coordinate) → Answers (v c) (historyIn c h) (own c) (y c)
 pair-answers v h own y (inl e) c = inl (now-each v h own y e c)
-pair-answers v h own y (inr (p, m, e)) c = inr (p c, read-in c own p (y first) (y second) e h m, of-each p y e c)
+pair-answers v h own y (inr (p, m, e)) c = inr (p c, inl (read-in c own p (y first) (y second) e h m), of-each p y e c)
 
 module _ (v : Coordinate → Instance) (plan : Coordinate → Plan) (bad : Coordinate → Set) (h : PairHistory) (given : PairPremises v plan bad h) where
   -- ---- answers of both votes, as a pair

@@ -15,7 +15,7 @@ use Rattle.plan.specs.Positions.{rangePlan}
 use Rattle.party.specs.Party.{Party, newParty}
 use Rattle.board_pair.specs.declared.PairAnswer.{PairAnswer}
 use Rattle.board_pair.specs.Pair.{pairQuestions}
-use Rattle.agreement.specs.History.{Instance, start, restore, calls, cut, History, running, boardAfter}
+use Rattle.agreement.specs.History.{Instance, plain, start, restore, calls, cut, History, running, boardAfter}
 use Rattle.agreement.specs.Demand.{Complete, Premises}
 use Rattle.agreement.specs.Ranges.{apart, Input}
 use Rattle.agreement_histories.specs.Scripts.{Action, sets-up, starts, lent, lentBack, historyOf}
@@ -83,7 +83,7 @@ powerGoes second = cut 0 0 ∷ []
 abbrev pub startsAnew : Coordinate → History
 startsAnew first = calls 0 (restore 1 0 0 1 (vote first .plan) (lentBack (take 3 (boardAfter (begun first) 0 .journal)))) ∷ []
 startsAnew second =
-    calls 0 (start (newParty 1 0 0 2 (plan second)) (pos 1) (lent []) 0)
+    calls 0 (start (newParty 1 0 0 2 (plan second)) (plain (pos 1)) (lent []) 0)
     ∷ calls 0 (restore 1 0 0 2 (vote second .plan) (lentBack []))
     ∷ []
 

@@ -15,7 +15,7 @@ use Rattle.board_pair.specs.declared.PairAnswer.{PairAnswer}
 use Rattle.board_pair.specs.Pair.{pairQuestions, pairGives}
 use Rattle.agreement.specs.History.{Instance, History, boardAfter}
 use Rattle.agreement.specs.Allowed.{Sound}
-use Rattle.agreement.specs.Demand.{partyBy, answerNow, Complete, Premises}
+use Rattle.agreement.specs.Demand.{partyNow, answerNow, Complete, Premises}
 use Rattle.agreement.specs.Ranges.{apart, Input}
 use Rattle.agreement_pair.specs.History.{Coordinate, first, second, Seats, PairHistory, reads-pair, historyIn}
 
@@ -24,10 +24,6 @@ abbrev pub SoundInBoth : (Coordinate → Instance) → (Coordinate → Set) → 
 SoundInBoth v bad own = (c : Coordinate) → Sound (v c) (bad c) (own c)
 
 -- ---- answers
-
--- the party that a reading of board i would be asked of: after a cut, the one restored
-abbrev pub partyNow : Instance → History → ℕ → Party
-partyNow v h i = partyBy v i (boardAfter h i) (boardAfter h i .stage)
 
 abbrev pub pairNow : (Coordinate → Instance) → PairHistory → Seats → PairAnswer
 pairNow v h own =

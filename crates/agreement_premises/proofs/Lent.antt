@@ -7,7 +7,7 @@ use Rattle.agreement.specs.History.{boardAfter}
 use Rattle.agreement_histories.specs.Scripts.{lent, lentBack}
 use Rattle.agreement_histories.proofs.Computing.{computing}
 use Rattle.agreement_histories.proofs.Passing.{ours}
-use Rattle.agreement_premises.specs.Edits.{journal-overwritten, record-altered, other-record-read, other-journal-restored, overwritten, altered, misread, restored}
+use Rattle.agreement_premises.specs.Edits.{journal-overwritten, record-altered, other-record-read, other-record-counted, other-journal-restored, overwritten, altered, misread, miscounted, restored}
 use Rattle.agreement_premises.specs.Examples.{two, alone, exampleOf, Fails}
 use Rattle.agreement_premises.proofs.Running.{historyBefore, Strays}
 use Rattle.agreement_premises.proofs.Starts.{allIn}
@@ -35,7 +35,17 @@ misread-strays = misread (boardAfter (historyBefore (exampleOf other-record-read
 
 pub misread-fails : Fails other-record-read (exampleOf other-record-read)
 unfolding computing allIn
-misread-fails = invalid other-record-read (exampleOf other-record-read) refl refl misread-strays 1 (pos 0) refl (inr (_, List·Memᴰ·head refl, refl))
+misread-fails = invalid other-record-read (exampleOf other-record-read) refl refl misread-strays 1 (pos 0) refl (inr (_, inl (List·Memᴰ·head refl), refl))
+
+miscounted-strays : Strays other-record-counted (exampleOf other-record-counted)
+unfolding computing
+miscounted-strays = miscounted (boardAfter (historyBefore (exampleOf other-record-counted)) 0 .party) (sound-alone two) (refl, refl)
+
+pub miscounted-fails : Fails other-record-counted (exampleOf other-record-counted)
+unfolding computing allIn
+miscounted-fails =
+    invalid other-record-counted (exampleOf other-record-counted) refl refl miscounted-strays 1 (pos 0) refl
+    (inr (_, inr (2, pos 0, pos 0, List·Memᴰ·head refl, refl), refl))
 
 restored-strays : Strays other-journal-restored (exampleOf other-journal-restored)
 unfolding computing

@@ -1,6 +1,6 @@
 -- Boards that are set up twice, or for another vote.
 use mathlib.Core.Path.{refl}
-use mathlib.Core.Logic.{inr}
+use mathlib.Core.Logic.{inl, inr}
 use mathlib.Core.List.{List·Memᴰ·head, List·Memᴰ·tail}
 use native.Mathlib.Omega.{arith}
 use lib.IntN.{pos}
@@ -18,7 +18,7 @@ again-strays = again (sound-alone two) (ours (alone two) 0)
 
 pub again-fails : Fails second-set-up (exampleOf second-set-up)
 unfolding computing allIn
-again-fails = invalid second-set-up (exampleOf second-set-up) refl refl again-strays 1 (pos 0) refl (inr (_, List·Memᴰ·tail (List·Memᴰ·head refl), refl))
+again-fails = invalid second-set-up (exampleOf second-set-up) refl refl again-strays 1 (pos 0) refl (inr (_, inl (List·Memᴰ·tail (List·Memᴰ·head refl)), refl))
 
 boards-strays : Strays other-boards (exampleOf other-boards)
 unfolding computing

@@ -46,7 +46,7 @@ pub started-in : (v : Instance) (w : World) (h : History) → Shows v w h → (S
 started-in v w h s S f i x z l k =
     allIn→ S x (startsIn (boardAfter h i .counted))
     (subst (λ (b : Board). T (allIn S (startsIn (b .counted)))) (s .board i) (count-full (v .n) (startsOf w S) (leb→le (v .n) (count (v .n) (startsOf w S)) f) i l))
-    (in-starts x z (k .0) (boardAfter h i .counted) (k .1) (k .2))
+    (in-starts x (k .0) (k .1 .0) (boardAfter h i .counted) (k .1 .1) (k .1 .2))
 
 -- z is not what position x stands for
 abbrev pub apart : Plan → ℕ → ℤ → Bool

@@ -11,7 +11,7 @@ use Rattle.plan.specs.Plan.{Plan}
 use Rattle.message.specs.declared.Message.{Message}
 use Rattle.message.specs.Message.{messageBytes}
 use Rattle.party.specs.Party.{Party}
-use Rattle.agreement.specs.History.{Instance, Lent, set-up, start, take-message, read-answer, restore, Step, calls, hands, cut, whose, History, running, boardAfter}
+use Rattle.agreement.specs.History.{Instance, Lent, StartInput, set-up, start, take-message, read-answer, read-count, restore, Step, calls, hands, cut, whose, History, running, boardAfter}
 use Rattle.agreement.specs.Allowed.{Sound, Continues, Ours, Accepts, May}
 use Rattle.agreement.specs.Demand.{Holds, Shared}
 
@@ -21,9 +21,11 @@ pub data Edit : Type 0 where
   handed-unmade : Edit
   hands-guard-nothing : Edit
   answer-guards-nothing : Edit
+  count-guards-nothing : Edit
   journal-overwritten : Edit
   record-altered : Edit
   other-record-read : Edit
+  other-record-counted : Edit
   other-journal-restored : Edit
   second-set-up : Edit
   other-boards : Edit
@@ -43,9 +45,20 @@ isReading (calls i (set-up n t own agreement plan)) = false
 isReading (calls i (start p input lent used)) = false
 isReading (calls i (take-message p sender bytes lent used)) = false
 isReading (calls i (read-answer p)) = true
+isReading (calls i (read-count p g c)) = true
 isReading (calls i (restore n t own agreement plan lent)) = false
 isReading (hands i bytes) = false
 isReading (cut i left) = false
+
+abbrev pub isCounting : Step → Bool
+isCounting (calls i (set-up n t own agreement plan)) = false
+isCounting (calls i (start p input lent used)) = false
+isCounting (calls i (take-message p sender bytes lent used)) = false
+isCounting (calls i (read-answer p)) = false
+isCounting (calls i (read-count p g c)) = true
+isCounting (calls i (restore n t own agreement plan lent)) = false
+isCounting (hands i bytes) = false
+isCounting (cut i left) = false
 
 abbrev pub isCut : Step → Bool
 isCut (calls i c) = false
@@ -71,15 +84,19 @@ pub data Lets (v : Instance) (bad : Set) (h : History) : Edit → Step → Type 
   unhanded : {i left : ℕ} → May v bad (cut i left) (without isHanding h) → Lets v bad h hands-guard-nothing (cut i left)
   -- without "or reading of an answer": the cut may come where no answer was read
   unread : {i left : ℕ} → May v bad (cut i left) (without isReading h) → Lets v bad h answer-guards-nothing (cut i left)
+  -- the same where it was read as a count
+  uncounted : {i left : ℕ} → May v bad (cut i left) (without isCounting h) → Lets v bad h count-guards-nothing (cut i left)
   -- without "with nobody else writing them": the take would be accepted if another journal were lent
   overwritten : {i sender used : ℕ} {p : Party} {bytes : List ℕ} {lent : Lent} (kept : Lent) → Sound v bad i
       → Accepts v bad i h (boardAfter h i) (take-message p sender bytes kept used) → Lets v bad h journal-overwritten (calls i (take-message p sender bytes lent used))
   -- without "each later call gets the record .. as the call before left": the start would be accepted if another record were given
-  altered : {i used : ℕ} {p : Party} {input : ℤ} {lent : Lent} (left : Party) → Sound v bad i
+  altered : {i used : ℕ} {p : Party} {input : StartInput} {lent : Lent} (left : Party) → Sound v bad i
       → Accepts v bad i h (boardAfter h i) (start left input lent used) → Lets v bad h record-altered (calls i (start p input lent used))
   -- the same for a reading
   misread : {i : ℕ} {p : Party} (left : Party) → Sound v bad i → Accepts v bad i h (boardAfter h i) (read-answer left)
       → Lets v bad h other-record-read (calls i (read-answer p))
+  miscounted : {i g : ℕ} {c : ℤ} {p : Party} (left : Party) → Sound v bad i → Accepts v bad i h (boardAfter h i) (read-count left g c)
+      → Lets v bad h other-record-counted (calls i (read-count p g c))
   -- without "from what the cut left": the restore would be accepted if another journal were lent
   restored : {i n t own agreement : ℕ} {plan : List ℕ} {lent : Lent} (left : Lent) → Sound v bad i
       → Accepts v bad i h (boardAfter h i) (restore n t own agreement plan left)

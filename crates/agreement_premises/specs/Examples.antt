@@ -13,10 +13,10 @@ use Rattle.message.specs.declared.Body.the-variants.{FirstEcho, FirstProposal, 
 use Rattle.message.specs.Message.{messageBytes}
 use Rattle.party.specs.Party.{newParty}
 use Rattle.party.specs.Run.{starting}
-use Rattle.agreement.specs.History.{Instance, Call, set-up, start, take-message, read-answer, restore, History, Board}
+use Rattle.agreement.specs.History.{Instance, plain, Call, set-up, start, take-message, read-answer, read-count, restore, History, Board}
 use Rattle.agreement.specs.Demand.{Holds, Shared}
-use Rattle.agreement_histories.specs.Scripts.{Action, sets-up, starts, takes, reads, sends, cuts, restores, tries, lent, lentBack, says, followed}
-use Rattle.agreement_premises.specs.Edits.{Edit, AllowedWith, taken-unsent, handed-unmade, hands-guard-nothing, answer-guards-nothing, journal-overwritten, record-altered, other-record-read, other-journal-restored, second-set-up, other-boards, other-faults, other-number, other-plan}
+use Rattle.agreement_histories.specs.Scripts.{Action, sets-up, starts, takes, reads, reads-count, sends, cuts, restores, tries, lent, lentBack, says, followed}
+use Rattle.agreement_premises.specs.Edits.{Edit, AllowedWith, taken-unsent, handed-unmade, hands-guard-nothing, answer-guards-nothing, count-guards-nothing, journal-overwritten, record-altered, other-record-read, other-record-counted, other-journal-restored, second-set-up, other-boards, other-faults, other-number, other-plan}
 
 -- ---- the votes
 
@@ -116,6 +116,15 @@ exampleOf hands-guard-nothing = record {
 }
 -- The answer 0 is read, and the start is lost.
 exampleOf answer-guards-nothing = record { vote = alone two; plan = twoPlan; bad = nobody; before = answered; stray = cuts 0 0; after = [] }
+-- The same, read as the count 0 in steps of 2.
+exampleOf count-guards-nothing = record {
+  vote = alone two;
+  plan = twoPlan;
+  bad = nobody;
+  before = sets-up 0 ∷ starts 0 (pos 0) ∷ reads-count 0 2 (pos 0) ∷ [];
+  stray = cuts 0 0;
+  after = [];
+}
 -- The board starts at 0. The next call is lent a journal whose record says 1; power is cut, and once restored the board would answer 1.
 exampleOf journal-overwritten = record {
   vote = four two;
@@ -131,7 +140,7 @@ exampleOf record-altered = record {
   plan = twoPlan;
   bad = nobody;
   before = sets-up 0 ∷ [];
-  stray = callsWith 0 (λ b. start (newParty 1 0 0 1 elsewherePlan) (pos 5) (lent (b .journal)) (length (b .journal)));
+  stray = callsWith 0 (λ b. start (newParty 1 0 0 1 elsewherePlan) (plain (pos 5)) (lent (b .journal)) (length (b .journal)));
   after = [];
 }
 -- The board has not started, and the answer is read from a record that has.
@@ -141,6 +150,15 @@ exampleOf other-record-read = record {
   bad = nobody;
   before = sets-up 0 ∷ [];
   stray = callsWith 0 (λ b. read-answer (starting (b .party) 0 .party));
+  after = [];
+}
+-- The same, read as the count 0 in steps of 2.
+exampleOf other-record-counted = record {
+  vote = alone two;
+  plan = twoPlan;
+  bad = nobody;
+  before = sets-up 0 ∷ [];
+  stray = callsWith 0 (λ b. read-count (starting (b .party) 0 .party) 2 (pos 0));
   after = [];
 }
 -- The board starts at 0, and is restored from a journal whose record says 1: it answers 1.

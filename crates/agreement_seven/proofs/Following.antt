@@ -17,7 +17,7 @@ use Rattle.level.specs.Level.{Level, held, withHeard}
 use Rattle.agreement.specs.History.{History, boardAfter}
 use Rattle.agreement.specs.Allowed.{Sound, Handed, Allowed}
 use Rattle.agreement.specs.Demand.{Made}
-use Rattle.agreement_histories.specs.Scripts.{Action, sets-up, starts, takes, reads, sends, cuts, restores, restores-torn, tries, says, stepOf, followed}
+use Rattle.agreement_histories.specs.Scripts.{Action, sets-up, starts, starts-count, takes, reads, reads-count, sends, cuts, restores, restores-torn, tries, says, stepOf, followed}
 use Rattle.agreement_histories.proofs.Worlds.{same, among}
 use Rattle.agreement_histories.proofs.Tests.{same→, among→}
 use Rattle.agreement_seven.specs.Unbounded.{vote, bad}
@@ -39,10 +39,12 @@ unfoldable pub going : List Message → Level → List Message → List Message 
 going goal l ms sent [] = allAmong goal ms
 going goal l ms sent (sets-up i ∷ rest) = false
 going goal l ms sent (starts i z ∷ rest) = false
+going goal l ms sent (starts-count i g c ∷ rest) = false
 going goal l ms sent (takes zero s m ∷ rest) =
     carried (takeTests l sent s m) (levelRun maxRules (withHeard l (m .body) s)) (λ x made. going goal x (ms ++ made) sent rest)
 going goal l ms sent (takes (suc i) s m ∷ rest) = false
 going goal l ms sent (reads i ∷ rest) = false
+going goal l ms sent (reads-count i g c ∷ rest) = false
 going goal l ms sent (sends zero m ∷ rest) = among m ms && going goal l ms (m ∷ sent) rest
 going goal l ms sent (sends (suc i) m ∷ rest) = false
 going goal l ms sent (cuts i k ∷ rest) = false
@@ -102,6 +104,7 @@ unfolding going followed
 follow goal [] h l ms sent w t = record { allowed = w .allowed; made = λ m k. w .made m (all-among goal ms t m k) }
 follow goal (sets-up i ∷ rest) h l ms sent w t = absurd t
 follow goal (starts i z ∷ rest) h l ms sent w t = absurd t
+follow goal (starts-count i g c ∷ rest) h l ms sent w t = absurd t
 follow goal (takes zero s m ∷ rest) h l ms sent w t =
     let next : Rest = levelRun maxRules (withHeard l (m .body) s) in
     let on : Bool = going goal (next .level) (ms ++ next .made) sent rest in
@@ -111,6 +114,7 @@ follow goal (takes zero s m ∷ rest) h l ms sent w t =
     (take-on h l ms sent w s m (T-left tests (next .fine && on) t) (T-left (next .fine) on k)) (T-right (next .fine) on k)
 follow goal (takes (suc i) s m ∷ rest) h l ms sent w t = absurd t
 follow goal (reads i ∷ rest) h l ms sent w t = absurd t
+follow goal (reads-count i g c ∷ rest) h l ms sent w t = absurd t
 follow goal (sends zero m ∷ rest) h l ms sent w t =
     let on : Bool = going goal l ms (m ∷ sent) rest in
     follow goal rest (stepOf vote (boardAfter h 0) (sends 0 m) ∷ h) l ms (m ∷ sent)

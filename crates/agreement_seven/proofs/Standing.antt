@@ -30,7 +30,7 @@ use Rattle.board_calls.specs.Answers.{positionOf}
 use Rattle.board_calls.specs.Calls.{SetUp, fresh}
 use Rattle.board_laws.proofs.Questions.{take-fits}
 use Rattle.board_promises.proofs.Starts.{start-anywhere}
-use Rattle.agreement.specs.History.{Lent, set-up, startFinds, takeFinds, Step, calls, hands, History, running, Act, a-start, a-take, Counted, Board, unborn, afterSetUp, afterEntry, boardAfter}
+use Rattle.agreement.specs.History.{Lent, plain, set-up, startFinds, takeFinds, Step, calls, hands, History, running, Act, a-start, a-take, Counted, Board, unborn, afterSetUp, afterEntry, boardAfter}
 use Rattle.agreement.specs.Allowed.{Sound, Handed, Continues, Allowed}
 use Rattle.agreement.specs.Demand.{Made, Shared}
 use Rattle.agreement.proofs.Tied.{set-up-found}
@@ -160,14 +160,14 @@ short-start : length (recordBytes (Start 1 0)) ≤ 32
 unfolding computing
 short-start = omega arith
 
-starts-at : (h : History) (w : Stands h blankLevel [] []) → startFinds (boardAfter h 0 .party) (pos 0) (lent (boardAfter h 0 .journal)) (length (boardAfter h 0 .journal))
+starts-at : (h : History) (w : Stands h blankLevel [] []) → startFinds (boardAfter h 0 .party) (plain (pos 0)) (lent (boardAfter h 0 .journal)) (length (boardAfter h 0 .journal))
     ≡ found (fresh (Start (boardAfter h 0 .party .agreement) 0) (starting (boardAfter h 0 .party) 0))
 unfolding levelAt
 starts-at h w =
     let p : Party = boardAfter h 0 .party in
     let j : Lent = lent (boardAfter h 0 .journal) in
     let used : ℕ = length (boardAfter h 0 .journal) in
-    subst (λ (z : ℤ). startFinds p z j used ≡ found (fresh (Start (p .agreement) 0) (starting p 0))) (ap (λ (q : Party). readingOf (q .plan) 0) (w .party) ∙ reading-0)
+    subst (λ (z : ℤ). startFinds p (plain z) j used ≡ found (fresh (Start (p .agreement) 0) (starting p 0))) (ap (λ (q : Party). readingOf (q .plan) 0) (w .party) ∙ reading-0)
     (start-anywhere p (valid h blankLevel [] [] w) (λ t. subst (λ (q : Party). T (started q)) (w .party) t) 0 (length (j .journal)) used outgoingSize
     (subst (λ (q : Party). 0 < q .plan .count) (sym (w .party)) (omega arith)) (omega arith)
     (room h blankLevel [] [] w (length (recordBytes (Start (p .agreement) 0))) (subst (λ (q : Party). length (recordBytes (Start (q .agreement) 0)) ≤ 32) (sym (w .party)) short-start)))
@@ -188,8 +188,8 @@ start-stands fine =
     let r : Record = Start (p .agreement) 0 in
     let j : Lent = lent (b .journal) in
     let used : ℕ = length (b .journal) in
-    let e : startFinds p (pos 0) j used ≡ found (fresh r (starting p 0)) = starts-at h w in
-    entry h blankLevel [] [] w startStep (a-start (positionOf (p .plan) (pos 0)) (pos 0)) j used r (starting p 0) (levelRun maxRules begun)
+    let e : startFinds p (plain (pos 0)) j used ≡ found (fresh r (starting p 0)) = starts-at h w in
+    entry h blankLevel [] [] w startStep (a-start (positionOf (p .plan) (pos 0)) (plain (pos 0))) j used r (starting p 0) (levelRun maxRules begun)
     ((sound, inr (continues h blankLevel [] [] w)), w .allowed)
-    (ap (afterEntry b (a-start (positionOf (p .plan) (pos 0)) (pos 0)) p j used) e)
+    (ap (afterEntry b (a-start (positionOf (p .plan) (pos 0)) (plain (pos 0))) p j used) e)
     (subst (λ (q : Party). Follows (starting q 0) (levelRun maxRules begun)) (sym (w .party)) (start-follows fine))
