@@ -1,0 +1,4 @@
+pub mod Demand
+pub mod Completion
+pub mod Example
+pub mod Claims

@@ -1,0 +1,1 @@
+// Demand 3 by probe counts: theorems only.
