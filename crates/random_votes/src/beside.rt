@@ -9,6 +9,7 @@ use random_votes_state::call;
 use random_votes_state::state;
 use random_votes_state::state::State;
 use second::record::Done;
+use second_counts::CountDone;
 use second_plan::table::Table;
 use second_wire::num;
 
@@ -18,6 +19,19 @@ pub fn read(table: &Table, s: &mut State) {
     note::answer(s, state::SECOND, codes::of_found(second::answer(table)));
 }
 
+// A call that is no start by count.
+fn other(done: Done) -> CountDone {
+    CountDone { done, rest: 0 }
+}
+
+// A start, by an input or by a count.
+fn start(table: &mut Table, g: Given, journal: &mut [u8], out: &mut [u8]) -> CountDone {
+    if g.is_by_count {
+        return second_counts::start(table, g.size, g.count, journal, g.used, out);
+    }
+    other(second::start(table, g.input, journal, g.used, out))
+}
+
 // A start, a take or a restore, with what is lent of the journals and of the outgoing buffers.
 pub fn make(
     table: &mut Table,
@@ -25,15 +39,15 @@ pub fn make(
     bytes: &[u8],
     journals: &mut [u8],
     buffers: &mut [u8],
-) -> Done {
+) -> CountDone {
     let journal = lent(journals, num::add(call::SECOND_JOURNALS, g.at), g.room);
     let out = lent(buffers, OUTGOING, g.out_room);
     let which = g.call;
     let t = g.terms;
     match which {
-        call::START => second::start(table, g.input, journal, g.used, out),
-        call::TAKE => second::take(table, g.sender, bytes, journal, g.used, out),
-        _ => second::restore(
+        call::START => start(table, g, journal, out),
+        call::TAKE => other(second::take(table, g.sender, bytes, journal, g.used, out)),
+        _ => other(second::restore(
             table,
             t.boards,
             t.faults,
@@ -42,12 +56,14 @@ pub fn make(
             bytes,
             journal,
             out,
-        ),
+        )),
     }
 }
 
 // What it gave; where it was accepted, the answer is read.
-pub fn done(table: &Table, s: &mut State, d: Done) {
+pub fn done(table: &Table, s: &mut State, started: CountDone) {
+    let d = started.done;
+    note::remainder(s, state::SECOND, started.rest);
     note::refusal(s, state::SECOND, wide(d.number), d.place);
     note::effect(s, state::SECOND, d.used, d.sent, d.rules);
     if d.number == 0 {

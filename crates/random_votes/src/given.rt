@@ -4,6 +4,7 @@ use crate::codes::MOST;
 use random_calls::Terms;
 use random_calls::word;
 use random_votes_state::call;
+use random_votes_state::count;
 use random_votes_state::state;
 use random_votes_state::state::State;
 ghost use Prim.Native.Nat.{_≤_};
@@ -13,6 +14,10 @@ pub struct Given {
     pub call: usize,
     pub terms: Terms,
     pub input: i64,
+    // whether a start is by count, the step size and the count
+    pub is_by_count: bool,
+    pub size: u32,
+    pub count: i64,
     pub sender: u32,
     pub used: usize,
     // where the library's journal of the seat begins, and how long the lent journal and outgoing buffer are
@@ -43,6 +48,9 @@ pub fn of(s: &State) -> Given {
         call: state::get(s, state::CALL),
         terms,
         input: codes::input_of(state::get(s, state::INPUT)),
+        is_by_count: state::get(s, count::IS_BY_COUNT) == 1,
+        size: setting(s, count::CALL_SIZE),
+        count: second_counts::codes::lowered(state::get(s, count::CALL_COUNT)),
         sender: setting(s, state::SENDER),
         used: state::get(s, state::CALL_USED),
         at: call::journal_at(state::get(s, state::SEAT)),
@@ -57,7 +65,7 @@ fn is_take(s: &State) -> bool {
 }
 
 // How many bytes there are.
-fn count(s: &State) -> usize {
+fn bytes_there(s: &State) -> usize {
     if is_take(s) {
         return state::get(s, state::MESSAGE_LENGTH);
     }
@@ -68,7 +76,7 @@ fn count(s: &State) -> usize {
 pub fn length(s: &State) -> usize
     ensures { λ r. ⌜ r ≤ 1280 ⌝ }
 {
-    let length = count(s);
+    let length = bytes_there(s);
     if MOST < length {
         return MOST;
     }

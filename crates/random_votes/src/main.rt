@@ -1,5 +1,5 @@
 // Random votes on the library and on a second implementation of the rules: each call is made on both and compared, and the answers are held to demand 3. Two
-// votes run side by side, and their boards are read as pairs.
+// votes run side by side, and their boards are read as pairs; in votes by counts they start by counts, and count answers are read.
 mod beside;
 mod calls;
 mod codes;
@@ -46,6 +46,7 @@ fn prepare(s: &mut State, journals: &mut Journals, out: &mut Out) -> usize
     judge::clear(s);
     let b = seek(s, journals);
     if b < 17 {
+        random_votes_counts::start::prepare(s);
         random_buffers::fill(out, state::get(s, state::CALLS));
         return b;
     }
@@ -79,6 +80,8 @@ fn step(
     let after = calls::make(before, table, s, journals, out);
     count_rules(s, before, after);
     judge::judge(s, journals, out);
+    random_votes_counts::start::keep(s);
+    random_votes_counts::read::read(s, after, table);
     after
 }
 
@@ -86,6 +89,8 @@ fn step(
 fn conclude(s: &mut State, w: &mut State) {
     demand::conclude(s);
     demand::conclude(w);
+    random_votes_counts::claim::conclude(s);
+    random_votes_counts::claim::conclude(w);
     claim::conclude(s, w);
 }
 
@@ -133,6 +138,7 @@ fn count_vote(s: &mut State) {
 // A vote is drawn.
 fn begin(s: &mut State) {
     draw::draw(s);
+    random_votes_counts::choose::begin(s);
     messages::keep_sending(s);
 }
 

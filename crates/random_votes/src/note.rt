@@ -2,6 +2,7 @@
 use random_votes_state::call;
 use random_votes_state::state;
 use random_votes_state::state::State;
+use second_counts::codes;
 
 // A refusal, or 0 and 0.
 pub fn refusal(s: &mut State, area: usize, number: usize, place: usize) {
@@ -19,6 +20,11 @@ pub fn effect(s: &mut State, area: usize, used: usize, sent: usize, rules: usize
 // An answer's code plus 1, or 0.
 pub fn answer(s: &mut State, area: usize, code: usize) {
     state::put(s, area, call::ANSWER, code);
+}
+
+// A remainder as it is kept.
+pub fn remainder(s: &mut State, area: usize, rest: i64) {
+    state::put(s, area, call::REMAINDER, codes::raised(rest));
 }
 
 // Whether the first implementation refused the call.

@@ -55,7 +55,7 @@ fn write_calls(s: &State) {
         1,
         6,
     );
-    row(s, b"refused by question:", state::REFUSED, 1, 25);
+    row(s, b"refused by question:", state::REFUSED, 1, 26);
 }
 
 // Messages refused by 15 and 22, by the field at the place.
@@ -203,7 +203,7 @@ fn write_faults(s: &State, w: &State) {
     fault(
         s,
         w,
-        b"answers against demand 3 or the claim of pairs",
+        b"answers against demand 3 or the claims of pairs and counts",
         state::FAULTY_ANSWERS,
         state::FIRST_FAULT,
     );
@@ -220,6 +220,7 @@ fn write_counts(s: &State) {
     write_messages(s);
     write_ends(s);
     results::write(s);
+    random_votes_counts::results::write(s);
 }
 
 // The run: the second state has the counts of both.

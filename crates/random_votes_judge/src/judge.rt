@@ -125,10 +125,23 @@ fn after_restore(s: &mut State, out: &[u8], b: usize) {
 }
 
 // A reading that gives an answer guards the records.
-pub fn keep_reading(s: &mut State, b: usize) {
+fn keep_reading(s: &mut State, b: usize) {
     guard(s, b);
     let held = state::of(s, state::HELD, b);
     state::put(s, state::READ, b, held);
+}
+
+// An answer was read by another call than the reading: the records are guarded, and a cut may follow. It is counted at a place, and at the next one where nothing
+// else had guarded the last records.
+pub fn keep_other_reading(s: &mut State, b: usize, cuts: usize) {
+    let guarded = state::of(s, state::GUARDED, b);
+    keep_reading(s, b);
+    let guards = (guarded < state::of(s, state::GUARDED, b)) as usize;
+    if cuts::comes(s, 3) {
+        cuts::cut(s, b);
+        state::count(s, cuts);
+        state::grow(s, num::next(cuts), guards);
+    }
 }
 
 // A cut may follow a reading.

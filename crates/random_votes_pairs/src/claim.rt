@@ -2,7 +2,6 @@
 use crate::read::Given;
 use random_votes_judge::demand;
 use random_votes_judge::judge;
-use random_votes_seats::cuts;
 use random_votes_seats::seats;
 use random_votes_state::call;
 use random_votes_state::pair;
@@ -43,14 +42,7 @@ fn widen(s: &mut State, here: usize) {
     }
 }
 
-// The records of a pair answer are guarded, as those of any reading; 1 if nothing had guarded them.
-fn guard(s: &mut State, b: usize) -> usize {
-    let guarded = state::of(s, state::GUARDED, b);
-    judge::keep_reading(s, b);
-    (guarded < state::of(s, state::GUARDED, b)) as usize
-}
-
-// One reading of a pair answer, given as its position plus 1: it is the board's answer, near those of the others and between inputs. A cut may follow.
+// One reading of a pair answer, given as its position plus 1: it is the board's answer, near those of the others and between inputs.
 fn keep_reading(s: &mut State, b: usize, here: usize) {
     if state::of(s, state::HELD, b) == 0 {
         demand::fault(s);
@@ -58,12 +50,7 @@ fn keep_reading(s: &mut State, b: usize, here: usize) {
     demand::hold(s, b, num::add(state::get(s, state::LOW), here));
     demand::check(s, num::less(here, 1));
     widen(s, here);
-    let guards = guard(s, b);
-    if cuts::comes(s, 3) {
-        cuts::cut(s, b);
-        state::count(s, pair::CUTS);
-        state::grow(s, pair::GUARDED_CUTS, guards);
-    }
+    judge::keep_other_reading(s, b, pair::CUTS);
 }
 
 // There is no pair answer only where one of the boards has none; that guards nothing.

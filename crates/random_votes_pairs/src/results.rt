@@ -51,7 +51,7 @@ pub fn write(s: &State) {
         pair::REFUSED + 27,
         pair::ANSWERS,
         pair::CUTS,
-        pair::GUARDED_CUTS,
+        pair::CUTS + 1,
         pair::APART + 1,
         pair::APART + 2,
         pair::APART + 3,

@@ -13,7 +13,7 @@ pub const READ: usize = 4;
 
 pub const RESTORE: usize = 5;
 
-// What a call gave, by its place: the refusal's number and place, used length, sent bytes, rules, and the answer's code plus 1.
+// What a call gave, by its place: the refusal's number and place, used length, sent bytes, rules, the answer's code plus 1, and the remainder of a start by count.
 pub const NUMBER: usize = 0;
 
 pub const PLACE: usize = 1;
@@ -25,6 +25,8 @@ pub const SENT: usize = 3;
 pub const RULES: usize = 4;
 
 pub const ANSWER: usize = 5;
+
+pub const REMAINDER: usize = 6;
 
 // What a vote is doing: set-ups; random steps; last deliveries, until every board has taken every message; readings.
 pub const SETTING_UP: usize = 0;

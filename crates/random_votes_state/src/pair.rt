@@ -20,9 +20,7 @@ pub const REFUSED: usize = 2880;
 // Pairs of votes with pair answers one apart: in the first reading only, in the second only, in both.
 pub const APART: usize = 2912;
 
-// Pair answers of sound boards; cuts after such, and those of them before which it alone guarded the last records.
+// Pair answers of sound boards; cuts after such, and at the next place those of them before which it alone guarded the last records.
 pub const ANSWERS: usize = 2916;
 
 pub const CUTS: usize = 2917;
-
-pub const GUARDED_CUTS: usize = 2918;

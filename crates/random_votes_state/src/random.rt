@@ -7,9 +7,14 @@ use second_wire::num;
 
 // A number below k, or 0.
 pub fn below(s: &mut State, k: usize) -> usize {
+    drawn(any(s), k)
+}
+
+// Any number of 64 bits but 0.
+pub fn any(s: &mut State) -> usize {
     let x = shifted(state::get(s, state::SEED));
     state::set(s, state::SEED, x);
-    drawn(x, k)
+    x
 }
 
 // Once in k times.

@@ -41,6 +41,11 @@ pub fn is_party(table: &Table) -> bool {
     table::at(table, table::VOTE, table::BOARDS) != 0
 }
 
+// The plan is a range.
+pub fn is_range(table: &Table) -> bool {
+    table::at(table, table::VOTE, table::KIND) == plans::RANGE
+}
+
 // Questions 19, 18 and 20 of a start or take.
 pub fn call(table: &Table, journal: &[u8], used: usize, out: &[u8]) -> u32 {
     if !is_party(table) {

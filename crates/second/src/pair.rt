@@ -13,11 +13,6 @@ pub struct Pair {
     pub second: Found,
 }
 
-// The plan is a range.
-fn is_range(table: &Table) -> bool {
-    table::at(table, table::VOTE, table::KIND) == plans::RANGE
-}
-
 // "Its reading asks the first party's questions, the second's, then 27 for equal numbers and 12 for
 // a plan that is no range."
 fn question(first: &Table, second: &Table) -> u32 {
@@ -30,10 +25,10 @@ fn question(first: &Table, second: &Table) -> u32 {
     if table::long(first, table::NUMBER) == table::long(second, table::NUMBER) {
         return 27;
     }
-    if !is_range(first) {
+    if !ask::is_range(first) {
         return 12;
     }
-    if !is_range(second) {
+    if !ask::is_range(second) {
         return 12;
     }
     0
