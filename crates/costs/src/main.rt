@@ -22,6 +22,8 @@ const AGREEMENT: u32 = 7;
 const PLAN: usize = 4;
 
 const INPUT: usize = 3;
+// How many counts make a step.
+const STEP_SIZE: u32 = 2;
 
 // Which message goes to which board.
 struct Turn {
@@ -248,6 +250,36 @@ fn read_pair(p: party::Party) -> bool {
     }
 }
 
+// A reading of the answer as a count, likewise.
+fn read_count(p: party::Party) -> bool {
+    io::write_all(STDOUT_FILENO, b"{");
+    let r = board::read_count(p, STEP_SIZE, 0);
+    let a = r.answer;
+    match a {
+        board::Answer::None => io::write_all(STDOUT_FILENO, b"-"),
+        board::Answer::At(_) => io::write_all(STDOUT_FILENO, b"}"),
+    }
+}
+
+// Board i, which has not started, starts by a count, likewise.
+fn start_count(p: party::Party, i: usize, journals: &mut [u8], out: &mut [u8]) -> bool
+    requires { ⌜ (i < maxBoards) × (length (now journals) ≡ journalsSize) ⌝ }
+{
+    let from = JOURNAL * i;
+    let end = from + JOURNAL;
+    io::write_all(STDOUT_FILENO, b"<");
+    let c = board::start_count(p, STEP_SIZE, 0, &mut journals[from..end], 0, out);
+    let called = c.called;
+    let v = called.verdict;
+    match v {
+        base::Verdict::Refused {
+            number: _,
+            place: _,
+        } => io::write_all(STDOUT_FILENO, b"-"),
+        base::Verdict::Accepted => io::write_all(STDOUT_FILENO, b">"),
+    }
+}
+
 // The end of a journal's used bytes.
 fn end_of(from: usize, used: usize) -> usize
     requires { ⌜ from ≤ journalsSize ⌝ }
@@ -359,15 +391,23 @@ fn call_again(
     let again = give_again(c.party, i, c.used, wire, journals, out);
     let second = start_again(again.party, i, again.used, journals, out);
     read_pair(second.party);
+    read_count(second.party);
     read(second.party)
 }
 
-// Board i is restored from an empty journal, and is read; 1 for an answer.
-fn call_empty(v: Vote, s: &[u8], i: usize, out: &mut [u8; level_limits::OUTGOING]) -> u64
+// Board i is restored from an empty journal, starts by a count, and is read as it was before that; 1 for an answer.
+fn call_empty(
+    v: Vote,
+    s: &[u8],
+    i: usize,
+    journals: &mut [u8; JOURNALS],
+    out: &mut [u8; level_limits::OUTGOING],
+) -> u64
     requires { ⌜ (4 ≤ v .«plan_end») × (v .«plan_end» ≤ length (now s)) × (v .boards ≤ maxBoards) × (i < maxBoards) ⌝ }
     ensures { λ r. ⌜ r ≤ 1 ⌝ }
 {
     let empty = restore_empty(v, s, i, out);
+    start_count(empty.party, i, journals, out);
     read(empty.party)
 }
 
@@ -386,7 +426,7 @@ fn call_all_again(
     let mut i: usize = 0;
     while i < v.boards {
         sum += call_again(v, s, i, b.used[i], wire, journals, out);
-        sum += call_empty(v, s, i, out);
+        sum += call_empty(v, s, i, journals, out);
         i += 1;
     }
     sum
