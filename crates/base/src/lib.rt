@@ -47,7 +47,7 @@ pub const MESSAGE_SIZE: usize = 8;
 pub const PACKET_SIZE: usize = 10;
 
 // The limits as the code has them. Those of a level, and of a party's life, stand with the level's record (crates level and level_limits).
-#[derive(Drop)]
+#[derive(Clone, Copy)]
 pub struct Limits {
     pub number: u32,
     pub boards: u32,
@@ -92,7 +92,7 @@ pub fn all_limits() -> Limits
 }
 
 // A call's answer: accepted, or refused by the number and at the place that document 01's questions give.
-#[derive(Drop)]
+#[derive(Clone, Copy)]
 pub enum Verdict {
     Accepted,
     Refused { number: u8, place: usize },

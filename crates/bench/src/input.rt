@@ -7,7 +7,7 @@ pub const BYTES: usize = 4096;
 
 // The step that was read last, if it was one; the line that is being read; what the last read of standard input answered, how many of its bytes are
 // used, and whether there may be more.
-#[derive(Drop)]
+#[derive(Clone, Copy)]
 pub struct Input {
     pub step: Step,
     line: Line,

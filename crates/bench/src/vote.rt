@@ -7,7 +7,7 @@ use bench_settings::{Settings, accepted};
 use script::Step;
 
 // The settings, how many boards are set up by them, whether a start was accepted, and how many messages were handed over.
-#[derive(Drop)]
+#[derive(Clone, Copy)]
 pub struct Vote {
     pub settings: Settings,
     pub ready: usize,

@@ -5,7 +5,7 @@ ghost use Rattle.bench_calls.specs.Room.{HasRoom};
 pub const BOARDS: usize = base::MAX_BOARDS as usize;
 
 // The board, and its input or the message; the board is BOARDS where there is no call.
-#[derive(Drop)]
+#[derive(Clone, Copy)]
 pub struct Call {
     pub board: usize,
     starts: bool,

@@ -6,7 +6,7 @@ use range_plan::{Fields, PLAN_SIZE};
 use script_numbers::Reading;
 
 // What the settings lines said.
-#[derive(Drop)]
+#[derive(Clone, Copy)]
 pub struct Settings {
     // 0 until there is a `boards` line
     pub n: u32,

@@ -13,7 +13,7 @@ const ENTRY: usize = 1 + base::PACKET_SIZE;
 pub const SIZE: usize = ENTRY * MESSAGES;
 
 // A message that is kept: its maker, and the places from which and up to which its bytes stand.
-#[derive(Drop)]
+#[derive(Clone, Copy)]
 pub struct Kept {
     pub maker: u32,
     pub from: usize,

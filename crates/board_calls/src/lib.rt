@@ -11,7 +11,7 @@ ghost use Rattle.board_calls.specs.Tie.{as_called};
 pub const RANGE: u32 = 2;
 
 // A board's record, or a refusal and a record that fails question 19.
-#[derive(Drop)]
+#[derive(Clone, Copy)]
 pub struct SetUp {
     pub verdict: base::Verdict,
     pub member: member::Member,
@@ -19,7 +19,7 @@ pub struct SetUp {
 
 // What a start, take or restore gives: the verdict, the board's record, the journal's used length, how many outgoing bytes it wrote and how many rules
 // it applied.
-#[derive(Drop)]
+#[derive(Clone, Copy)]
 pub struct Called {
     pub verdict: base::Verdict,
     pub member: member::Member,
@@ -29,20 +29,20 @@ pub struct Called {
 }
 
 // The answer: a vertex or a reading, if there is one.
-#[derive(Drop)]
+#[derive(Clone, Copy)]
 pub enum Answer {
     None,
     At(i64),
 }
 
-#[derive(Drop)]
+#[derive(Clone, Copy)]
 pub struct Answered {
     pub verdict: base::Verdict,
     pub answer: Answer,
 }
 
 // Whether the board is closed, and its closing value, a vertex or a reading, if there is one.
-#[derive(Drop)]
+#[derive(Clone, Copy)]
 pub struct ClosingRead {
     pub verdict: base::Verdict,
     pub closed: bool,

@@ -18,7 +18,7 @@ use board_calls::{Answer, Answered, Called};
 const ON_NO_PLAN: i64 = -1 - base::OFFSET_ZERO as i64;
 
 // What a start by count gives: what a start gives, and the count's remainder; 0 with a refusal.
-#[derive(Drop)]
+#[derive(Clone, Copy)]
 pub struct CountStarted {
     pub called: Called,
     pub remainder: i64,

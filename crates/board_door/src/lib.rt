@@ -12,7 +12,7 @@ use board_calls::Called;
 use board_questions::{Asked, ask_start, ask_take};
 
 // What a start or take gives beside the settings and the plan, which stay, and the sets of senders, which are lent.
-#[derive(Drop)]
+#[derive(Clone, Copy)]
 struct Carried {
     verdict: base::Verdict,
     levels: party::Levels,

@@ -7,13 +7,13 @@ ghost use Rattle.board_pair.specs.Pair.{pair_of, pair_questions, pair_gives};
 use board_calls::{Answer, RANGE};
 
 // The readings of the first and of the second vote, if both have an answer.
-#[derive(Drop)]
+#[derive(Clone, Copy)]
 pub enum PairAnswer {
     None,
     At(i64, i64),
 }
 
-#[derive(Drop)]
+#[derive(Clone, Copy)]
 pub struct PairAnswered {
     pub verdict: base::Verdict,
     pub answer: PairAnswer,

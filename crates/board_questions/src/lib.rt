@@ -4,7 +4,7 @@ ghost use Rattle.base.specs.Limits.{max_boards};
 ghost use Rattle.board_questions.specs.Inner.{AtDoor, fitted, AsksStart, AsksTake};
 
 // What the questions of a start or take find: the number of the first that fails and its place, a message that needs no record, or the record to write.
-#[derive(Drop)]
+#[derive(Clone, Copy)]
 pub enum Asked {
     Refused { number: u8, place: usize },
     Again,

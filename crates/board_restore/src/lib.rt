@@ -13,7 +13,7 @@ ghost use Rattle.board_restore.specs.Inner.{board_of, ScansFor, Answers, Replaya
 use board_calls::{Called, accept, unrestored};
 
 // What reading the records finds: number 0 and the place past the last whole record, or a refusal's number and place.
-#[derive(Drop)]
+#[derive(Clone, Copy)]
 struct Scan {
     number: u8,
     place: usize,
@@ -161,7 +161,7 @@ fn replay_all<'a>(
 }
 
 // What the questions of a restore give: accepted, with the place past the last whole record and the plan read, or refused.
-#[derive(Drop)]
+#[derive(Clone, Copy)]
 struct Asked {
     verdict: base::Verdict,
     end: usize,

@@ -7,7 +7,7 @@ pub const BYTES: usize = 4096;
 
 // The line that was read last, and whether it is whole; what the last read of standard input answered, how many of its bytes are used, whether there may be
 // more, and whether it failed.
-#[derive(Drop)]
+#[derive(Clone, Copy)]
 pub struct Input {
     line: Line,
     pub whole: bool,

@@ -7,7 +7,7 @@ use script_numbers::Reading;
 
 // How many lines and drawings there are, and the drawing that is being read: its first line, 0 where none is being read; the first line of it that cannot be
 // read, or 0; and how many edges it has, whose lines and ends are in the columns that the caller lends.
-#[derive(Drop)]
+#[derive(Clone, Copy)]
 pub struct Sheet {
     at: u64,
     pub drawings: u64,

@@ -9,7 +9,7 @@ mod rules;
 // Two places for each sender.
 pub const PLACES: usize = closing_counts::PLACES;
 
-#[derive(Drop)]
+#[derive(Clone, Copy)]
 pub struct Closing {
     // each sender's first two different positions: those of sender s lie at 2s and 2s + 1; NO_OUTPUT where there is none
     pub kept: [base::Position; PLACES],
@@ -28,7 +28,7 @@ pub struct Closing {
 }
 
 // What the rules ask of the settings and the levels: level 0's output, or NO_OUTPUT.
-#[derive(Drop)]
+#[derive(Clone, Copy)]
 pub struct Context {
     pub n: u32,
     pub t: u32,
@@ -36,7 +36,7 @@ pub struct Context {
 }
 
 // What a rule does besides changing the record.
-#[derive(Drop)]
+#[derive(Clone, Copy)]
 pub enum Effect {
     // the rule does not apply
     Nothing,
@@ -48,7 +48,7 @@ pub enum Effect {
     Ready,
 }
 
-#[derive(Drop)]
+#[derive(Clone, Copy)]
 pub struct Applied {
     pub closing: Closing,
     pub effect: Effect,

@@ -9,7 +9,7 @@ ghost use Rattle.closing_run.specs.Inner.{bytes_by, Room, Gives};
 const RULES: u32 = closing::PLACES as u32 + 4;
 
 // What applying rules gave: the record, how many rules, and the place past the outgoing bytes.
-#[derive(Drop)]
+#[derive(Clone, Copy)]
 pub struct Ran {
     pub closing: closing::Closing,
     pub rules: u32,

@@ -10,21 +10,21 @@ ghost use Rattle.component.specs.Component.{size_of, port_of, neighbour_of, side
 ghost use Rattle.component.specs.Inner.{port_at, Lent, OfPlan, members, Flat, Holds, Enterable, Surveyed, HasSide, Finds, Surveys};
 
 // The first and the last position of a component of a range; nothing for a tree.
-#[derive(Drop)]
+#[derive(Clone, Copy)]
 pub struct Span {
     pub low: base::Position,
     pub high: base::Position,
 }
 
 // The centre of a component of three or more positions, and how many neighbours it has there.
-#[derive(Drop)]
+#[derive(Clone, Copy)]
 pub struct Centre {
     pub centre: base::Position,
     pub degree: u32,
 }
 
 // What the rules ask of a component of three or more positions, and of the board's position in it.
-#[derive(Drop)]
+#[derive(Clone, Copy)]
 pub struct Survey {
     pub centre: base::Position,
     pub degree: u32,

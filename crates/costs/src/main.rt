@@ -25,7 +25,7 @@ const INPUT: usize = 3;
 const STEP_SIZE: u32 = 2;
 
 // Which message goes to which board.
-#[derive(Drop)]
+#[derive(Clone, Copy)]
 struct Turn {
     message: usize,
     board: usize,
@@ -103,7 +103,7 @@ fn print(name: &[u8], x: u64) {
 }
 
 // The boards of a vote: their parties, the used lengths of their journals, and how many messages they handed over.
-#[derive(Drop)]
+#[derive(Clone, Copy)]
 struct Boards {
     parties: [member::Member; BOARDS],
     used: [usize; BOARDS],
@@ -111,7 +111,7 @@ struct Boards {
 }
 
 // The settings of the vote, and where its plan and its inputs stand in the input.
-#[derive(Drop)]
+#[derive(Clone, Copy)]
 struct Vote {
     boards: usize,
     faults: u32,

@@ -7,7 +7,7 @@ use script_numbers::{Number, Reading, both};
 use script_words::is_blank;
 
 // A line so far: how many words there are (4 stands for more), whether the last one goes on, the first one as a keyword, and the first three as numbers.
-#[derive(Drop)]
+#[derive(Clone, Copy)]
 pub struct Line {
     pub words: u8,
     pub inside: bool,
@@ -18,7 +18,7 @@ pub struct Line {
 }
 
 // What a line says: nothing, an edge between two vertices, a range from its lowest reading to its highest, or nothing that can be read.
-#[derive(Drop)]
+#[derive(Clone, Copy)]
 pub enum Said {
     Nothing,
     Edge(u32, u32),
@@ -27,7 +27,7 @@ pub enum Said {
 }
 
 // What reading on finds: whether the line ends, the line so far, and the place past what was read.
-#[derive(Drop)]
+#[derive(Clone, Copy)]
 pub struct Scanned {
     pub ended: bool,
     pub line: Line,

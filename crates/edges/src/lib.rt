@@ -18,7 +18,7 @@ pub const ROOM: usize = DEGREES + base::MAX_VERTICES;
 const MAX_DEGREE: u16 = base::MAX_DEGREE as u16;
 
 // How many vertices the tree has, and how many edges are read.
-#[derive(Drop)]
+#[derive(Clone, Copy)]
 pub struct EdgeCount {
     pub vertices: usize,
     pub edges: usize,

@@ -3,7 +3,7 @@ ghost use Rattle.std.specs.Prelude.{◌≡◌};
 ghost use Rattle.format.specs.Reading.{field_at};
 
 // What is wrong with a field, or behind the last one.
-#[derive(Drop)]
+#[derive(Clone, Copy)]
 pub enum Fault {
     // The bytes end inside the field, and further bytes could bring it within its limits.
     Cut,
@@ -18,7 +18,7 @@ pub enum Fault {
 }
 
 // What reading a field finds: its value and the place past it, or what is wrong with it.
-#[derive(Drop)]
+#[derive(Clone, Copy)]
 pub enum FieldRead {
     Value { value: u32, next: usize },
     Failed(Fault),

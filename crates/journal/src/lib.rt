@@ -10,7 +10,7 @@ ghost use Rattle.journal.specs.Reading.{fails_as, as_read, record_at};
 // The most bytes of a record that a call writes: its tag, a sender and a message; that of a start is no longer.
 pub const RECORD_SIZE: usize = 2 + base::PACKET_SIZE;
 
-#[derive(Drop)]
+#[derive(Clone, Copy)]
 pub enum Record {
     Start {
         agreement: u32,
@@ -23,7 +23,7 @@ pub enum Record {
 }
 
 // What reading a record finds: it and the place past it; a beginning of one, which only further bytes could make whole; or neither.
-#[derive(Drop)]
+#[derive(Clone, Copy)]
 pub enum RecordRead {
     Read { record: Record, next: usize },
     Torn,

@@ -14,7 +14,7 @@ pub const NOT_YET: u8 = level_counts::NOT_YET;
 pub const NO_OUTPUT: base::Position = base::MAX_POSITION + 1;
 
 // What the board did at a level. What it heard there is lent beside it: the senders of each message, by its slot.
-#[derive(Drop)]
+#[derive(Clone, Copy)]
 pub struct Level {
     // has the board entered the level, by which side of the level above (0 at level 0), and at which position?
     pub entered: bool,
@@ -41,7 +41,7 @@ pub struct Level {
 }
 
 // What the rules at a level ask of the settings, the plan and the level below.
-#[derive(Drop)]
+#[derive(Clone, Copy)]
 pub struct Context {
     pub n: u32,
     pub t: u32,
@@ -54,7 +54,7 @@ pub struct Context {
 }
 
 // What a rule does besides changing its level's record.
-#[derive(Drop)]
+#[derive(Clone, Copy)]
 pub enum Effect {
     // the rule does not apply
     Nothing,
@@ -68,7 +68,7 @@ pub enum Effect {
     SendEnter { side: u8 },
 }
 
-#[derive(Drop)]
+#[derive(Clone, Copy)]
 pub struct Applied {
     pub level: Level,
     pub effect: Effect,

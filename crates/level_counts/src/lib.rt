@@ -33,7 +33,7 @@ pub const CENTRES: usize = SIDES + NONE_PLACE;
 pub const SLOTS: usize = CENTRES + 1;
 
 // These constants.
-#[derive(Drop)]
+#[derive(Clone, Copy)]
 pub struct Places {
     pub none_value: u8,
     pub not_yet: u8,

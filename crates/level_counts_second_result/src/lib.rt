@@ -8,7 +8,7 @@ ghost use Rattle.level_counts_second_result.specs.Inner.{unsure_of, result_of};
 const NONE_ECHO: usize = level_counts::SECOND_ECHOES + level_counts::NONE_PLACE;
 
 // A result: its value, none, or level_counts::NOT_YET; a value's grade is 2 if sure, else 1.
-#[derive(Drop)]
+#[derive(Clone, Copy)]
 pub struct Graded {
     pub value: u8,
     pub sure: bool,

@@ -17,7 +17,7 @@ pub const MEMBER_RULES: u32 = 430;
 pub const MEMBER_BYTES: usize = 3000;
 
 // The limits as the code has them.
-#[derive(Drop)]
+#[derive(Clone, Copy)]
 pub struct Limits {
     pub messages: u32,
     pub messages_worst: u32,

@@ -5,7 +5,7 @@ ghost use Rattle.member.specs.Member as Definitions;
 ghost use Rattle.member.specs.Tie.{as_member};
 
 // Document 01's party record, with what closing adds to it.
-#[derive(Drop)]
+#[derive(Clone, Copy)]
 pub struct Member {
     pub party: party::Party,
     pub closing: closing::Closing,

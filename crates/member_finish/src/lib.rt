@@ -6,7 +6,7 @@ ghost use Rattle.closing_run.specs.Inner.{Room, Gives};
 ghost use Rattle.member_finish.specs.Inner.{closed_if, begins_by, first_of, context_by, Finishes};
 
 // What the end of a call gave: the levels with their chart, the closing record, how many rules, and the place past the outgoing bytes.
-#[derive(Drop)]
+#[derive(Clone, Copy)]
 pub struct Finished {
     pub levels: party::Levels,
     pub chart: party::Chart,

@@ -9,7 +9,7 @@ ghost use Rattle.message.specs.Reading.{as_read};
 // The value that stands for none.
 pub const NONE: u32 = message_values::NONE;
 
-#[derive(Drop)]
+#[derive(Clone, Copy)]
 pub enum Body {
     FirstEcho(u8),
     FirstProposal(u8),
@@ -19,7 +19,7 @@ pub enum Body {
     Centre,
 }
 
-#[derive(Drop)]
+#[derive(Clone, Copy)]
 pub struct Message {
     pub number: u32,
     pub level: u8,
@@ -27,7 +27,7 @@ pub struct Message {
 }
 
 // What reading a message's value finds: the message and the place past it, or what is wrong and the first byte of the value.
-#[derive(Drop)]
+#[derive(Clone, Copy)]
 pub enum MessageRead {
     Read { message: Message, next: usize },
     Failed { fault: format::Fault, at: usize },

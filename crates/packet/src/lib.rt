@@ -18,7 +18,7 @@ const ECHO: u32 = LEVEL_KINDS + 1;
 const READY: u32 = ECHO + 1;
 
 // Document 01's message, of kinds 1 to 8.
-#[derive(Drop)]
+#[derive(Clone, Copy)]
 pub enum Packet {
     Level(message::Message),
     // kind 7: closing echo of a position
@@ -33,21 +33,21 @@ pub enum Packet {
 }
 
 // What reading a packet finds: it and the place past it, or what is wrong and the first byte of the field that fails.
-#[derive(Drop)]
+#[derive(Clone, Copy)]
 pub enum PacketRead {
     Read { packet: Packet, next: usize },
     Failed { fault: format::Fault, at: usize },
 }
 
 // Bytes that are exactly one packet, or what is wrong with them, and where.
-#[derive(Drop)]
+#[derive(Clone, Copy)]
 pub enum Exactly {
     One(Packet),
     Broken { fault: format::Fault, at: usize },
 }
 
 // What writing a packet did.
-#[derive(Drop)]
+#[derive(Clone, Copy)]
 pub enum PacketWritten {
     Bytes(usize),
     // A level or value outside the table: nothing was written.

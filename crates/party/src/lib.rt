@@ -16,7 +16,7 @@ pub type Sets = [senders::Mask; SETS];
 // What the board did at each level.
 pub type Levels = [level::Level; base::LEVELS];
 
-#[derive(Drop)]
+#[derive(Clone, Copy)]
 pub struct Party {
     pub n: u32,
     pub t: u32,
@@ -28,7 +28,7 @@ pub struct Party {
 }
 
 // The settings of a vote.
-#[derive(Drop)]
+#[derive(Clone, Copy)]
 pub struct Vote {
     pub n: u32,
     pub t: u32,
@@ -37,7 +37,7 @@ pub struct Vote {
 }
 
 // What the plan tells of a party's levels: kept beside the party during a call.
-#[derive(Drop)]
+#[derive(Clone, Copy)]
 pub struct Chart {
     // how many levels send: 0 to sending - 1
     pub sending: usize,

@@ -10,14 +10,14 @@ ghost use Rattle.party.specs.Inner.{Charts};
 ghost use Rattle.party_fields.specs.Inner.{values_fit, entry_fits};
 ghost use Rattle.party_inspect.specs.Inner.{part_fits, part_of, entered_fits, Over, Ready, Sends, Settles, Filled};
 
-#[derive(Drop)]
+#[derive(Clone, Copy)]
 pub struct Inspected {
     pub ok: bool,
     pub chart: party::Chart,
 }
 
 // The last level that sends: how many do, its survey, and where its component lies.
-#[derive(Drop)]
+#[derive(Clone, Copy)]
 struct Last {
     sending: usize,
     survey: component::Survey,
@@ -25,7 +25,7 @@ struct Last {
 }
 
 // Whether an entered level passes, and which level is then the last that sends.
-#[derive(Drop)]
+#[derive(Clone, Copy)]
 struct Entered {
     ok: bool,
     last: Last,

@@ -12,7 +12,7 @@ ghost use Rattle.party.specs.Inner.{set_count};
 ghost use Rattle.party_run.specs.Inner.{as_outcome, Gives, Ready, Room};
 
 // What applying rules gave: the levels with their chart, how many rules, and the place past the outgoing bytes.
-#[derive(Drop)]
+#[derive(Clone, Copy)]
 pub struct Ran {
     pub levels: party::Levels,
     pub chart: party::Chart,

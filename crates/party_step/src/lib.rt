@@ -6,7 +6,7 @@ ghost use Rattle.component.specs.Inner.{Lent, Enterable, HasSide, members};
 ghost use Rattle.party_step.specs.Inner.{seen, silent_as, no_entry, entry_by, way_of, place, Enters, Descends, Steps, Stepped};
 
 // A level entered, or left as it is: its record; whether it was entered just now and sends; and then its survey and where its component lies.
-#[derive(Drop)]
+#[derive(Clone, Copy)]
 pub struct Entered {
     pub level: level::Level,
     pub sends: bool,
@@ -15,7 +15,7 @@ pub struct Entered {
 }
 
 // Whether a rule enters the next level, by which side, and whether at the old position.
-#[derive(Drop)]
+#[derive(Clone, Copy)]
 pub struct Way {
     pub enters: bool,
     pub side: u8,

@@ -10,7 +10,7 @@ ghost use Rattle.plan.specs.Reading.{answered};
 ghost use Rattle.plan.specs.Tie.{shaped, as_plan, as_plan_read};
 
 // What is kept of a plan. Unused places are 0.
-#[derive(Drop)]
+#[derive(Clone, Copy)]
 pub struct Plan {
     // 1: tree, 2: range, 0: no plan
     pub kind: u32,
@@ -24,14 +24,14 @@ pub struct Plan {
 }
 
 // A plan without its rows.
-#[derive(Drop)]
+#[derive(Clone, Copy)]
 pub struct Shape {
     pub kind: u32,
     pub count: u32,
     pub low: u32,
 }
 
-#[derive(Drop)]
+#[derive(Clone, Copy)]
 pub struct PlanRead {
     pub verdict: base::Verdict,
     pub plan: Plan,

@@ -9,7 +9,7 @@ ghost use Rattle.plan_cycle.specs.Cycle.{value_at, past_at, edges_to_rejected, l
 ghost use Rattle.plan_cycle.specs.Inner.{marked};
 
 // Edges in plan order: how many, and of each its number among the plan's edges, counted from 0, and its two ends. The rest of the columns is 0.
-#[derive(Drop)]
+#[derive(Clone, Copy)]
 pub struct Cycle {
     pub count: usize,
     pub numbers: [u16; base::MAX_ROWS],

@@ -5,7 +5,7 @@ ghost use Rattle.plan_groups.specs.declared.Next.{Next};
 ghost use Rattle.plan_groups.specs.Inner.{wanting, kind_next, width_next, after_edges};
 
 // Which group comes next, or how the plan ended.
-#[derive(Drop)]
+#[derive(Clone, Copy)]
 pub enum Next {
     Kind,
     // a tree's vertex count
@@ -24,7 +24,7 @@ pub enum Next {
     Refused { number: u8, place: usize },
 }
 
-#[derive(Drop)]
+#[derive(Clone, Copy)]
 pub struct PlanSoFar {
     pub next: Next,
     pub edges: edges::EdgeCount,

@@ -11,7 +11,7 @@ ghost use Rattle.plan_messages.specs.Bound.{bound_by, bound_of};
 use level::Level;
 
 // What is found: the verdict of reading the plan, the number of sending levels that its deepest component needs, and seven times that; 0 where it is refused.
-#[derive(Drop)]
+#[derive(Clone, Copy)]
 pub struct Bound {
     pub verdict: base::Verdict,
     pub levels: u32,

@@ -5,7 +5,7 @@ ghost use Rattle.edges.specs.Inner.{Lent};
 ghost use Rattle.plan.specs.Reading.{plan_of, settled_plan, answered};
 ghost use Rattle.plan.specs.Tie.{as_plan_read};
 
-#[derive(Drop)]
+#[derive(Clone, Copy)]
 pub struct PlanReader<'a> {
     pub bytes: &'a [u8],
     pub at: usize,

@@ -2,7 +2,7 @@
 use second_wire::num::Room;
 
 // The settings that a set-up or a restore is given.
-#[derive(Drop)]
+#[derive(Clone, Copy)]
 pub struct Terms {
     pub boards: u32,
     pub faults: u32,

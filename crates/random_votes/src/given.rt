@@ -8,7 +8,7 @@ use random_votes_state::state::State;
 use random_votes_state::{call, count, state};
 
 // The call, the settings of a set-up or a restore, the input of a start, the sender of a take, and the used length.
-#[derive(Drop)]
+#[derive(Clone, Copy)]
 pub struct Given {
     pub call: usize,
     pub terms: Terms,

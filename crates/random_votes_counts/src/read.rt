@@ -10,7 +10,7 @@ use second_counts::codes;
 use second_plan::table::Table;
 
 // What a count reading gave: the refusal's number and place, whether there is an answer, and which count, as it is kept.
-#[derive(Drop)]
+#[derive(Clone, Copy)]
 pub struct Given {
     pub number: usize,
     pub place: usize,

@@ -12,7 +12,7 @@ use second_plan::table::Table;
 use second_wire::num;
 
 // What a pair reading gave: the refusal's number and place, and the positions of both answers plus 1, or 0.
-#[derive(Drop)]
+#[derive(Clone, Copy)]
 pub struct Given {
     pub number: usize,
     pub place: usize,

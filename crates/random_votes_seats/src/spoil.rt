@@ -15,7 +15,7 @@ const VALUE: usize = 3;
 const NO_FIELD: usize = 4;
 
 // The fields of a message, and which one or two are to be spoilt.
-#[derive(Drop)]
+#[derive(Clone, Copy)]
 struct Spoilt {
     number: usize,
     level: usize,

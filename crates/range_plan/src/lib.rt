@@ -17,7 +17,7 @@ const MOST: u64 = base::MAX_NUMBER as u64;
 const RAISE: u64 = MOST + 1;
 
 // The numbers of a range's plan, if both have varints: the one whose varint is the low reading, and the width, high minus low.
-#[derive(Drop)]
+#[derive(Clone, Copy)]
 pub enum Fields {
     Varints { low: u32, width: u32 },
     None,

@@ -9,7 +9,7 @@ pub const MIN_STEP_SIZE: u32 = 2;
 pub const MAX_STEP_SIZE: u32 = 1000;
 
 // The step that a count goes to, and what is left over.
-#[derive(Drop)]
+#[derive(Clone, Copy)]
 pub struct Rounded {
     pub step: i64,
     pub remainder: i64,

@@ -8,7 +8,7 @@ use script_numbers::{Number, Reading, both};
 use script_words::is_blank;
 
 // A line so far: how many words there are (4 stands for more), whether the last one goes on, and the first three.
-#[derive(Drop)]
+#[derive(Clone, Copy)]
 pub struct Line {
     pub words: u8,
     pub inside: bool,
@@ -18,7 +18,7 @@ pub struct Line {
 }
 
 // What a line says: a step, or nothing that can be read.
-#[derive(Drop)]
+#[derive(Clone, Copy)]
 pub enum Step {
     Unreadable,
     Boards(u32, u32),
@@ -29,7 +29,7 @@ pub enum Step {
 }
 
 // What reading on finds: the step of the line that ends, if one does; the line so far; and the place past what was read.
-#[derive(Drop)]
+#[derive(Clone, Copy)]
 pub struct Scanned {
     pub step: Step,
     pub line: Line,

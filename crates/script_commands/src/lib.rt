@@ -5,7 +5,7 @@ ghost use Rattle.script_commands.specs.Commands.{spelling};
 ghost use Rattle.script_commands.specs.Inner.{by_initial, byte_is, no_keyword, keyword_with, command_named};
 
 // The command that a first word names.
-#[derive(Drop)]
+#[derive(Clone, Copy)]
 pub enum Command {
     Unknown,
     Boards,
@@ -16,7 +16,7 @@ pub enum Command {
 }
 
 // The first word so far: the command whose name begins so, and how many letters there are.
-#[derive(Drop)]
+#[derive(Clone, Copy)]
 pub struct Keyword {
     pub command: Command,
     pub letters: usize,

@@ -5,7 +5,7 @@ ghost use Rattle.script_numbers.specs.Numbers.{is_digit};
 ghost use Rattle.script_numbers.specs.Inner.{no_number, unread, minus_with, digit_with, number_with, is_number, is_natural, reading_of};
 
 // A number so far: is there a minus, is there a digit, has it become unreadable, and what are the digits worth?
-#[derive(Drop)]
+#[derive(Clone, Copy)]
 pub struct Number {
     pub negative: bool,
     pub begun: bool,
@@ -14,7 +14,7 @@ pub struct Number {
 }
 
 // A signed number: its sign and its distance from 0.
-#[derive(Drop)]
+#[derive(Clone, Copy)]
 pub struct Reading {
     pub negative: bool,
     pub magnitude: u32,

@@ -14,14 +14,14 @@ use second_plan::{plans, table};
 use second_wire::{num, wire};
 
 // An answer, if it is there.
-#[derive(Drop)]
+#[derive(Clone, Copy)]
 pub struct Found {
     pub there: bool,
     pub value: i64,
 }
 
 // Whether the board is closed, and its closing value.
-#[derive(Drop)]
+#[derive(Clone, Copy)]
 pub struct ClosingRead {
     pub closed: bool,
     pub value: Found,

@@ -5,7 +5,7 @@ use second_plan::table::Table;
 use second_plan::{plans, table};
 
 // The verdict, and the answers of the first and the second vote: both are there, or neither.
-#[derive(Drop)]
+#[derive(Clone, Copy)]
 pub struct Pair {
     pub verdict: Verdict,
     pub first: Found,

@@ -10,7 +10,7 @@ use second_wire::{num, wire};
 
 // The number of the refused question, or 0, its place, the journal's used length, how many bytes of
 // the outgoing buffer are messages, and how many rules were applied.
-#[derive(Drop)]
+#[derive(Clone, Copy)]
 pub struct Done {
     pub number: u32,
     pub place: usize,

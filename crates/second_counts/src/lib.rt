@@ -12,14 +12,14 @@ use second_plan::{plans, table};
 use second_wire::wire;
 
 // What a start by count gave, and the remainder that it reports: 0 where it is refused.
-#[derive(Drop)]
+#[derive(Clone, Copy)]
 pub struct CountDone {
     pub done: Done,
     pub rest: i64,
 }
 
 // What the count answer's call gave.
-#[derive(Drop)]
+#[derive(Clone, Copy)]
 pub struct CountRead {
     pub verdict: Verdict,
     pub found: Found,

@@ -10,7 +10,7 @@ const MIDDLE: usize = 4611686018427387904;
 pub const BEYOND: usize = 2 * plans::ZERO;
 
 // A step as it is kept, and the remainder.
-#[derive(Drop)]
+#[derive(Clone, Copy)]
 pub struct Rounded {
     pub step: usize,
     pub rest: i64,

@@ -6,7 +6,7 @@ use crate::{bits, cycle, joined, path};
 use second_wire::{group, num};
 
 // A smallest set so far, its size, and how many sets have that size.
-#[derive(Drop)]
+#[derive(Clone, Copy)]
 struct Best {
     set: usize,
     size: usize,

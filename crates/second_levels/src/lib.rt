@@ -13,7 +13,7 @@ const MESSAGES: usize = 7;
 
 // Number and place of the plan's refusal, 0 if there is none; where the plan passes, how many levels
 // the deepest component needs to send, and 7 times that, else 0.
-#[derive(Drop)]
+#[derive(Clone, Copy)]
 pub struct Bound {
     pub number: u32,
     pub place: usize,

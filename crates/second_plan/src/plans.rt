@@ -16,7 +16,7 @@ const MOST_EDGES: usize = 15;
 pub const ZERO: usize = 2147483648;
 
 // The number of the refused question, or 0, and its place.
-#[derive(Drop)]
+#[derive(Clone, Copy)]
 pub struct Verdict {
     pub number: u32,
     pub place: usize,

@@ -6,7 +6,7 @@ use second_wire::num::Room;
 use second_wire::{num, wire};
 
 // How many rules were applied, and how many bytes of messages they sent.
-#[derive(Drop)]
+#[derive(Clone, Copy)]
 pub struct Ran {
     pub rules: usize,
     pub sent: usize,

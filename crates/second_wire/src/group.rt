@@ -23,7 +23,7 @@ pub const CUT_ABOVE: usize = 5;
 pub const LARGEST: usize = 4294967295;
 
 // The value of the pieces read, how many they are, and the place after them.
-#[derive(Drop)]
+#[derive(Clone, Copy)]
 pub struct Group {
     pub state: usize,
     pub value: usize,

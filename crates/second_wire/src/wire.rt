@@ -39,7 +39,7 @@ pub const LAST_POSITION: usize = 65535;
 
 // A start at a position, or a message of a sender, and the place after it. The state is that of the
 // first group that is not whole within its limits, and the place then its first byte's.
-#[derive(Drop)]
+#[derive(Clone, Copy)]
 pub struct Record {
     pub state: usize,
     pub sort: usize,

@@ -7,7 +7,7 @@ ghost use Rattle.signed.specs.Signed.{zigzag, unzigzag, signed_at, signed_bytes,
 const MINUS_ONE: u32 = base::OFFSET_ZERO - 1;
 
 // What reading a signed number finds: as for a varint.
-#[derive(Drop)]
+#[derive(Clone, Copy)]
 pub enum SignedRead {
     Value { value: i32, next: usize },
     Short,

@@ -17,7 +17,7 @@ const LATER_PIECES: u32 = MAX_PIECES - 1;
 const MAX_REST: u32 = base::MAX_NUMBER / PIECE;
 
 // What reading a varint finds.
-#[derive(Drop)]
+#[derive(Clone, Copy)]
 pub enum VarintRead {
     // The value, and the place past its last byte.
     Value { value: u32, next: usize },
@@ -28,7 +28,7 @@ pub enum VarintRead {
 }
 
 // What writing did.
-#[derive(Drop)]
+#[derive(Clone, Copy)]
 pub enum Written {
     // So many bytes were written.
     Bytes(usize),

@@ -1,0 +1,10 @@
+-- `bench_calls::Call::make` meets its contract.
+use native.Mathlib.Omega.{arith}
+use Rattle.bench_calls.proofs.Room.{start_roomy, take_roomy, has_room}
+use Rattle.bench_calls.proofs.Call.make.Goals as goal
+
+pub returns-then-self : goal.returns-then-self
+returns-then-self c = has_room c.start.ensures (start_roomy _ _ _ _ (omega arith) _)
+
+pub returns : goal.returns
+returns c = has_room c.take.ensures (take_roomy _ _ _ _ (omega arith) _ _)

@@ -1,0 +1,67 @@
+-- `board_door::start` meets its contract: what its questions find is carried out.
+use mathlib.Core.Path.{◌≡◌, refl, sym, ap, ◌∙◌}
+use Prim.Native.Nat.{◌<◌}
+use lib.ListN.{length}
+use mir.Syntax.{w64}
+use mir.ValLaws.{to_z-of_z}
+use Rattle.base.specs.Limits.{max_rows}
+use Rattle.base.specs.Found.{Found}
+use Rattle.plan.specs.Plan.{Plan}
+use Rattle.plan.specs.Tie.{shaped, as_plan}
+use Rattle.member.specs.Member.{Member}
+use Rattle.member.specs.Tie.{member_in}
+use Rattle.board_calls.specs.Answers.{position_of}
+use Rattle.board_calls.specs.Calls.{Entry, start_questions}
+use Rattle.board_laws.proofs.Parts.{length_mapped}
+use Rattle.board_questions.specs.Inner.{Asks}
+use Rattle.board_door.proofs.Doors.{begun_told, carriable, call_gives_lem}
+use borrow.Author.Rules.{rules}
+use Rattle.board_door.proofs.start.Goals as goal
+
+-- the lengths of a record's arrays
+rows : (s : tie.Start) → (length s.args.m.party.plan.parent ≡ max_rows) × (length s.args.m.party.plan.child ≡ max_rows)
+rows s = (search (rules, length_mapped), search (rules, length_mapped))
+
+-- a record has levels
+some : (s : tie.Start) → 0 < length s.args.m.party.levels
+some s = search (rules, length_mapped)
+
+-- its questions were asked
+module _ (c : tie.After-ask_start-a) where
+  abbrev i : tie.After-inspect-i
+  i = c.before.before.before.before
+
+  abbrev h : tie.After-shape-shape
+  h = i.before.before.before.before.before.before.before.before.before
+
+  abbrev v : tie.After-vote-v
+  v = h.before.before
+
+  abbrev s : tie.Start
+  s = v.before.before.before.before.before
+
+  abbrev asks : Member → Found Entry
+  asks p = start_questions p s.args.input (length s.args.journal.now) s.args.used (length s.args.out.now)
+
+  abbrev p : Member
+  p = member_in v.vote-v.result (shaped h.shape-shape.result s.args.m.party.plan.parent s.args.m.party.plan.child) s.args.m.party.levels s.args.m.party.sets s.args.m.closing
+
+  asked : Asks p (length s.args.journal.now) s.args.used (length s.args.out.now) (asks p) c.ask_start-a.result
+  asked =
+      c.ask_start-a.ensures.asks p s.args.input i.inspect-i.ensures.0
+      (begun_told v.vote-v.result p.party.plan s.args.m.party.levels s.args.m.party.sets s.args.m.closing (some s) c.begins.ensures)
+      refl
+      (c.position_of-x.ensures
+      ∙ ap (position_of (as_plan s.args.m.party.plan)) (to_z-of_z w64 s.args.input s.fits.input)
+      ∙ ap (λ (u : Plan). position_of u s.args.input) (sym h.shape-shape.ensures))
+
+pub carry_out-g-requires : goal.carry_out-g-requires
+carry_out-g-requires c =
+    let b = c.before.before.before.before in
+    carriable (s b).args.m (v b).vote-v.ensures (h b).shape-shape.ensures (asked b) (i b).inspect-i.ensures.0 (i b).inspect-i.ensures.1.0 (rows (s b)).0 (rows (s b)).1
+
+pub returns : goal.returns
+returns c =
+    let k = c.before.before.before.before.before.before in
+    let b = k.before.before.before.before.before in
+    call_gives_lem (s b).args.m (v b).vote-v.ensures (h b).shape-shape.ensures (asks b) _ _ (asked b) k.carry_out-g.ensures

@@ -1,0 +1,24 @@
+-- `board_questions::ask_start` meets its contract, question by question.
+use Rattle.board_questions.proofs.Asking.{start_shut, start_13, start_12, start_fit}
+use Rattle.board_questions.proofs.ask_start.Goals as goal
+
+pub returns-then-number-ne0 : goal.returns-then-number-ne0
+returns-then-number-ne0 c = start_shut c.at_door-number.ensures _ _ _ c.if-number-ne0.true
+
+pub returns-then-begun : goal.returns-then-begun
+returns-then-begun c =
+    let b = c.before in
+    start_13 b.at_door-number.ensures _ _ _ b.if-number-ne0.false c.if-begun.true
+
+pub returns-then-x-eq-NO_OUTPUT : goal.returns-then-x-eq-NO_OUTPUT
+returns-then-x-eq-NO_OUTPUT c =
+    let b = c.before.before in
+    start_12 b.at_door-number.ensures _ _ _ b.if-number-ne0.false c.if-begun.false c.if-x-eq-NO_OUTPUT.true
+
+pub fit-requires : goal.fit-requires
+fit-requires c = let b = c.before.before in (b.at_door-number.ensures.passes b.if-number-ne0.false).2
+
+pub returns : goal.returns
+returns c =
+    let b = c.before.before.before in
+    start_fit b.at_door-number.ensures _ _ _ b.if-number-ne0.false c.if-begun.false c.if-x-eq-NO_OUTPUT.false c.fit.ensures

@@ -1,0 +1,8 @@
+use native.Mathlib.Omega.{arith}
+use Prim.Native.Nat.{◌-◌}
+use Rattle.costs.proofs.give_all.Goals as goal
+
+pub loop-t-smaller : goal.loop-t-smaller
+loop-t-smaller c =
+    let l = c.before.before.before.before.before.before.before.before.before.before.before.before.before.before.before.before in
+    omega (arith, c.next-t.ensures.2, c.next-t.ensures.0, l.loop-t.invariant.0, l.loop-t.invariant.1, l.requires.1)

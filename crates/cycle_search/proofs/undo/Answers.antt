@@ -1,0 +1,54 @@
+-- `cycle_search::undo` meets its contract: what comes of undoing edge i, at the root that it moved.
+use Prim.Native.Nat.{◌+◌, ◌<◌}
+use native.Mathlib.Omega.{arith}
+use Rattle.base.specs.Limits.{max_vertices}
+use Rattle.edges.specs.Rows.{rows}
+use Rattle.cycle_search.proofs.Columns.{long, Undone, row, undone_row, undoable_before}
+use Rattle.cycle_search.proofs.undo.Goals as goal
+
+-- what comes of undoing edge i
+undone : (s : tie.Start)
+    → Undone max_vertices s.args.moved.now s.args.up.now (row s.args.one.now s.args.two.now s.args.i) s.args.i
+    (rows s.args.one.now s.args.two.now (s.args.i + 1)) (rows s.args.one.now s.args.two.now s.args.i) s.args.from.now s.args.to.now
+undone s = undone_row _ _ _ _ _ _ _ _ s.requires
+
+-- the root that it moved is a vertex
+inside : (c : tie.After-wide-l) → c.wide-l.result < max_vertices
+inside c = omega (arith, c.wide-l.ensures, (undone c.before.before.before.before.before.before.before.before).lower_below)
+
+pub offset_bounds-up-l : goal.offset_bounds-up-l
+offset_bounds-up-l c = omega (arith, inside c)
+
+pub bounds-up-l : goal.bounds-up-l
+bounds-up-l c = omega (arith, inside c.before)
+
+pub offset_bounds-up-l-2 : goal.offset_bounds-up-l-2
+offset_bounds-up-l-2 c = omega (arith, inside c.before.before.before)
+
+pub bounds-up-l-2 : goal.bounds-up-l-2
+bounds-up-l-2 c = omega (arith, inside c.before.before.before)
+
+pub shift-requires : goal.shift-requires
+shift-requires c =
+    let h = c.before.before.before.before.before.before in
+    let l = h.before.before in
+    let s = l.before.before.before.before.before.before.before.before in
+    let q = undone s in
+    let k = s.requires.columns in
+    rw (h.wide-h.ensures, l.wide-l.ensures) (
+      q.lower_below,
+      q.upper_below,
+      q.one_below,
+      q.first_below,
+      q.second_below,
+      record { up_long = long s.args.up.now _ _ k.up_long; from_long = k.from_long; to_long = k.to_long },
+      q.rooted,
+    )
+
+pub returns : goal.returns
+returns c =
+    let h = c.before.before.before.before.before.before.before.before.before.before.before in
+    let l = h.before.before in
+    let s = l.before.before.before.before.before.before.before.before in
+    let e = c.shift.ensures in
+    rw (e.0, e.1, e.2, h.wide-h.ensures, l.wide-l.ensures) (undoable_before _ _ _ _ _ _ _ _ s.requires, (undone s).asked)

@@ -1,0 +1,103 @@
+-- `drawing::number_at` meets its contract. The loop's invariant: no edge passed has its second end at the place, and `at` is past them.
+use mathlib.Core.Path.{◌≡◌, sym, ap, ap₂, ◌∙◌}
+use mathlib.Core.List.{List}
+use Prim.Native.Nat.{ℕ, ◌+◌, ◌-◌, ◌≤◌, ◌<◌}
+use native.Mathlib.Omega.{arith}
+use lib.ListN.{length, get_or}
+use borrow.Author.Tests.{eq-eqb, ne_eqb}
+use Rattle.base.specs.Pick.{smallest}
+use Rattle.base.proofs.Loops.{search_start, search_next, search_hit}
+use Rattle.varint.specs.Varint.{varint_bytes}
+use Rattle.varint.proofs.Lengths.{length_limits}
+use Rattle.edges.specs.Rows.{rows}
+use Rattle.plan.specs.Bytes.{edge_bytes}
+use Rattle.drawing.specs.Drawing.{number_at}
+use Rattle.drawing.proofs.Plans.{no_edges, edge_length, stands}
+use Rattle.drawing.proofs.number_at.Goals as goal
+
+pub overflow_add-at : goal.overflow_add-at
+overflow_add-at c = record { fits = omega (arith, (length_limits 1).1, (length_limits c.vertices.result).1, c.size.ensures, c.size-2.ensures) }
+
+pub loop-i-init : goal.loop-i-init
+loop-i-init c = (omega arith, rw (no_edges c.args.one.now c.args.two.now) (omega arith), search_start _, omega arith)
+
+-- in a turn there is a row, and the places are small
+small : (c : tie.In-loop-i invariant-loop decreases-loop) → (c.loop-i.i < 254) × (c.loop-i.at ≤ 2550)
+small c =
+    let k = c.kept-n.ensures.1 in (
+      omega (arith, k),
+      omega (arith, k, (length_limits 1).1, (length_limits c.vertices.result).1, c.size.ensures, c.size-2.ensures),
+    )
+
+pub offset_bounds-one-i : goal.offset_bounds-one-i
+offset_bounds-one-i c = record { fits = omega (arith, (small c).0) }
+
+pub bounds-one-i : goal.bounds-one-i
+bounds-one-i c = (small c).0
+
+-- the first end has at most five bytes
+first : (c : tie.After-size-in-loop-i invariant-loop decreases-loop) → c.size-in-loop-i.result ≤ 5
+first c = omega (arith, c.size-in-loop-i.ensures, (length_limits (get_or c.args.one.now c.loop-i.i 0)).1)
+
+pub overflow_add-second : goal.overflow_add-second
+overflow_add-second c = record { fits = omega (arith, first c, (small c.before.before).1) }
+
+-- what is found by the lengths of the code is found by those of the definition
+found : (c : tie.After-size-2 invariant-loop decreases-loop) (r : ℕ)
+    → r ≡ smallest c.kept-n.result (stands (c.size.result + c.size-2.result) c.args.one.now c.args.two.now c.args.place)
+    → r ≡ number_at c.args.count c.args.one.now c.args.two.now c.args.place
+found c r e =
+    e ∙ ap₂ (λ (h n : ℕ). smallest n (stands h c.args.one.now c.args.two.now c.args.place))
+    (ap₂ ◌+◌ c.size.ensures (c.size-2.ensures ∙ ap (λ (v : ℕ). length (varint_bytes v)) c.vertices.ensures))
+    c.kept-n.ensures.0
+
+pub returns-then-second-place : goal.returns-then-second-place
+returns-then-second-place c =
+    let ps : List ℕ = c.args.one.now in
+    let o = c.loop-i in
+    let h = c.size.result + c.size-2.result in
+    let e : (h + length (edge_bytes (rows ps c.args.two.now o.i))) + length (varint_bytes (get_or ps o.i 0)) ≡ c.args.place = omega (arith, c.size-in-loop-i.ensures) in
+    found c.before.before.before.before.before o.i (search_hit _ c.kept-n.result o.i o.invariant.2 c.loop-i-test.true (eq-eqb _ _ e))
+
+pub offset_bounds-two-i : goal.offset_bounds-two-i
+offset_bounds-two-i c = record { fits = omega (arith, (small c.before.before.before).0) }
+
+pub bounds-two-i : goal.bounds-two-i
+bounds-two-i c = (small c.before.before.before).0
+
+-- and so has the second
+second : (c : tie.After-size-in-loop-i-2 invariant-loop decreases-loop) → c.size-in-loop-i-2.result ≤ 5
+second c = omega (arith, c.size-in-loop-i-2.ensures, (length_limits (get_or c.args.two.now c.loop-i.i 0)).1)
+
+pub overflow_add-at-in-loop-i : goal.overflow_add-at-in-loop-i
+overflow_add-at-in-loop-i c = record { fits = omega (arith, first c.before.before.before, second c, (small c.before.before.before.before.before).1) }
+
+pub overflow_add-i : goal.overflow_add-i
+overflow_add-i c = record { fits = omega (arith, (small c.before.before.before.before.before).0) }
+
+pub loop-i-smaller : goal.loop-i-smaller
+loop-i-smaller c = omega arith
+
+pub loop-i-preserved : goal.loop-i-preserved
+loop-i-preserved c =
+    let ps : List ℕ = c.args.one.now in
+    let cs : List ℕ = c.args.two.now in
+    let o = c.loop-i in
+    let h = c.size.result + c.size-2.result in
+    let e = edge_length ps cs o.i in
+    let x = c.size-in-loop-i.ensures in
+    let y = c.size-in-loop-i-2.ensures in
+    let f = first c.before.before.before in
+    let g = second c in
+    let other : (h + length (edge_bytes (rows ps cs o.i))) + length (varint_bytes (get_or ps o.i 0)) ≡ c.args.place → ⊥ =
+    λ q. c.if-second-place.false (omega (arith, q, x))
+    in
+    (omega arith, omega arith, search_next _ o.i o.invariant.2 (ne_eqb _ _ other), omega arith)
+
+pub returns : goal.returns
+returns c =
+    let o = c.loop-i in
+    let n : ℕ = c.kept-n.result in
+    let f = stands (c.size.result + c.size-2.result) c.args.one.now c.args.two.now c.args.place in
+    let e : o.i ≡ n = omega arith in
+    found c.before.before n (sym e ∙ sym o.invariant.2 ∙ ap (λ (k : ℕ). smallest k f) e)

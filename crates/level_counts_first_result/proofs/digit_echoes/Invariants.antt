@@ -1,0 +1,21 @@
+-- The union so far.
+use mathlib.Core.Path.{◌≡◌}
+use mathlib.Core.Bool.{Bool}
+use Prim.Native.Nat.{ℕ, ◌+◌, ◌-◌, ◌/◌, ◌%◌, ◌^◌, ◌≤◌}
+use lib.Dec.{eqb}
+use mathlib.Core.List.{List}
+use lib.ListN.{get_or}
+use Rattle.senders.specs.Senders.{union_over}
+use Rattle.level_counts_first_result.proofs.digit_echoes.Given as goal
+
+abbrev pub has : ℕ → ℕ → ℕ → Bool
+has place b v = eqb ((v / 2 ^ place) % 2) b
+
+abbrev pub echo : List ℕ → ℕ → ℕ
+echo l v = get_or l v 0
+
+abbrev pub invariant-loop-v : goal.invariant-loop-v
+invariant-loop-v l = (l.v ≤ l.degree + 1) × (l.m ≡ union_over (has l.place l.digit) (echo l.sets) l.v)
+
+abbrev pub decreases-loop-v : goal.decreases-loop-v
+decreases-loop-v l = l.degree + 1 - l.v

@@ -1,0 +1,59 @@
+use mathlib.Core.Path.{sym, ◌∙◌}
+use native.Mathlib.Omega.{arith}
+use lib.Dec.{T}
+use borrow.Author.Tests.{not-true, not-false}
+use Rattle.base.specs.Sets.{Set}
+use Rattle.base.proofs.Bools.{true→T}
+use Rattle.plan.specs.Plan.{Plan}
+use Rattle.plan.specs.Tie.{shaped}
+use Rattle.component.specs.Inner.{members}
+use Rattle.party_inspect.proofs.Places.{part_elsewhere, part_small, part_large}
+use Rattle.party_inspect.proofs.inspect_part.Goals as goal
+
+-- the plan that is lent
+abbrev plan : tie.Start → Plan
+plan s = shaped s.args.shape s.args.ps.now s.args.cs.now
+
+-- its component
+abbrev component : tie.Start → Set
+component s = members (plan s) s.args.span s.args.ports.now
+
+-- it holds the position
+abbrev start : tie.Else-not-contains → tie.Start
+start d = d.before.before.before.before.before
+
+inside : (d : tie.Else-not-contains) → T (component (start d) (start d).args.l.position)
+inside d = true→T (sym d.contains.ensures ∙ not-false _ d.if-not-contains.false-raw)
+
+pub returns-then-not-contains : goal.returns-then-not-contains
+returns-then-not-contains c =
+    let s = c.before.before.before.before.before in
+    let a = s.args in
+    let b = c.contains in
+    part_elsewhere (plan s) (component s) a.l a.i a.last _ b.result b.ensures (not-true _ c.if-not-contains.true)
+
+pub size-requires : goal.size-requires
+size-requires c =
+    let s = c.before.before.before.before.before.before in
+    (s.requires.component, s.requires.flat)
+
+pub returns-then-size-lt3 : goal.returns-then-size-lt3
+returns-then-size-lt3 c =
+    let s = c.before.before.before.before.before.before.before.before.before in
+    let a = s.args in
+    let b = c.contains in
+    let u = c.unresolved in
+    part_small (plan s) (component s) a.l a.i a.last _ b.result b.ensures (not-false _ c.if-not-contains.false-raw) u.result (omega (arith, c.size.ensures, c.if-size-lt3.true)) u.ensures.0
+
+pub inspect_sending-requires : goal.inspect_sending-requires
+inspect_sending-requires c =
+    let s = c.before.before.before.before.before.before.before.before.before in
+    (s.requires, omega (arith, c.size.ensures, c.if-size-lt3.false), inside c.before.before.before.before)
+
+pub returns : goal.returns
+returns c =
+    let s = c.before.before.before.before.before.before.before.before.before.before in
+    let a = s.args in
+    let b = c.contains in
+    let r = c.inspect_sending in
+    part_large (plan s) (component s) a.l a.i a.last _ b.result b.ensures (not-false _ c.if-not-contains.false-raw) r.result (omega (arith, c.size.ensures, c.if-size-lt3.false)) r.ensures.0 r.ensures.1
