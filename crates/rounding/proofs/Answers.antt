@@ -154,7 +154,7 @@ module _ (g : ℕ) (ok : T (size_passes g)) where
 
       go : (o.step + g / 2 ≤ o.answer) ⊎ (o.own ≤ o.answer) → (p ≤ℤ count_answer g c y) ⊎ (c ≤ℤ count_answer g c y)
       go (inl l) = let r = reached in inl ((order_of o.low p (count_answer g c y) o.other o.answer o.other_is o.answer_is).1 (omega arith))
-      go (inr l) = inr ((order_of o.low c (count_answer g c y) o.own o.answer o.own-is o.answer_is).1 l)
+      go (inr l) = inr ((order_of o.low c (count_answer g c y) o.own o.answer o.own_is o.answer_is).1 l)
 
   pub answer_high : (c y q : ℤ) → y ≤ℤ nearest_step g q → (count_answer g c y ≤ℤ q) ⊎ (count_answer g c y ≤ℤ c)
   answer_high c y q h = go o.placed.high
@@ -170,4 +170,4 @@ module _ (g : ℕ) (ok : T (size_passes g)) where
 
       go : (o.answer + g / 2 ≤ o.step) ⊎ (o.answer ≤ o.own) → (count_answer g c y ≤ℤ q) ⊎ (count_answer g c y ≤ℤ c)
       go (inl l) = let r = reached in inl ((order_of o.low (count_answer g c y) q o.answer o.other o.answer_is o.other_is).1 (omega arith))
-      go (inr l) = inr ((order_of o.low (count_answer g c y) c o.answer o.own o.answer_is o.own-is).1 l)
+      go (inr l) = inr ((order_of o.low (count_answer g c y) c o.answer o.own o.answer_is o.own_is).1 l)

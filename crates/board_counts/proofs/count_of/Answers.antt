@@ -12,13 +12,13 @@ use Rattle.board_counts.proofs.count_of.Goals as goal
 
 pub count_answer-requires : goal.count_answer-requires
 count_answer-requires c =
-    let s = c.before.before.before in
+    let s = c in
     let a = c.a.given in
     (s.requires.0, subst (λ (z : ℤ). mag z < 2 ^ 33) (sym (to_z-of_z w64 a.0.0 (record { sfits = c.known-told.given.0.1 }))) (s.requires.1 a.0.0 a.1))
 
 pub returns-in-At : goal.returns-in-At
 returns-in-At c =
-    let s = c.before.before.before.before in
+    let s = c in
     let a = c.a.given in
     ap Answer.At
     (to_z-of_z w64 c.count_answer.result (record { sfits = c.count_answer.type-inv })

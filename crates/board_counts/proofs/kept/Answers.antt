@@ -9,7 +9,7 @@ use Rattle.board_counts.proofs.kept.Goals as goal
 
 pub returns-then-keep : goal.returns-then-keep
 returns-then-keep c =
-    let s = c.before in
+    let s = c in
     to_z-of_z w64 s.args.rest s.ranges.rest ∙ sym (ap (λ (b : Bool). pick b s.args.rest (pos 0)) c.if-keep.true)
 
 pub returns : goal.returns

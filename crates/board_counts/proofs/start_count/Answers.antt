@@ -17,31 +17,32 @@ use Rattle.board_calls.specs.Calls.{start_questions}
 use Rattle.board_calls.specs.Counts.{count_position, start_count_questions}
 use Rattle.board_laws.proofs.Counts.{count_as_start}
 use Rattle.board_counts.proofs.Questions.{at_count, refused_starts, asked_starts}
+use Rattle.board_counts.proofs.start_count.Goals.{After-round-r, After-start-c, After-step_input-input, Else-not-size_passes, Start}
 use Rattle.board_counts.proofs.start_count.Goals as goal
 
 pub returns-then-not-size_passes : goal.returns-then-not-size_passes
 returns-then-not-size_passes c =
-    let z = c.before.before in
-    let s = z.before.before.before in
+    let z = c in
+    let s = z in
     refused_starts (as_member s.args.m) s.args.size s.args.count s.args.used (length s.args.journal.now) (length s.args.out.now)
     (sym z.size_passes.ensures ∙ not-true _ c.if-not-size_passes.true) c.size_refusal-number.ensures
 
 -- the size passes
-passes : (c : tie.Else-not-size_passes) → T (size_passes c.args.size)
+passes : (c : Else-not-size_passes) → T (size_passes c.args.size)
 passes c = true→T (sym c.size_passes.ensures ∙ not-false _ c.if-not-size_passes.false-raw)
 
 pub round-r-requires : goal.round-r-requires
-round-r-requires c = passes c
+round-r-requires c = passes (goal.at.round-r-requires c).Else-not-size_passes
 
 -- the start of the input that was asked for
-module _ (b : tie.After-start-c) where
-  abbrev i : tie.After-step_input-input
+module _ (b : After-start-c) where
+  abbrev i : After-step_input-input
   i = b.before.before.before
 
-  abbrev r : tie.After-round-r
+  abbrev r : After-round-r
   r = i.before.before.before
 
-  abbrev s : tie.Start
+  abbrev s : Start
   s = r.before.before.before.before.before
 
   abbrev p : Member
@@ -64,8 +65,8 @@ module _ (b : tie.After-start-c) where
 
 pub returns : goal.returns
 returns c =
-    let a = c.before.before in
-    let b = a.before.before.before.before.before in
+    let a = c in
+    let b = (goal.at.returns c).After-start-c in
     asked_starts (p b) (s b).args.size (s b).args.count (s b).args.used (is_start_lem b) b.start-c.ensures a.accepted.ensures
     (to_z-of_z w64 c.kept-rest.result (record { sfits = c.kept-rest.type-inv })
     ∙ c.kept-rest.ensures

@@ -9,8 +9,8 @@ use Rattle.board_counts.proofs.step_input.Goals as goal
 
 pub returns-then-plan-eq-RANGE : goal.returns-then-plan-eq-RANGE
 returns-then-plan-eq-RANGE c =
-    let s = c.before.before in
+    let s = c in
     ap (position_of (as_plan s.args.plan)) (to_z-of_z w64 s.args.step s.ranges.step) ∙ input_range (as_plan s.args.plan) s.args.step c.if-plan-eq-RANGE.true
 
 pub returns : goal.returns
-returns c = let s = c.before.before in input_none (as_plan s.args.plan) s.args.step c.if-plan-eq-RANGE.false
+returns c = let s = c in input_none (as_plan s.args.plan) s.args.step c.if-plan-eq-RANGE.false

@@ -17,20 +17,21 @@ use Rattle.member.specs.Tie.{member_in}
 use Rattle.member_laws.proofs.Sized.{Sized}
 use Rattle.board_door.proofs.Doors.{refusal_carried, again_carried, carried_asks, record_carried}
 use borrow.Author.Rules.{rules}
+use Rattle.board_door.proofs.carry_out.Goals.{Start}
 use Rattle.board_door.proofs.carry_out.Goals as goal
 
 -- the plan and the board of the lent parts
-abbrev plan : tie.Start → Plan
+abbrev plan : Start → Plan
 plan s = shaped s.args.shape s.args.ps.now s.args.cs.now
 
-abbrev member : tie.Start → Member
+abbrev member : Start → Member
 member s = member_in s.args.v (plan s) s.args.levels s.args.sets.now s.args.c
 
 -- it has what the types of the levels and of the closing record say
-places : (s : tie.Start) → (length s.args.c.kept ≡ place_count) × (length s.args.c.relayed ≡ place_count)
+places : (s : Start) → (length s.args.c.kept ≡ place_count) × (length s.args.c.relayed ≡ place_count)
 places s = (search rules, search rules)
 
-sized : (s : tie.Start) → T (member_valid (member s)) → Sized (member s)
+sized : (s : Start) → T (member_valid (member s)) → Sized (member s)
 unfolding member_valid
 sized s v =
     let a = s.args in
@@ -44,13 +45,13 @@ sized s v =
 
 pub append-end-requires : goal.append-end-requires
 append-end-requires c =
-    let s = c.before.before.before.before.before.before in
+    let s = (goal.at.append-end-requires c).Start in
     (carried_asks c.in-Fresh.is (sized s) s.requires).3
 
 pub replay-ran-requires : goal.replay-ran-requires
 replay-ran-requires c =
-    let k = c.before.before.before.before.before.before.before.before.before.before in
-    let s = k.before.before.before.before in
+    let k = c in
+    let s = (goal.at.replay-ran-requires c).Start in
     let f = carried_asks k.in-Fresh.is (sized s) s.requires in
     (f.0, f.1, f.2)
 
@@ -62,7 +63,7 @@ returns-in-Again c = again_carried c.in-Again.is
 
 pub returns-in-Fresh : goal.returns-in-Fresh
 returns-in-Fresh c =
-    let r = c.before.before.before.before in
-    let a = r.before.before.before.before.before.before.before.before in
-    let s = a.before.before.before.before.before.before.before in
+    let r = c in
+    let a = r in
+    let s = (goal.at.returns-in-Fresh c).Start in
     record_carried {m = member s} s.args.v (plan s) _ _ a.in-Fresh.is a.append-end.ensures.0 a.append-end.ensures.1 r.replay-ran.ensures

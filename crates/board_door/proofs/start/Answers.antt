@@ -16,28 +16,29 @@ use Rattle.board_laws.proofs.Parts.{length_mapped}
 use Rattle.board_questions.specs.Inner.{Asks}
 use Rattle.board_door.proofs.Doors.{begun_told, carriable, call_gives_lem}
 use borrow.Author.Rules.{rules}
+use Rattle.board_door.proofs.start.Goals.{After-ask_start-a, After-inspect-i, After-shape-shape, After-vote-v, Start}
 use Rattle.board_door.proofs.start.Goals as goal
 
 -- the lengths of a record's arrays
-rows : (s : tie.Start) → (length s.args.m.party.plan.parent ≡ max_rows) × (length s.args.m.party.plan.child ≡ max_rows)
+rows : (s : Start) → (length s.args.m.party.plan.parent ≡ max_rows) × (length s.args.m.party.plan.child ≡ max_rows)
 rows s = (search (rules, length_mapped), search (rules, length_mapped))
 
 -- a record has levels
-some : (s : tie.Start) → 0 < length s.args.m.party.levels
+some : (s : Start) → 0 < length s.args.m.party.levels
 some s = search (rules, length_mapped)
 
 -- its questions were asked
-module _ (c : tie.After-ask_start-a) where
-  abbrev i : tie.After-inspect-i
+module _ (c : After-ask_start-a) where
+  abbrev i : After-inspect-i
   i = c.before.before.before.before
 
-  abbrev h : tie.After-shape-shape
+  abbrev h : After-shape-shape
   h = i.before.before.before.before.before.before.before.before.before
 
-  abbrev v : tie.After-vote-v
+  abbrev v : After-vote-v
   v = h.before.before
 
-  abbrev s : tie.Start
+  abbrev s : Start
   s = v.before.before.before.before.before
 
   abbrev asks : Member → Found Entry
@@ -57,11 +58,11 @@ module _ (c : tie.After-ask_start-a) where
 
 pub carry_out-g-requires : goal.carry_out-g-requires
 carry_out-g-requires c =
-    let b = c.before.before.before.before in
+    let b = (goal.at.carry_out-g-requires c).After-carry_out-arg-1 in
     carriable (s b).args.m (v b).vote-v.ensures (h b).shape-shape.ensures (asked b) (i b).inspect-i.ensures.0 (i b).inspect-i.ensures.1.0 (rows (s b)).0 (rows (s b)).1
 
 pub returns : goal.returns
 returns c =
-    let k = c.before.before.before.before.before.before in
-    let b = k.before.before.before.before.before in
+    let k = c in
+    let b = (goal.at.returns c).After-carry_out-arg-1 in
     call_gives_lem (s b).args.m (v b).vote-v.ensures (h b).shape-shape.ensures (asks b) _ _ (asked b) k.carry_out-g.ensures

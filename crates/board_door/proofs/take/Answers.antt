@@ -11,24 +11,25 @@ use Rattle.board_laws.proofs.Parts.{length_mapped}
 use Rattle.board_questions.specs.Inner.{Asks}
 use Rattle.board_door.proofs.Doors.{boards_most, carriable, call_gives_lem}
 use borrow.Author.Rules.{rules}
+use Rattle.board_door.proofs.take.Goals.{After-ask_take-a, After-inspect-i, After-shape-shape, After-vote-v, Start}
 use Rattle.board_door.proofs.take.Goals as goal
 
 -- the lengths of a record's arrays
-rows : (s : tie.Start) → (length s.args.m.party.plan.parent ≡ max_rows) × (length s.args.m.party.plan.child ≡ max_rows)
+rows : (s : Start) → (length s.args.m.party.plan.parent ≡ max_rows) × (length s.args.m.party.plan.child ≡ max_rows)
 rows s = (search (rules, length_mapped), search (rules, length_mapped))
 
-levels : (s : tie.Start) → length s.args.m.party.levels ≡ level_count
+levels : (s : Start) → length s.args.m.party.levels ≡ level_count
 levels s = search (rules, length_mapped)
 
 -- the record was looked at
-module _ (c : tie.After-inspect-i) where
-  abbrev h : tie.After-shape-shape
+module _ (c : After-inspect-i) where
+  abbrev h : After-shape-shape
   h = c.before.before.before.before.before.before.before.before.before
 
-  abbrev v : tie.After-vote-v
+  abbrev v : After-vote-v
   v = h.before.before
 
-  abbrev s : tie.Start
+  abbrev s : Start
   s = v.before.before.before.before.before.before
 
   abbrev asks : Member → Found Entry
@@ -38,11 +39,11 @@ module _ (c : tie.After-inspect-i) where
   p = member_in v.vote-v.result (shaped h.shape-shape.result s.args.m.party.plan.parent s.args.m.party.plan.child) s.args.m.party.levels s.args.m.party.sets s.args.m.closing
 
 pub ask_take-a-requires : goal.ask_take-a-requires
-ask_take-a-requires c = let i = c.before.before in boards_most (p i) i.inspect-i.ensures.0
+ask_take-a-requires c = let i = (goal.at.ask_take-a-requires c).After-ports-1 in boards_most (p i) i.inspect-i.ensures.0
 
 -- its questions were asked
-module _ (c : tie.After-ask_take-a) where
-  abbrev i : tie.After-inspect-i
+module _ (c : After-ask_take-a) where
+  abbrev i : After-inspect-i
   i = c.before.before.before
 
   asked : Asks (p i) (length (s i).args.journal.now) (s i).args.used (length (s i).args.out.now) (asks i (p i)) c.ask_take-a.result
@@ -50,11 +51,11 @@ module _ (c : tie.After-ask_take-a) where
 
 pub carry_out-g-requires : goal.carry_out-g-requires
 carry_out-g-requires c =
-    let b = c.before.before.before.before in
+    let b = (goal.at.carry_out-g-requires c).After-carry_out-arg-1 in
     carriable (s (i b)).args.m (v (i b)).vote-v.ensures (h (i b)).shape-shape.ensures (asked b) (i b).inspect-i.ensures.0 (i b).inspect-i.ensures.1.0 (rows (s (i b))).0 (rows (s (i b))).1
 
 pub returns : goal.returns
 returns c =
-    let k = c.before.before.before.before.before.before in
-    let b = k.before.before.before.before.before in
+    let k = c in
+    let b = (goal.at.returns c).After-carry_out-arg-1 in
     call_gives_lem (s (i b)).args.m (v (i b)).vote-v.ensures (h (i b)).shape-shape.ensures (asks (i b)) _ _ (asked b) k.carry_out-g.ensures

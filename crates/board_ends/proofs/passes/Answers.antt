@@ -6,7 +6,7 @@ use Rattle.board_ends.proofs.passes.Goals as goal
 
 pub returns : goal.returns
 returns c =
-    let s = c.before.before.before.before.before.before.before.before.before.before in
-    let v = s.before.before in
+    let s = c in
+    let v = s in
     let m = v.args.m in
     c.inspect-i.ensures.0 ∙ ap member_valid (parts m.party v.vote-v.ensures s.shape-shape.ensures m.party.levels m.party.sets m.closing)

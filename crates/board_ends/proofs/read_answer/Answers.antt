@@ -14,10 +14,11 @@ use Rattle.board_calls.specs.Answers.{answer_of}
 use Rattle.board_laws.proofs.Parts.{length_mapped}
 use borrow.Author.Rules.{rules}
 use Rattle.board_ends.proofs.Ends.{answer_refused, answer_read}
+use Rattle.board_ends.proofs.read_answer.Goals.{Start}
 use Rattle.board_ends.proofs.read_answer.Goals as goal
 
 -- a record has levels
-some : (s : tie.Start) → 0 < length s.args.m.party.levels
+some : (s : Start) → 0 < length s.args.m.party.levels
 some s = let l : length s.args.m.party.levels ≡ level_count = search (rules, length_mapped) in omega arith
 
 -- what the answer asks of the rest, with this output of level 0
@@ -29,8 +30,8 @@ returns-then-not-passes c = answer_refused (as_member c.args.m) c.passes.ensures
 
 pub returns : goal.returns
 returns c =
-    let e = c.before.before.before.before in
-    let s = e.before.before in
+    let e = c in
+    let s = (goal.at.returns c).Else-not-passes in
     let m = s.args.m in
     let x = c.answer_in-x.ensures ∙ ap (λ (y : ℕ). answer_in (context m y) m.closing) (sym (output m.party (some s))) in
     answer_read (as_member m) e.passes.ensures e.if-not-passes.false-raw (c.answer_at-a.ensures ∙ ap (answer_of (as_plan m.party.plan)) x)

@@ -8,5 +8,5 @@ returns-then-not-passes c = closing_refused (as_member c.args.m) c.passes.ensure
 
 pub returns : goal.returns
 returns c =
-    let e = c.before in
+    let e = c in
     closing_read (as_member e.args.m) e.passes.ensures e.if-not-passes.false-raw c.answer_at-x.ensures

@@ -9,14 +9,14 @@ use Rattle.board_positions.proofs.position_of.Goals as goal
 
 pub returns-then-plan-eq1 : goal.returns-then-plan-eq1
 returns-then-plan-eq1 c =
-    let s = c.before.before.before in
+    let s = c in
     c.vertex_position.ensures
     ∙ ap (vertex_of (as_plan s.args.plan)) (to_z-of_z w64 s.args.input s.ranges.input)
     ∙ of_tree (as_plan s.args.plan) s.args.input c.if-plan-eq1.true
 
 pub returns : goal.returns
 returns c =
-    let s = c.before.before.before in
+    let s = c in
     c.range_position.ensures
     ∙ ap (range_position (as_plan s.args.plan)) (to_z-of_z w64 s.args.input s.ranges.input)
     ∙ of_range (as_plan s.args.plan) s.args.input c.if-plan-eq1.false

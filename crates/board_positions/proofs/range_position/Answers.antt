@@ -13,23 +13,23 @@ use Rattle.board_positions.proofs.range_position.Goals as goal
 
 pub overflow_add-x : goal.overflow_add-x
 overflow_add-x c =
-    let s = c.before.before.before in
+    let s = c in
     record { fits = omega (arith, c.magnitude-x.ensures ∙ mag_back w64 s.args.input s.ranges.input, s.ranges.input.sfits) }
 
 pub overflow_add-low : goal.overflow_add-low
 overflow_add-low c =
-    let s = c.before.before.before in
+    let s = c in
     record { fits = omega (arith, c.magnitude-x.ensures ∙ mag_back w64 s.args.input s.ranges.input, s.ranges.input.sfits) }
 
 pub returns-then-low-x-gt-OFFSET_ZERO : goal.returns-then-low-x-gt-OFFSET_ZERO
 returns-then-low-x-gt-OFFSET_ZERO c =
-    let s = c.before.before.before.before in
+    let s = c in
     let m : c.magnitude-x.result ≡ mag s.args.input = c.magnitude-x.ensures ∙ mag_back w64 s.args.input s.ranges.input in
     range_below (as_plan s.args.plan) s.args.input (mag s.args.input) (below_zero w64 s.args.input s.ranges.input c.if-input-lt0.true) (omega arith)
 
 pub returns-then-input-lt0 : goal.returns-then-input-lt0
 returns-then-input-lt0 c =
-    let s = c.before.before.before.before.before in
+    let s = c in
     let m : c.magnitude-x.result ≡ mag s.args.input = c.magnitude-x.ensures ∙ mag_back w64 s.args.input s.ranges.input in
     c.on_plan.ensures
     ∙ ap (λ (x : ℕ). on_plan (as_plan s.args.plan) (offset_zero - (x + 1) - s.args.plan.low)) m
@@ -37,23 +37,23 @@ returns-then-input-lt0 c =
 
 pub overflow_add-x-2 : goal.overflow_add-x-2
 overflow_add-x-2 c =
-    let s = c.before.before.before in
+    let s = c in
     record { fits = omega (arith, c.magnitude-x.ensures ∙ mag_back w64 s.args.input s.ranges.input, s.ranges.input.sfits) }
 
 pub returns-then-x-low : goal.returns-then-x-low
 returns-then-x-low c =
-    let s = c.before.before.before.before in
+    let s = c in
     let m : c.magnitude-x.result ≡ mag s.args.input = c.magnitude-x.ensures ∙ mag_back w64 s.args.input s.ranges.input in
     range_under (as_plan s.args.plan) s.args.input (mag s.args.input) (from_zero w64 s.args.input s.ranges.input c.if-input-lt0.false) (omega arith)
 
 pub overflow_add-x-3 : goal.overflow_add-x-3
 overflow_add-x-3 c =
-    let s = c.before.before.before.before in
+    let s = c in
     record { fits = omega (arith, c.magnitude-x.ensures ∙ mag_back w64 s.args.input s.ranges.input, s.ranges.input.sfits) }
 
 pub returns : goal.returns
 returns c =
-    let s = c.before.before.before.before.before in
+    let s = c in
     let m : c.magnitude-x.result ≡ mag s.args.input = c.magnitude-x.ensures ∙ mag_back w64 s.args.input s.ranges.input in
     c.«on-plan2».ensures
     ∙ ap (λ (x : ℕ). on_plan (as_plan s.args.plan) (x + offset_zero - s.args.plan.low)) m

@@ -7,18 +7,18 @@ returns-then-number-ne0 c = start_shut c.at_door-number.ensures _ _ _ c.if-numbe
 
 pub returns-then-begun : goal.returns-then-begun
 returns-then-begun c =
-    let b = c.before in
+    let b = c in
     start_13 b.at_door-number.ensures _ _ _ b.if-number-ne0.false c.if-begun.true
 
 pub returns-then-x-eq-NO_OUTPUT : goal.returns-then-x-eq-NO_OUTPUT
 returns-then-x-eq-NO_OUTPUT c =
-    let b = c.before.before in
+    let b = c in
     start_12 b.at_door-number.ensures _ _ _ b.if-number-ne0.false c.if-begun.false c.if-x-eq-NO_OUTPUT.true
 
 pub fit-requires : goal.fit-requires
-fit-requires c = let b = c.before.before in (b.at_door-number.ensures.passes b.if-number-ne0.false).2
+fit-requires c = let b = c in (b.at_door-number.ensures.passes b.if-number-ne0.false).2
 
 pub returns : goal.returns
 returns c =
-    let b = c.before.before.before in
+    let b = c in
     start_fit b.at_door-number.ensures _ _ _ b.if-number-ne0.false c.if-begun.false c.if-x-eq-NO_OUTPUT.false c.fit.ensures

@@ -24,14 +24,14 @@ pub returns-then-number_of-v : goal.returns-then-number_of-v
 returns-then-number_of-v c =
     let s = c.args in
     taken_number (board_of s.v s.count) s.started s.r c.in-Taken.is
-    (λ e. c.if-number_of-v.true (c.number_of_lem.ensures ∙ e))
+    (λ e. c.if-number_of-v.true (c.number_of.ensures ∙ e))
 
 pub returns-then-v-sender : goal.returns-then-v-sender
 returns-then-v-sender c =
-    let k = c.before.before in
+    let k = c in
     let s = k.args in
     taken_sender (board_of s.v s.count) s.started s.r k.in-Taken.is
-    (sym k.number_of_lem.ensures ∙ k.if-number_of-v.false) c.if-v-sender.true
+    (sym k.number_of.ensures ∙ k.if-number_of-v.false) c.if-v-sender.true
 
 pub returns-else-count-x : goal.returns-else-count-x
 returns-else-count-x c =
@@ -41,7 +41,7 @@ returns-else-count-x c =
 
 pub returns-else-v-sender : goal.returns-else-v-sender
 returns-else-v-sender c =
-    let k = c.before.before in
+    let k = c in
     let s = k.args in
     taken_passes (board_of s.v s.count) s.started s.r k.in-Taken.is
-    (sym k.number_of_lem.ensures ∙ k.if-number_of-v.false) c.if-v-sender.false
+    (sym k.number_of.ensures ∙ k.if-number_of-v.false) c.if-v-sender.false

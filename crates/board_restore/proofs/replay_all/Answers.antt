@@ -15,29 +15,29 @@ shape_of-out-in_default c = c.loop-at.invariant.long
 
 pub returns-in_default : goal.returns-in_default
 returns-in_default c =
-    let l = c.before.before.before in
+    let l = c in
     absurd (replaying_read l.requires l.loop-at.invariant c.loop-at-test.true (subst NoRecord c.read_at.ensures c.match.keys2))
 
 pub replay-g-requires : goal.replay-g-requires
 replay-g-requires c =
-    let k = c.before.before.before.before.before.before in
-    let l = k.before.before.before.before in
+    let k = c in
+    let l = k in
     let f = replaying_asks l.requires l.loop-at.invariant k.loop-at-test.true (sym k.read_at.ensures ∙ k.in-Read.is) in
     (f.0, omega (arith, f.1), f.2)
 
 pub overflow_add-rules : goal.overflow_add-rules
 overflow_add-rules c =
-    let g = c.before.before.before.before.before.before in
-    let k = g.before.before.before.before.before.before.before in
-    let l = k.before.before.before.before in
+    let g = c in
+    let k = g in
+    let l = k in
     let f = replaying_sum l.requires l.loop-at.invariant k.loop-at-test.true (sym k.read_at.ensures ∙ k.in-Read.is)
     g.replay-g.result.rules g.replay-g.ensures.rules in
     record { fits = omega arith }
 
 pub loop-at-smaller : goal.loop-at-smaller
 loop-at-smaller c =
-    let k = c.before.before.before.before.before.before.before.before.before.before.before.before.before in
-    let l = k.before.before.before.before in
+    let k = c in
+    let l = k in
     omega (
       arith,
       k.loop-at-test.true,
@@ -46,9 +46,9 @@ loop-at-smaller c =
 
 pub loop-at-preserved : goal.loop-at-preserved
 loop-at-preserved c =
-    let g = c.before.before.before.before.before.before in
-    let k = g.before.before.before.before.before.before.before in
-    let l = k.before.before.before.before in
+    let g = c in
+    let k = g in
+    let l = k in
     replaying_next l.requires l.loop-at.invariant k.loop-at-test.true (sym k.read_at.ensures ∙ k.in-Read.is)
     g.replay-g.ensures g.replay-g.auto.out
 

@@ -6,37 +6,38 @@ use Rattle.party.specs.declared.Vote.{Vote}
 use Rattle.plan.specs.Tie.{as_plan}
 use Rattle.board_restore.specs.Inner.{Answers}
 use Rattle.board_restore.proofs.Restores.{unrestored_gives, restore_asks, restore_gives}
+use Rattle.board_restore.proofs.restore.Goals.{After-ask-a, In_default, Start}
 use Rattle.board_restore.proofs.restore.Goals as goal
 
-abbrev vote : tie.Start → Vote
+abbrev vote : Start → Vote
 vote s = record { n = s.args.n; t = s.args.t; own = s.args.own; agreement = s.args.agreement }
 
 -- what the questions gave
-abbrev Gave : tie.After-ask-a → Verdict → Type 0
+abbrev Gave : After-ask-a → Verdict → Type 0
 Gave c w =
     let s = c.before.before.before.before in
     Answers (vote s) s.args.bytes.now s.args.journal.now (length s.args.out.now) (as_plan c.ask-a.result.plan) c.ask-a.result.end w
 
 pub returns-in-Refused : goal.returns-in-Refused
-returns-in-Refused c = unrestored_gives (subst (Gave c.before.before.before.before) c.in-Refused.is c.ask-a.ensures) c.unrestored.ensures
+returns-in-Refused c = unrestored_gives (subst (Gave (goal.at.returns-in-Refused c).After-ask-a) c.in-Refused.is c.ask-a.ensures) c.unrestored.ensures
 
-passes : (c : tie.In_default) → Gave c.before.before Verdict.Accepted
+passes : (c : In_default) → Gave c.before.before Verdict.Accepted
 passes c = subst (Gave c.before.before) c.in_default.is c.ask-a.ensures
 
 pub replay_all-g-requires : goal.replay_all-g-requires
 replay_all-g-requires c =
-    let d = c.before.before.before.before.before in
-    let new = d.before.before.before in
-    let told = new.before.before.before in
+    let d = c in
+    let new = d in
+    let told = (goal.at.replay_all-g-requires c).In_default-1 in
     restore_asks (vote told.before.before.before.before.before.before) new.shape-shape.ensures new.new-new.result new.new-new.ensures
     d.none-none.result d.none-none.ensures (passes told).0
 
 pub returns : goal.returns
 returns c =
-    let g = c.before.before.before.before.before in
-    let d = g.before.before.before.before.before.before in
-    let new = d.before.before.before in
-    let told = new.before.before.before in
+    let g = c in
+    let d = g in
+    let new = d in
+    let told = (goal.at.returns c).In_default-1 in
     let s = told.before.before.before.before.before.before in
     restore_gives (vote s) new.shape-shape.ensures new.new-new.result new.new-new.ensures d.none-none.result d.none-none.ensures
     s.args.journal.now g.replay_all-g.new.sets g.replay_all-g.result (passes told).1 g.replay_all-g.ensures c.accept.ensures

@@ -14,7 +14,7 @@ use Rattle.closing_inspect.proofs.Laws.{places_start, places_next, places_fail}
 use Rattle.closing_inspect.proofs.places_pass.Goals as goal
 
 -- the array's length
-places : (s : tie.Start invariant-loop decreases-loop) → length s.args.c.kept ≡ place_count
+places : (s : tie.Start) → length s.args.c.kept ≡ place_count
 places s = search rules
 
 pub loop-i-init : goal.loop-i-init
@@ -26,7 +26,7 @@ offset_bounds-c-i c = omega arith
 pub returns-then-not-place_passes : goal.returns-then-not-place_passes
 returns-then-not-place_passes c =
     let a = c.args in
-    let l = places c.before.before.before.before.before in
+    let l = places (goal.at.returns-then-not-place_passes c).Start in
     let i = c.loop-i in
     let e = c.place_passes.ensures ∙ ap (place_passes a.n a.positions i.i) (get_d_within a.t1.kept i.i 0 no_output (omega arith)) in
     sym (places_fail a.n a.positions a.t1 (i.i + 1) place_count (omega arith) (places_next a.n a.positions a.t1 i.i i.invariant.1 e (not-true _ c.if-not-place_passes.true)))
@@ -40,7 +40,7 @@ loop-i-smaller c = omega arith
 pub loop-i-preserved : goal.loop-i-preserved
 loop-i-preserved c =
     let a = c.args in
-    let l = places c.before.before.before.before.before in
+    let l = places (goal.at.loop-i-preserved c).Start in
     let i = c.loop-i in
     let e = c.place_passes.ensures ∙ ap (place_passes a.n a.positions i.i) (get_d_within a.t1.kept i.i 0 no_output (omega arith)) in
     (omega arith, places_next a.n a.positions a.t1 i.i i.invariant.1 e (not-false _ c.if-not-place_passes.false-raw))

@@ -8,14 +8,14 @@ use Rattle.closing_run.proofs.emit.Goals as goal
 
 pub put-requires : goal.put-requires
 put-requires c =
-    let s = c.before.before.before.before.before in
+    let s = c in
     let a = s.args in
     subst (λ (bs : List ℕ). a.at + length bs ≤ length a.out.now) (echo_bytes a.number a.e c.in-Echo.x c.in-Echo.is)
     s.requires
 
 pub put-requires-in-Ready : goal.put-requires-in-Ready
 put-requires-in-Ready c =
-    let s = c.before.before.before.before in
+    let s = c in
     let a = s.args in
     subst (λ (bs : List ℕ). a.at + length bs ≤ length a.out.now) (ready_bytes a.number a.e c.in-Ready.is) s.requires
 

@@ -27,7 +27,7 @@ returns-then-not-applies c =
 
 pub emit-sent-requires : goal.emit-sent-requires
 emit-sent-requires c =
-    let s = c.before.before.before.before.before.before.before in
+    let s = c in
     let a = s.args in
     let l = c.loop-rules in
     let r = c.lowest_rule-a in
@@ -43,7 +43,7 @@ loop-rules-smaller c = omega arith
 
 pub loop-rules-preserved : goal.loop-rules-preserved
 loop-rules-preserved c =
-    let s = c.before.before.before.before.before.before.before.before.before.before.before in
+    let s = c in
     let a = s.args in
     let l = c.loop-rules in
     let r = c.lowest_rule-a in

@@ -11,7 +11,7 @@ use Rattle.component.proofs.neighbour.Goals as goal
 
 pub neighbour-requires : goal.neighbour-requires
 neighbour-requires c =
-    let a = c.before.before.before.before.before.before in
+    let a = c in
     let p = shaped a.args.s a.args.ps.now a.args.cs.now in
     let H = a.requires.1 in
     let k = c.if-s-eq1.true in
@@ -20,20 +20,20 @@ neighbour-requires c =
 
 pub overflow_cast-result : goal.overflow_cast-result
 overflow_cast-result c =
-    let a = c.before.before.before.before.before.before.before in
+    let a = c in
     let p = shaped a.args.s a.args.ps.now a.args.cs.now in
     let l = neighbour_most (rows p.parent p.child (p.count - 1)) p.count (numbered a.args.ports.now) a.args.k in
     record { fits = omega (arith, c.neighbour.ensures, tree_most p a.requires.1.surveyed.of.valid c.if-s-eq1.true) }
 
 pub returns-then-s-eq1 : goal.returns-then-s-eq1
 returns-then-s-eq1 c =
-    let a = c.before.before.before.before.before.before.before in
+    let a = c in
     let p = shaped a.args.s a.args.ps.now a.args.cs.now in
     c.neighbour.ensures ∙ sym (as_tree p a.args.span a.args.ports.now c.if-s-eq1.true (λ E S. neighbour E p.count S a.args.k))
 
 pub overflow_sub-result : goal.overflow_sub-result
 overflow_sub-result c =
-    let a = c.before.before.before.before.before in
+    let a = c in
     let p = shaped a.args.s a.args.ps.now a.args.cs.now in
     let H = a.requires.1 in
     let R = in_range p a.args.span a.args.ports.now H.surveyed.of c.if-s-eq1.false in
@@ -41,7 +41,7 @@ overflow_sub-result c =
 
 pub returns-then-k-eq1 : goal.returns-then-k-eq1
 returns-then-k-eq1 c =
-    let a = c.before.before.before.before.before in
+    let a = c in
     let p = shaped a.args.s a.args.ps.now a.args.cs.now in
     let H = a.requires.1 in
     let R = in_range p a.args.span a.args.ports.now H.surveyed.of c.if-s-eq1.false in
@@ -49,7 +49,7 @@ returns-then-k-eq1 c =
 
 pub overflow_add-result : goal.overflow_add-result
 overflow_add-result c =
-    let a = c.before.before.before.before.before in
+    let a = c in
     let p = shaped a.args.s a.args.ps.now a.args.cs.now in
     let H = a.requires.1 in
     let R = in_range p a.args.span a.args.ports.now H.surveyed.of c.if-s-eq1.false in
@@ -57,7 +57,7 @@ overflow_add-result c =
 
 pub returns : goal.returns
 returns c =
-    let a = c.before.before.before.before.before in
+    let a = c in
     let p = shaped a.args.s a.args.ps.now a.args.cs.now in
     let H = a.requires.1 in
     let R = in_range p a.args.span a.args.ports.now H.surveyed.of c.if-s-eq1.false in

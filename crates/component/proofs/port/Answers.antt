@@ -6,31 +6,31 @@ use Rattle.component.proofs.port.Goals as goal
 
 pub bounds-ports-x : goal.bounds-ports-x
 bounds-ports-x c =
-    let a = c.before.before.before.before in
+    let a = c in
     let p = shaped a.args.s a.args.ps.now a.args.cs.now in
     let O = a.requires.0.of in
     omega (arith, O.below a.args.x a.requires.1, tree_most p O.valid c.if-s-eq1.true)
 
 pub overflow_sub-result : goal.overflow_sub-result
 overflow_sub-result c =
-    let a = c.before.before.before.before.before in
+    let a = c in
     let p = shaped a.args.s a.args.ps.now a.args.cs.now in
     (port_tree p a.args.span a.args.ports.now c.if-s-eq1.true a.requires.0.numbers a.args.x a.requires.1).0
 
 pub returns-then-s-eq1 : goal.returns-then-s-eq1
 returns-then-s-eq1 c =
-    let a = c.before.before.before.before.before in
+    let a = c in
     let p = shaped a.args.s a.args.ps.now a.args.cs.now in
     (port_tree p a.args.span a.args.ports.now c.if-s-eq1.true a.requires.0.numbers a.args.x a.requires.1).1
 
 pub midpoint-requires : goal.midpoint-requires
 midpoint-requires c =
-    let a = c.before.before.before.before in
+    let a = c in
     let p = shaped a.args.s a.args.ps.now a.args.cs.now in
     (in_range p a.args.span a.args.ports.now a.requires.0.of c.if-s-eq1.false).order
 
 pub returns : goal.returns
 returns c =
-    let a = c.before.before.before.before.before.before in
+    let a = c in
     let p = shaped a.args.s a.args.ps.now a.args.cs.now in
     port_code p a.args.span a.args.ports.now (in_range p a.args.span a.args.ports.now a.requires.0.of c.if-s-eq1.false) a.requires.0.three a.args.x c.midpoint.result c.range_port.result a.requires.1 c.midpoint.ensures c.range_port.ensures

@@ -8,28 +8,28 @@ use Rattle.component.proofs.side.Goals as goal
 
 pub overflow_cast-k : goal.overflow_cast-k
 overflow_cast-k c =
-    let a = c.before.before.before.before.before in
+    let a = c in
     let p = shaped a.args.s a.args.ps.now a.args.cs.now in
     let H = a.requires in
     record { fits = omega (arith, H.high, degree_small p H.surveyed.of.valid (members p a.args.span a.args.ports.now)) }
 
 pub overflow_add-k : goal.overflow_add-k
 overflow_add-k c =
-    let a = c.before.before.before.before.before in
+    let a = c in
     let p = shaped a.args.s a.args.ps.now a.args.cs.now in
     let H = a.requires in
     record { fits = omega (arith, H.high, degree_small p H.surveyed.of.valid (members p a.args.span a.args.ports.now)) }
 
 pub returns-then-s-eq1 : goal.returns-then-s-eq1
 returns-then-s-eq1 c =
-    let a = c.before.before.before.before.before.before in
+    let a = c in
     let p = shaped a.args.s a.args.ps.now a.args.cs.now in
     let H = a.requires in
     side_tree p a.args.span a.args.ports.now c.if-s-eq1.true H.surveyed.numbers a.args.k H.low H.surveyed.of _ c.only.new.m c.only.ensures
 
 pub overflow_sub-result : goal.overflow_sub-result
 overflow_sub-result c =
-    let a = c.before.before.before.before.before in
+    let a = c in
     let p = shaped a.args.s a.args.ps.now a.args.cs.now in
     let H = a.requires in
     let R = in_range p a.args.span a.args.ports.now H.surveyed.of c.if-s-eq1.false in
@@ -37,7 +37,7 @@ overflow_sub-result c =
 
 pub returns-then-k-eq1 : goal.returns-then-k-eq1
 returns-then-k-eq1 c =
-    let a = c.before.before.before.before.before in
+    let a = c in
     let p = shaped a.args.s a.args.ps.now a.args.cs.now in
     let H = a.requires in
     let R = in_range p a.args.span a.args.ports.now H.surveyed.of c.if-s-eq1.false in
@@ -45,7 +45,7 @@ returns-then-k-eq1 c =
 
 pub overflow_add-result : goal.overflow_add-result
 overflow_add-result c =
-    let a = c.before.before.before.before.before in
+    let a = c in
     let p = shaped a.args.s a.args.ps.now a.args.cs.now in
     let H = a.requires in
     let R = in_range p a.args.span a.args.ports.now H.surveyed.of c.if-s-eq1.false in
@@ -53,7 +53,7 @@ overflow_add-result c =
 
 pub returns : goal.returns
 returns c =
-    let a = c.before.before.before.before.before in
+    let a = c in
     let p = shaped a.args.s a.args.ps.now a.args.cs.now in
     let H = a.requires in
     let R = in_range p a.args.span a.args.ports.now H.surveyed.of c.if-s-eq1.false in

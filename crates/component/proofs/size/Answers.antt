@@ -7,38 +7,38 @@ use Rattle.component.proofs.size.Goals as goal
 
 pub count-requires : goal.count-requires
 count-requires c =
-    let a = c.before.before.before.before.before.before in
+    let a = c in
     let p = shaped a.args.s a.args.ps.now a.args.cs.now in
     let m = tree_most p a.requires.0.valid c.if-s-eq1.true in
     (omega arith, m)
 
 pub overflow_cast-result : goal.overflow_cast-result
 overflow_cast-result c =
-    let a = c.before.before.before.before.before.before.before in
+    let a = c in
     let p = shaped a.args.s a.args.ps.now a.args.cs.now in
     record { fits = omega (arith, count_small p a.requires.0.valid (marked a.args.ports.now) c.count.result c.if-s-eq1.true c.count.ensures) }
 
 pub returns-then-s-eq1 : goal.returns-then-s-eq1
 returns-then-s-eq1 c =
-    let a = c.before.before.before.before.before.before.before in
+    let a = c in
     let p = shaped a.args.s a.args.ps.now a.args.cs.now in
     size_tree p a.args.span a.args.ports.now c.if-s-eq1.true a.requires.1 c.count.result c.count.ensures
 
 pub overflow_sub-result : goal.overflow_sub-result
 overflow_sub-result c =
-    let a = c.before.before.before.before.before in
+    let a = c in
     let p = shaped a.args.s a.args.ps.now a.args.cs.now in
     (in_range p a.args.span a.args.ports.now a.requires.0 c.if-s-eq1.false).order
 
 pub overflow_add-result : goal.overflow_add-result
 overflow_add-result c =
-    let a = c.before.before.before.before.before in
+    let a = c in
     let p = shaped a.args.s a.args.ps.now a.args.cs.now in
     let r = in_range p a.args.span a.args.ports.now a.requires.0 c.if-s-eq1.false in
     record { fits = omega (arith, r.high, r.most, r.order) }
 
 pub returns : goal.returns
 returns c =
-    let a = c.before.before.before.before.before in
+    let a = c in
     let p = shaped a.args.s a.args.ps.now a.args.cs.now in
     size_code p a.args.span a.args.ports.now (in_range p a.args.span a.args.ports.now a.requires.0 c.if-s-eq1.false)

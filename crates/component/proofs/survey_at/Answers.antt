@@ -4,17 +4,17 @@ use Rattle.component.proofs.survey_at.Goals as goal
 
 pub survey_ports-c-requires : goal.survey_ports-c-requires
 survey_ports-c-requires c =
-    let s = c.before.before.before in
+    let s = c in
     (s.requires.0.rows, s.requires.0.of, s.requires.1, s.requires.0.flat)
 
 pub port-k-requires : goal.port-k-requires
 port-k-requires c =
-    let s = c.before.before.before.before.before in
+    let s = c in
     let f = c.survey_ports-c in
     (found_surveyed _ _ _ _ f.result f.ensures s.requires.0.of s.requires.1, found_place _ _ _ _ f.result f.ensures s.args.x s.requires.0.place)
 
 pub returns : goal.returns
 returns c =
-    let s = c.before.before.before.before.before.before in
+    let s = c in
     let f = c.survey_ports-c in
     found_survey _ _ _ _ f.result f.ensures s.args.x c.port-k.result c.port-k.ensures

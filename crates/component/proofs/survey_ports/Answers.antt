@@ -9,7 +9,7 @@ use Rattle.component.proofs.survey_ports.Goals as goal
 
 pub overflow_sub-n : goal.overflow_sub-n
 overflow_sub-n c =
-    let a = c.before.before.before.before.before.before in
+    let a = c in
     let p = shaped a.args.s a.args.ps.now a.args.cs.now in
     let k = c.if-s-eq1.true in
     let O = subst (OfTree p.parent p.child p.count) (marks_are p a.args.span a.args.ports.now k a.requires.3) (of_tree p a.args.span a.args.ports.now k a.requires.0 a.requires.1) in
@@ -17,7 +17,7 @@ overflow_sub-n c =
 
 pub centre-c-requires : goal.centre-c-requires
 centre-c-requires c =
-    let a = c.before.before.before.before.before.before in
+    let a = c in
     let p = shaped a.args.s a.args.ps.now a.args.cs.now in
     let k = c.if-s-eq1.true in
     let O = subst (OfTree p.parent p.child p.count) (marks_are p a.args.span a.args.ports.now k a.requires.3) (of_tree p a.args.span a.args.ports.now k a.requires.0 a.requires.1) in
@@ -25,7 +25,7 @@ centre-c-requires c =
 
 pub number-d-requires : goal.number-d-requires
 number-d-requires c =
-    let a = c.before.before.before.before.before.before.before.before in
+    let a = c in
     let p = shaped a.args.s a.args.ps.now a.args.cs.now in
     let k = c.if-s-eq1.true in
     let O = subst (OfTree p.parent p.child p.count) (marks_are p a.args.span a.args.ports.now k a.requires.3) (of_tree p a.args.span a.args.ports.now k a.requires.0 a.requires.1) in
@@ -33,7 +33,7 @@ number-d-requires c =
 
 pub overflow_cast-result : goal.overflow_cast-result
 overflow_cast-result c =
-    let a = c.before.before.before.before.before.before.before.before.before in
+    let a = c in
     let p = shaped a.args.s a.args.ps.now a.args.cs.now in
     let k = c.if-s-eq1.true in
     let O = subst (OfTree p.parent p.child p.count) (marks_are p a.args.span a.args.ports.now k a.requires.3) (of_tree p a.args.span a.args.ports.now k a.requires.0 a.requires.1) in
@@ -41,7 +41,7 @@ overflow_cast-result c =
 
 pub overflow_cast-result-then-s-eq1 : goal.overflow_cast-result-then-s-eq1
 overflow_cast-result-then-s-eq1 c =
-    let a = c.before.before.before.before.before.before.before.before.before in
+    let a = c in
     let p = shaped a.args.s a.args.ps.now a.args.cs.now in
     let k = c.if-s-eq1.true in
     let O = subst (OfTree p.parent p.child p.count) (marks_are p a.args.span a.args.ports.now k a.requires.3) (of_tree p a.args.span a.args.ports.now k a.requires.0 a.requires.1) in
@@ -49,7 +49,7 @@ overflow_cast-result-then-s-eq1 c =
 
 pub returns-then-s-eq1 : goal.returns-then-s-eq1
 returns-then-s-eq1 c =
-    let a = c.before.before.before.before.before.before.before.before.before in
+    let a = c in
     let p = shaped a.args.s a.args.ps.now a.args.cs.now in
     let k = c.if-s-eq1.true in
     let O = subst (OfTree p.parent p.child p.count) (marks_are p a.args.span a.args.ports.now k a.requires.3) (of_tree p a.args.span a.args.ports.now k a.requires.0 a.requires.1) in
@@ -57,12 +57,12 @@ returns-then-s-eq1 c =
 
 pub midpoint-m-requires : goal.midpoint-m-requires
 midpoint-m-requires c =
-    let a = c.before.before.before.before in
+    let a = c in
     let p = shaped a.args.s a.args.ps.now a.args.cs.now in
     (in_range p a.args.span a.args.ports.now a.requires.1 c.if-s-eq1.false).order
 
 pub returns : goal.returns
 returns c =
-    let a = c.before.before.before.before.before in
+    let a = c in
     let p = shaped a.args.s a.args.ps.now a.args.cs.now in
     finds_range p a.args.span a.args.ports.now (in_range p a.args.span a.args.ports.now a.requires.1 c.if-s-eq1.false) a.requires.2 c.if-s-eq1.false _ c.midpoint-m.ensures refl

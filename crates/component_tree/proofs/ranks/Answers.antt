@@ -7,17 +7,17 @@ use Rattle.component_tree.proofs.Passes.{ranked_start, rank_room, ranked_more, r
 use Rattle.component_tree.proofs.ranks.Goals as goal
 
 pub loop-x-init : goal.loop-x-init
-loop-x-init c = let s = c.before.before in (search rules, count_start s.args.near.now, ranked_start s.args.near.now s.args.labels.now s.args.table.now)
+loop-x-init c = let s = c in (search rules, count_start s.args.near.now, ranked_start s.args.near.now s.args.labels.now s.args.table.now)
 
 pub rank-k-requires : goal.rank-k-requires
 rank-k-requires c =
-    let s = c.before.before.before.before.before.before.before.before in
+    let s = c in
     let o = c.loop-x in
     (omega (arith, c.wide.ensures, c.shared-slice-known4.given o.x), rank_room s.args.near.now s.args.labels.now s.args.n s.requires.2 o.x o.k c.loop-x-test.true o.invariant.1 s.requires.3)
 
 pub loop-x-preserved : goal.loop-x-preserved
 loop-x-preserved c =
-    let s = c.before.before.before.before.before.before.before.before.before in
+    let s = c in
     let o = c.loop-x in (
       search rules,
       c.rank-k.ensures.0 ∙ count_step s.args.near.now o.x o.k _ o.invariant.1 refl,
@@ -27,6 +27,6 @@ loop-x-preserved c =
 
 pub returns : goal.returns
 returns c =
-    let s = c.before.before.before.before.before in
+    let s = c in
     let o = c.loop-x in
     (c.wide-2.ensures ∙ count_end s.args.near.now s.args.n o.x o.k (omega arith) o.invariant.1, ranked_end s.args.near.now s.args.labels.now o.table o.x s.args.n (omega arith) o.invariant.2)

@@ -11,7 +11,7 @@ use Rattle.component_tree.proofs.renumber.Invariants.{new}
 use Rattle.component_tree.proofs.renumber.Goals as goal
 
 pub loop-x-init : goal.loop-x-init
-loop-x-init c = let s = c.before.before in (search rules, search rules, written_start (new s.args.ports.now s.args.labels.now s.args.table.now) s.args.ports.now)
+loop-x-init c = let s = c in (search rules, search rules, written_start (new s.args.ports.now s.args.labels.now s.args.table.now) s.args.ports.now)
 
 pub bounds-table-wide : goal.bounds-table-wide
 bounds-table-wide c = omega (arith, c.wide.ensures, c.shared-slice-known2.given c.loop-x.x)
@@ -19,7 +19,7 @@ bounds-table-wide c = omega (arith, c.wide.ensures, c.shared-slice-known2.given 
 pub loop-x-preserved : goal.loop-x-preserved
 unfolding marked
 loop-x-preserved c =
-    let s = c.before.before.before.before.before.before.before.before.before in
+    let s = c in
     let o = c.loop-x in
     let f = new s.args.ports.now s.args.labels.now s.args.table.now in (
       search rules,
@@ -32,6 +32,6 @@ loop-x-preserved c =
 
 pub returns : goal.returns
 returns c =
-    let s = c.before.before.before.before in
+    let s = c in
     let o = c.loop-x in
     written_end (new s.args.ports.now s.args.labels.now s.args.table.now) s.args.ports.now o.x s.args.n o.ports (omega arith) o.invariant.2

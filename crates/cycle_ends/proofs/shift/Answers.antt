@@ -5,7 +5,7 @@ use Rattle.cycle_ends.proofs.shift.Goals as goal
 
 pub keep_pulled-requires-2 : goal.keep_pulled-requires-2
 keep_pulled-requires-2 c =
-    let s = c.before.before.before.before.before.before.before.before.before.before.before.before.before.before in
+    let s = c in
     (s.requires.1, s.requires.2, s.requires.3, s.requires.4, record { up_long = search rules; from_long = search rules; to_long = search rules }, s.requires.6)
 
 pub returns : goal.returns

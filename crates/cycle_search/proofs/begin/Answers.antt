@@ -5,25 +5,26 @@ use Rattle.edges.specs.Rows.{rows}
 use Rattle.cycle_ends.specs.Inner.{Columns}
 use Rattle.cycle_search.proofs.Sets.{sets_of}
 use Rattle.cycle_search.proofs.Marking.{Latest, latest, latest_undoable, latest_need}
+use Rattle.cycle_search.proofs.begin.Goals.{Start}
 use Rattle.cycle_search.proofs.begin.Goals as goal
 
-rejected : (s : tie.Start) → Latest max_vertices s.args.one.now s.args.two.now s.args.j
+rejected : (s : Start) → Latest max_vertices s.args.one.now s.args.two.now s.args.j
 rejected s = latest _ _ _ _ s.requires.4 s.requires.5
 
 pub join_all-requires : goal.join_all-requires
-join_all-requires c = (search rules, search rules, search rules, search rules, (rejected c.before.before.before.before.before.before.before.before).below)
+join_all-requires c = (search rules, search rules, search rules, search rules, (rejected (goal.at.join_all-requires c).Start).below)
 
 pub keep_ends-requires : goal.keep_ends-requires
 keep_ends-requires c =
-    let j = c.before.before.before.before.before.before.before.before.before.before.before.before.before.before.before.before in
+    let j = c in
     let s = j.before.before.before.before.before.before.before.before.before in
     ((rejected s).one_below, search rules, (sets_of _ j.join_all.new.moved (rows _ _ s.args.j) _ j.join_all.ensures).rooted)
 
 pub returns : goal.returns
 returns c =
-    let e = c.before.before.before.before in
-    let k = e.before.before.before.before.before.before.before.before.before.before in
-    let j = k.before.before.before.before.before.before.before in
+    let e = c in
+    let k = e in
+    let j = k in
     let s = j.before.before.before.before.before.before.before.before.before in
     let moved = j.join_all.new.moved in
     let up = j.join_all.new.up in

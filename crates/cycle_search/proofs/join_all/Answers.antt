@@ -17,10 +17,10 @@ loop-i-init c =
 
 pub link-r-requires : goal.link-r-requires
 link-r-requires c =
-    let b = c.before.before in
-    let a = b.before.before in
+    let b = c in
+    let a = b in
     let o = a.loop-i in
-    let s = a.before.before.before.before.before.before.before.before.before.before.before.before.before.before in
+    let s = a in
     let w = row_below max_vertices _ _ s.args.m o.i a.loop-i-test.true s.requires.4 in
     (omega (arith, a.wide-a.ensures, w.0), omega (arith, b.wide-b.ensures, w.1), omega arith, omega arith, omega arith, o.invariant.4.forest)
 
@@ -29,9 +29,9 @@ overflow_cast-moved c = omega (arith, c.link-r.ensures.1.inside)
 
 pub loop-i-preserved : goal.loop-i-preserved
 loop-i-preserved c =
-    let l = c.before.before.before in
-    let b = l.before.before.before in
-    let a = b.before.before in
+    let l = c in
+    let b = l in
+    let a = b in
     let o = a.loop-i in
     let g = l.link-r in
     let fits : o.i < length o.moved = omega (arith, o.invariant.1, a.loop-i-test.true, a.requires.2) in

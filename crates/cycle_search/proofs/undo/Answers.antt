@@ -4,34 +4,35 @@ use native.Mathlib.Omega.{arith}
 use Rattle.base.specs.Limits.{max_vertices}
 use Rattle.edges.specs.Rows.{rows}
 use Rattle.cycle_search.proofs.Columns.{long, Undone, row, undone_row, undoable_before}
+use Rattle.cycle_search.proofs.undo.Goals.{After-wide-l, Start}
 use Rattle.cycle_search.proofs.undo.Goals as goal
 
 -- what comes of undoing edge i
-undone : (s : tie.Start)
+undone : (s : Start)
     → Undone max_vertices s.args.moved.now s.args.up.now (row s.args.one.now s.args.two.now s.args.i) s.args.i
     (rows s.args.one.now s.args.two.now (s.args.i + 1)) (rows s.args.one.now s.args.two.now s.args.i) s.args.from.now s.args.to.now
 undone s = undone_row _ _ _ _ _ _ _ _ s.requires
 
 -- the root that it moved is a vertex
-inside : (c : tie.After-wide-l) → c.wide-l.result < max_vertices
+inside : (c : After-wide-l) → c.wide-l.result < max_vertices
 inside c = omega (arith, c.wide-l.ensures, (undone c.before.before.before.before.before.before.before.before).lower_below)
 
 pub offset_bounds-up-l : goal.offset_bounds-up-l
-offset_bounds-up-l c = omega (arith, inside c)
+offset_bounds-up-l c = omega (arith, inside (goal.at.offset_bounds-up-l c).After-wide-l)
 
 pub bounds-up-l : goal.bounds-up-l
-bounds-up-l c = omega (arith, inside c.before)
+bounds-up-l c = omega (arith, inside (goal.at.bounds-up-l c).After-wide-l)
 
 pub offset_bounds-up-l-2 : goal.offset_bounds-up-l-2
-offset_bounds-up-l-2 c = omega (arith, inside c.before.before.before)
+offset_bounds-up-l-2 c = omega (arith, inside (goal.at.offset_bounds-up-l-2 c).After-wide-l)
 
 pub bounds-up-l-2 : goal.bounds-up-l-2
-bounds-up-l-2 c = omega (arith, inside c.before.before.before)
+bounds-up-l-2 c = omega (arith, inside (goal.at.bounds-up-l-2 c).After-wide-l)
 
 pub shift-requires : goal.shift-requires
 shift-requires c =
-    let h = c.before.before.before.before.before.before in
-    let l = h.before.before in
+    let h = c in
+    let l = h in
     let s = l.before.before.before.before.before.before.before.before in
     let q = undone s in
     let k = s.requires.columns in
@@ -47,8 +48,8 @@ shift-requires c =
 
 pub returns : goal.returns
 returns c =
-    let h = c.before.before.before.before.before.before.before.before.before.before.before in
-    let l = h.before.before in
+    let h = c in
+    let l = h in
     let s = l.before.before.before.before.before.before.before.before in
     let e = c.shift.ensures in
     rw (e.0, e.1, e.2, h.wide-h.ensures, l.wide-l.ensures) (undoable_before _ _ _ _ _ _ _ _ s.requires, (undone s).asked)

@@ -19,9 +19,9 @@ undo-requires c =
 
 pub loop-i-preserved : goal.loop-i-preserved
 loop-i-preserved c =
-    let u = c.before.before.before.before.before.before in
+    let u = c in
     let o = u.loop-i in
-    let s = u.before.before.before.before.before.before.before.before.before.before.before.before.before in
+    let s = u in
     let g = u.undo in
     let e : o.i - 1 + 1 ≡ o.i = omega arith in
     let n = rw e at g.ensures.1 in (

@@ -10,25 +10,25 @@ use Rattle.edges.proofs.add_edge.Goals as goal
 
 pub slice_bounds-link-end : goal.slice_bounds-link-end
 slice_bounds-link-end c =
-    let s = c.before.before.before in
+    let s = c in
     omega (arith, (lent_of s.args.n s.args.up.now s.args.room.now s.requires.0).columns)
 
 pub link-requires : goal.link-requires
 link-requires c =
-    let s = c.before.before.before.before in
+    let s = c in
     let h = s.requires.0 in
     let p = edge_passed _ h _ _ s.requires.2 in
     (p.apart.one_below, p.apart.two_below, omega (arith, h.within, h.columns.up), omega (arith, h.within, h.columns.weight), h.within, h.unions.forest)
 
 pub slice_bounds-count_edge-end : goal.slice_bounds-count_edge-end
 slice_bounds-count_edge-end c =
-    let s = c.before.before.before.before.before.before.before.before.before in
+    let s = c in
     let g = c.link in
     omega (arith, weighed_long s.args.room.now g.new.weight (lent_of s.args.n s.args.up.now s.args.room.now s.requires.0).columns g.auto.weight)
 
 pub count_edge-requires : goal.count_edge-requires
 count_edge-requires c =
-    let s = c.before.before.before.before.before.before.before.before.before.before in
+    let s = c in
     let g = c.link in
     let h = s.requires.0 in
     let p = edge_passed _ h _ _ s.requires.2 in
@@ -47,7 +47,7 @@ overflow_cast-room c =
 
 pub bounds-room-i : goal.bounds-room-i
 bounds-room-i c =
-    let s = c.before.before.before.before.before.before.before.before.before.before.before.before.before in
+    let s = c in
     let g = c.link in
     let d = c.count_edge in
     omega (arith, s.requires.1, s.requires.0.within, counted_long s.args.room.now g.new.weight (lent_of s.args.n s.args.up.now s.args.room.now s.requires.0).columns g.auto.weight d.new.degree d.auto.degree)
@@ -59,21 +59,21 @@ overflow_cast-room-2 c =
 
 pub bounds-room-i-2 : goal.bounds-room-i-2
 bounds-room-i-2 c =
-    let s = c.before.before.before.before.before.before.before.before.before.before.before.before.before in
+    let s = c in
     let g = c.link in
     let d = c.count_edge in
     omega (arith, s.requires.1, s.requires.0.within, stored_long s.args.room.now g.new.weight (lent_of s.args.n s.args.up.now s.args.room.now s.requires.0).columns g.auto.weight d.new.degree d.auto.degree s.args.n.edges s.args.a)
 
 pub shape_of-room : goal.shape_of-room
 shape_of-room c =
-    let s = c.before.before.before.before.before.before.before.before.before.before.before.before.before in
+    let s = c in
     let g = c.link in
     let d = c.count_edge in
     stored_same s.args.room.now g.new.weight (lent_of s.args.n s.args.up.now s.args.room.now s.requires.0).columns g.auto.weight d.new.degree d.auto.degree s.args.n.edges s.args.a _ s.args.b
 
 pub returns : goal.returns
 returns c =
-    let s = c.before.before.before.before.before.before.before.before.before.before.before.before.before in
+    let s = c in
     let g = c.link in
     let d = c.count_edge in
     let r = (lent_of s.args.n s.args.up.now s.args.room.now s.requires.0).columns in (

@@ -7,7 +7,7 @@ use Rattle.edges.proofs.Lent.{lent_of}
 use Rattle.edges.proofs.fault.Goals as goal
 
 pub slice_bounds-degree-end : goal.slice_bounds-degree-end
-slice_bounds-degree-end c = let s = c.before.before in omega (arith, (lent_of s.args.n s.args.up.now s.args.room.now s.requires).columns)
+slice_bounds-degree-end c = let s = c in omega (arith, (lent_of s.args.n s.args.up.now s.args.room.now s.requires).columns)
 
 pub edge_fault-requires : goal.edge_fault-requires
 edge_fault-requires c =
@@ -16,6 +16,6 @@ edge_fault-requires c =
 
 pub returns : goal.returns
 returns c =
-    let s = c.before.before.before.before in
+    let s = c in
     let h = s.requires in
     c.edge_fault.ensures ∙ fault_agrees s.args.n.vertices _ s.args.up.now _ _ h.unions h.degrees s.args.a s.args.b

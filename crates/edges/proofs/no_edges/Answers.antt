@@ -9,7 +9,7 @@ pub returns : goal.returns
 returns c =
     let f = c.fresh in
     let d = c.no_degrees in
-    let s = c.before.before.before.before.before.before.before.before.before.before.before.before.before in (
+    let s = c in (
       none_lent s.args.room.now f.new.weight s.requires.1.columns f.auto.weight d.new.degree d.auto.degree s.args.v f.new.up s.requires.0 (omega (arith, f.auto.up, s.requires.1.forest)) f.ensures d.ensures,
       refl,
       refl,

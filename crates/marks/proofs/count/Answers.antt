@@ -20,6 +20,6 @@ loop-x-preserved c =
 
 pub returns : goal.returns
 returns c =
-    let s = c.before.before.before.before in
+    let s = c in
     let o = c.loop-x in
     c.wide.ensures ∙ count_end s.args.m.now s.args.n o.x o.r (omega arith) o.invariant.1

@@ -15,6 +15,6 @@ loop-x-preserved c =
 
 pub returns : goal.returns
 returns c =
-    let s = c.before.before in
+    let s = c in
     let o = c.loop-x in
     written_end (λ _. 1) s.args.m.now o.x s.args.n o.m (omega arith) o.invariant.2

@@ -14,14 +14,14 @@ loop-x-init c = (search rules, search rules, written_start (new c.args.m.now c.a
 
 pub loop-x-preserved : goal.loop-x-preserved
 loop-x-preserved c =
-    let s = c.before.before.before.before.before in
+    let s = c in
     let o = c.loop-x in
     let f = new s.args.m.now s.args.k in
     (search rules, search rules, written_more f s.args.m.now o.x o.m c.mark.result (omega arith) (c.mark.ensures ∙ ap (λ (z : ℕ). bit (eqb z s.args.k)) (written_old f s.args.m.now o.x o.m o.invariant.2)) o.invariant.2)
 
 pub returns : goal.returns
 returns c =
-    let s = c.before.before.before in
+    let s = c in
     let o = c.loop-x in
     let f = new s.args.m.now s.args.k in
     written_all f s.args.m.now (length s.args.m.now) o.m (λ y l. past_none s.args.m.now s.args.k y s.requires l) (written_end f s.args.m.now o.x (length s.args.m.now) o.m (omega arith) o.invariant.2)

@@ -5,13 +5,13 @@ use Rattle.member_finish.proofs.close.Goals as goal
 
 pub run-requires : goal.run-requires
 run-requires c =
-    let s = c.before.before.before in
+    let s = c in
     let a = s.args in
     (s.requires.0, room_begun a.k a.c a.number a.from a.out.now a.begun c.if-begun.true (length a.out.now) s.requires.1)
 
 pub returns-then-begun : goal.returns-then-begun
 returns-then-begun c =
-    let t = c.before.before.before.before in
+    let t = c in
     let a = t.args in
     let r = c.run in
     close_begun a.k a.c a.number a.from a.out.now a.begun t.if-begun.true r.result r.new.out r.ensures

@@ -12,20 +12,20 @@ use Rattle.member_finish.proofs.finish.Goals as goal
 
 pub close-g-requires : goal.close-g-requires
 close-g-requires c =
-    let s = c.before.before.before.before in
+    let s = c in
     let a = s.args in
     let b = c.begins in
     (s.requires.0, subst (λ (x : Bool). Room a.v.agreement (closed_if x (context_by a.v a.t3) a.c) a.from (length a.out.now)) (sym b.ensures) s.requires.2)
 
 pub overflow_add-all : goal.overflow_add-all
 overflow_add-all c =
-    let s = c.before.before.before.before.before.before.before.before.before in
+    let s = c in
     let a = s.args in
     omega (arith, s.requires.1, c.close-g.ensures.rules, close_most c.begins.result (context_by a.v a.t3) a.c)
 
 pub returns-then-d : goal.returns-then-d
 returns-then-d c =
-    let s = c.before.before.before.before.before.before.before.before.before.before.before.before.before.before in
+    let s = c in
     let a = s.args in
     let b = c.begins in
     let g = c.close-g in
@@ -36,7 +36,7 @@ returns-then-d c =
 
 pub returns : goal.returns
 returns c =
-    let s = c.before.before.before.before.before.before.before.before.before.before in
+    let s = c in
     let a = s.args in
     let b = c.begins in
     let g = c.close-g in

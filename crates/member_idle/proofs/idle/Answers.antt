@@ -7,35 +7,36 @@ use Rattle.message.specs.Message as messages
 use Rattle.party.specs.Inner.{set_count}
 use Rattle.packet.specs.Packet.{in_table}
 use Rattle.member_idle.proofs.Laws.{place_below, tells_closed, tells_held, tells_echo, tells_ready}
+use Rattle.member_idle.proofs.idle.Goals.{After-place-k, Else-c}
 use Rattle.member_idle.proofs.idle.Goals as goal
 
 -- a level's message of the table
-table : (c : tie.Else-c) → messages.in_table c.in-Level.m ≡ true
+table : (c : Else-c) → messages.in_table c.in-Level.m ≡ true
 table c = ap in_table (sym c.in-Level.is) ∙ c.requires.1
 
 -- where its set lies
-there : (c : tie.After-place-k) → c.place-k.result < set_count
+there : (c : After-place-k) → c.place-k.result < set_count
 there c = omega (arith, c.place-k.ensures, place_below c.in-Level.m (table c.before))
 
 pub returns-then-c : goal.returns-then-c
 returns-then-c c =
-    let k = c.before.before in
+    let k = c in
     tells_closed _ _ _ _ _ k.in-Level.m k.in-Level.is c.if-c.true
 
 pub place-k-requires : goal.place-k-requires
-place-k-requires c = table c
+place-k-requires c = table (goal.at.place-k-requires c).Else-c
 
 pub offset_bounds-sets-k : goal.offset_bounds-sets-k
-offset_bounds-sets-k c = omega (arith, there c)
+offset_bounds-sets-k c = omega (arith, there (goal.at.offset_bounds-sets-k c).After-place-k)
 
 pub bounds-sets-k : goal.bounds-sets-k
-bounds-sets-k c = there c
+bounds-sets-k c = there (goal.at.bounds-sets-k c).After-way_told-1
 
 pub returns-else-c : goal.returns-else-c
 returns-else-c c =
-    let a = c.before.before in
-    let k = a.before.before.before in
-    tells_held _ _ _ _ _ k.in-Level.m k.in-Level.is a.if-c.false (table a.before) a.place-k.result a.place-k.ensures c.contains.result c.contains.ensures
+    let a = c in
+    let k = a in
+    tells_held _ _ _ _ _ k.in-Level.m k.in-Level.is a.if-c.false (table (goal.at.returns-else-c c).After-place-k) a.place-k.result a.place-k.ensures c.contains.result c.contains.ensures
 
 pub returns-in-Echo : goal.returns-in-Echo
 returns-in-Echo c =

@@ -13,6 +13,7 @@ use Rattle.closing.specs.Valid.{closing_valid}
 use Rattle.member.specs.Member.{Member}
 use Rattle.member.specs.Valid.{member_valid}
 use Rattle.member.specs.Tie.{member_in}
+use Rattle.member_inspect.proofs.inspect.Goals.{Start}
 use Rattle.member_inspect.proofs.inspect.Goals as goal
 
 module _ (m : Member) {ok : Bool} (e : ok ≡ party_valid m.party) where
@@ -33,21 +34,21 @@ module _ (m : Member) {ok : Bool} (e : ok ≡ party_valid m.party) where
     closing_decides i = rw (sym e ∙ not-false ok h) i
 
 -- the board that is lent
-abbrev board : tie.Start → Member
+abbrev board : Start → Member
 board s = member_in s.args.v (shaped s.args.shape s.args.ps.now s.args.cs.now) s.args.levels s.args.sets.now s.args.c
 
 pub returns-then-not-i : goal.returns-then-not-i
 returns-then-not-i c =
     let i = c.inspect-i.ensures in
-    (party_fails (board c.before.before.before.before) i.0 c.if-not-i.true, i.1)
+    (party_fails (board (goal.at.returns-then-not-i c).Start) i.0 c.if-not-i.true, i.1)
 
 pub passes-requires : goal.passes-requires
 passes-requires c =
-    few_boards (board c.before.before.before.before.before) c.inspect-i.ensures.0 c.if-not-i.false
+    few_boards (board (goal.at.passes-requires c).Start) c.inspect-i.ensures.0 c.if-not-i.false
 
 pub returns : goal.returns
 returns c =
-    let m = board c.before.before.before.before.before.before in
+    let m = board (goal.at.returns c).Start in
     let i = c.inspect-i.ensures in
     let h = c.if-not-i.false in
     let t = party_passes m i.0 h in

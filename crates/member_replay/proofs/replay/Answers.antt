@@ -9,35 +9,36 @@ use Rattle.member.specs.Tie.{member_in}
 use Rattle.member_life.specs.Life.{Fits}
 use Rattle.member_life.proofs.Fits.{fits_start, fits_taken}
 use Rattle.member_replay.proofs.Taken.{gives_same, room_same, replayed_start, replayed_taken}
+use Rattle.member_replay.proofs.replay.Goals.{Start}
 use Rattle.member_replay.proofs.replay.Goals as goal
 
-abbrev first : tie.Start → Member
+abbrev first : Start → Member
 first s = let a = s.args in member_in a.v (shaped a.shape a.ps.now a.cs.now) a.levels a.sets.now a.c
 
 pub start-requires : goal.start-requires
 start-requires c =
-    let k = c.before.before.before.before in
-    let s = k.before.before.before.before.before in
+    let k = c in
+    let s = (goal.at.start-requires c).Start in
     let g = k.r.given in
     let f = fits_start (first s) g.0.0 g.0.1.0 (subst (Fits (first s)) g.1 s.requires.2) in
     (s.requires.0, room_same (replayed_start (first s) s.args.r g.1) s.args.from (length s.args.out.now) s.requires.1, not-T→false (started (first s)) f.1, f.2)
 
 pub take-requires : goal.take-requires
 take-requires c =
-    let k = c.before.before.before.before in
-    let s = k.before.before.before.before.before in
+    let k = c in
+    let s = (goal.at.take-requires c).Start in
     let g = k.r-in-Taken-1.given in
     let f = fits_taken (first s) g.0.0 g.0.1.0 (subst (Fits (first s)) g.1 s.requires.2) in
     (s.requires.0, room_same (replayed_taken (first s) s.args.r g.1) s.args.from (length s.args.out.now) s.requires.1, f.1, T→true (in_table g.0.1.0) f.2)
 
 pub returns-in-Start : goal.returns-in-Start
 returns-in-Start c =
-    let k = c.before.before.before.before.before.before.before in
-    let s = k.before.before.before.before.before in
+    let k = c in
+    let s = (goal.at.returns-in-Start c).Start in
     gives_same (replayed_start (first s) s.args.r k.in-Start.is) c.start.ensures
 
 pub returns-in-Taken : goal.returns-in-Taken
 returns-in-Taken c =
-    let k = c.before.before.before.before.before.before.before in
-    let s = k.before.before.before.before.before in
+    let k = c in
+    let s = (goal.at.returns-in-Taken c).Start in
     gives_same (replayed_taken (first s) s.args.r k.in-Taken.is) c.take.ensures

@@ -9,15 +9,16 @@ use Rattle.party_laws.proofs.Laws.{Formed}
 use Rattle.party_step.proofs.Typed.{levels_full, levels_echoes}
 use Rattle.party_run.proofs.Parts.{sized_in}
 use Rattle.member_replay.proofs.Calls.{level_room, end_asks, end_gives}
+use Rattle.member_replay.proofs.settle.Goals.{Start}
 use Rattle.member_replay.proofs.settle.Goals as goal
 
-abbrev plan : tie.Start → Plan
+abbrev plan : Start → Plan
 plan s = shaped s.args.shape s.args.ps.now s.args.cs.now
 
-abbrev first : tie.Start → Party
+abbrev first : Start → Party
 first s = party_in s.args.v (plan s) s.args.levels s.args.sets.now
 
-formed : (s : tie.Start) → Formed (first s)
+formed : (s : Start) → Formed (first s)
 formed s =
     let a = s.args in
     let t = s.well-formed.1.1.1.1.1.0 in
@@ -30,14 +31,14 @@ run-ran-requires c =
 
 pub finish-requires : goal.finish-requires
 finish-requires c =
-    let n = c.before.before.before.before.before.before in
+    let n = c in
     let s = n.before.before.before.before.before.before.before in
     let a = s.args in
     end_asks a.v (plan s) a.sets.now a.c (first s) (formed s) a.from a.out.now s.requires.1 _ n.run-ran.result _ _ refl n.run-ran.ensures
 
 pub returns : goal.returns
 returns c =
-    let n = c.before.before.before.before.before.before.before.before.before in
+    let n = c in
     let s = n.before.before.before.before.before.before.before in
     let a = s.args in
     let g = c.finish in

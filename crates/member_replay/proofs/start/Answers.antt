@@ -16,31 +16,32 @@ use Rattle.member.specs.Run.{starting}
 use Rattle.member.specs.Tie.{member_in}
 use Rattle.member_laws.proofs.Laws.{unstarted_open}
 use Rattle.member_replay.proofs.Calls.{party_ready, level_room, end_asks, end_gives}
+use Rattle.member_replay.proofs.start.Goals.{Start}
 use Rattle.member_replay.proofs.start.Goals as goal
 
-abbrev plan : tie.Start → Plan
+abbrev plan : Start → Plan
 plan s = shaped s.args.shape s.args.ps.now s.args.cs.now
 
-abbrev board : tie.Start → Member
+abbrev board : Start → Member
 board s = member_in s.args.v (plan s) s.args.levels s.args.sets.now s.args.c
 
-abbrev first : tie.Start → Party
+abbrev first : Start → Party
 first s = (board s).party
 
-ready : (s : tie.Start) → Ready (first s) s.args.chart s.args.ports.now
+ready : (s : Start) → Ready (first s) s.args.chart s.args.ports.now
 ready s = party_ready (board s) s.args.chart s.args.ports.now s.requires.0
 
-formed : (s : tie.Start) → Formed (first s)
+formed : (s : Start) → Formed (first s)
 formed s =
     let a = s.args in
     let t = s.well-formed.1.1.1.1.1.0 in
     (sized_in a.v (plan s) a.levels a.sets.now (ready s).valid (levels_full a.levels _ t) (levels_echoes a.levels _ t)).formed
 
-new : (s : tie.Start) → started (first s) ≡ false
+new : (s : Start) → started (first s) ≡ false
 new s = not-T→false (started (first s)) (unstarted_open (board s) (false→not-T s.requires.2)).1
 
 -- level 0 is entered
-begun : (s : tie.Start) → Formed (entered (first s) s.args.x)
+begun : (s : Start) → Formed (entered (first s) s.args.x)
 begun s = formed_entered (first s) (formed s) s.args.x (false→not-T (new s)) s.requires.3
 
 pub start-ran-requires : goal.start-ran-requires
@@ -53,7 +54,7 @@ start-ran-requires c =
 pub finish-requires : goal.finish-requires
 unfolding starting levels-run.starting
 finish-requires c =
-    let n = c.before.before.before.before.before.before in
+    let n = c in
     let s = n.before.before.before.before.before.before.before in
     let a = s.args in
     end_asks a.v (plan s) a.sets.now a.c (entered (first s) a.x) (begun s) a.from a.out.now s.requires.1 _ n.start-ran.result _ _ refl n.start-ran.ensures
@@ -61,7 +62,7 @@ finish-requires c =
 pub returns : goal.returns
 unfolding starting levels-run.starting
 returns c =
-    let n = c.before.before.before.before.before.before.before.before.before in
+    let n = c in
     let s = n.before.before.before.before.before.before.before in
     let a = s.args in
     let g = c.finish in

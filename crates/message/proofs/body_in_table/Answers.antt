@@ -15,7 +15,7 @@ pub returns-then-v-value_low : goal.returns-then-v-value_low
 returns-then-v-value_low c =
     let b = c.args.b in
     let k = c.kind_of-kind.ensures in
-    let v = c.value_of_lem.ensures in
+    let v = c.value_of-v.ensures in
     let w = c.value_low.ensures ∙ ap value_low k in
     sym (table_below b (λ e. c.if-kind-eq6.false (k ∙ e)) (omega arith))
 
@@ -23,6 +23,6 @@ pub returns : goal.returns
 returns c =
     let b = c.args.b in
     let k = c.kind_of-kind.ensures in
-    let v = c.value_of_lem.ensures in
+    let v = c.value_of-v.ensures in
     let w = c.value_low.ensures ∙ ap value_low k in
     ap₂ leb v (c.value_high.ensures ∙ ap value_high k) ∙ sym (table_rest b (λ e. c.if-kind-eq6.false (k ∙ e)) (omega arith))

@@ -16,12 +16,12 @@ returns-then-kind_of-eq6 c =
 pub put-requires : goal.put-requires
 put-requires c =
     let a = c.args in
-    let e = bytes_with a.b (λ e. c.if-kind_of-eq6.false (c.kind_of.ensures ∙ e)) ∙ ap varint_bytes (sym c.value_of_lem.ensures) in
+    let e = bytes_with a.b (λ e. c.if-kind_of-eq6.false (c.kind_of.ensures ∙ e)) ∙ ap varint_bytes (sym c.value_of.ensures) in
     omega (arith, ap length e)
 
 pub returns : goal.returns
 returns c =
     let a = c.args in
     let e = bytes_with a.b (λ e. c.if-kind_of-eq6.false (c.kind_of.ensures ∙ e))
-    ∙ ap varint_bytes (sym c.value_of_lem.ensures) in
+    ∙ ap varint_bytes (sym c.value_of.ensures) in
     rw e c.put.ensures

@@ -13,5 +13,5 @@ pub returns : goal.returns
 returns c =
     let b = c.args.b in
     c.size.ensures
-    ∙ ap (λ (v : ℕ). length (varint_bytes v)) c.value_of_lem.ensures
+    ∙ ap (λ (v : ℕ). length (varint_bytes v)) c.value_of.ensures
     ∙ sym (ap length (bytes_with b (λ e. c.if-kind_of-eq6.false (c.kind_of.ensures ∙ e))))

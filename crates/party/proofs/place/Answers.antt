@@ -5,6 +5,6 @@ use Rattle.party.proofs.place.Goals as goal
 
 pub overflow_add-result : goal.overflow_add-result
 overflow_add-result c =
-    let s = c.before.before in
+    let s = c in
     let t = table_parts s.args.m s.requires in
     omega (arith, t.0, slot_lt s.args.m.body t.1, c.slot.ensures)

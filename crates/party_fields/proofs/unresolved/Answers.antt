@@ -3,14 +3,15 @@ use lib.ListN.{length}
 use borrow.Author.Rules.{rules}
 use borrow.Author.Tests.{eq-eqb, ne_eqb}
 use Rattle.level.specs.Level.{value_count}
+use Rattle.party_fields.proofs.unresolved.Goals.{Start}
 use Rattle.party_fields.proofs.unresolved.Goals as goal
 
 -- the array's length
-places : (s : tie.Start) → length s.args.l.echoed ≡ value_count
+places : (s : Start) → length s.args.l.echoed ≡ value_count
 places s = search rules
 
 pub returns-then-l-ne-NOT_YET : goal.returns-then-l-ne-NOT_YET
-returns-then-l-ne-NOT_YET c = (rw (ne_eqb _ _ c.if-l-ne-NOT_YET.true), places c.before.before)
+returns-then-l-ne-NOT_YET c = (rw (ne_eqb _ _ c.if-l-ne-NOT_YET.true), places (goal.at.returns-then-l-ne-NOT_YET c).Start)
 
 pub returns : goal.returns
-returns c = (rw (eq-eqb _ _ c.if-l-ne-NOT_YET.false), places c.before.before.before)
+returns c = (rw (eq-eqb _ _ c.if-l-ne-NOT_YET.false), places (goal.at.returns c).Start)

@@ -20,54 +20,55 @@ use Rattle.component_laws.proofs.Laws.{rows_lent}
 use Rattle.party_inspect.proofs.Charted.{charts_ready, settings_fail, plan_fails, passed_start, all_pass, all_filled, all_charted}
 use Rattle.party_inspect.proofs.Steps.{party_full, sets_stop, output_stops, out_stops, out_next, entered_stops, entered_next}
 use borrow.Author.Rules.{rules}
+use Rattle.party_inspect.proofs.inspect.Goals.{Else-not-only_below, Start}
 use Rattle.party_inspect.proofs.inspect.Goals as goal
 
 -- the plan that is lent, and the party
-abbrev plan : tie.Start invariant-loop decreases-loop → Plan
+abbrev plan : Start → Plan
 plan s = shaped s.args.shape s.args.ps.now s.args.cs.now
 
-abbrev party : tie.Start invariant-loop decreases-loop → Party
+abbrev party : Start → Party
 party s = party_in s.args.v (plan s) s.args.levels s.args.sets.now
 
 -- the array's length
-levels_full : (s : tie.Start invariant-loop decreases-loop) → length s.args.levels ≡ level_count
+levels_full : (s : tie.Start) → length s.args.levels ≡ level_count
 levels_full s = search rules
 
-settings-held : (d : tie.Else-fault-ne0 invariant-loop decreases-loop) → T (settings_pass (party d.before.before.before))
+settings-held : (d : tie.Else-fault-ne0) → T (settings_pass (party d.before.before.before))
 settings-held d = true→T (ap (λ (x : ℕ). eqb x 0) (sym d.fault.ensures) ∙ eq-eqb d.fault.result 0 d.if-fault-ne0.false)
 
-abbrev start : tie.Else-not-only_below invariant-loop decreases-loop → tie.Start invariant-loop decreases-loop
+abbrev start : Else-not-only_below → Start
 start d = d.before.before.before.before.before.before.before.before.before
 
-plan-held : (d : tie.Else-not-only_below invariant-loop decreases-loop) → T (plan_valid (plan (start d)))
+plan-held : (d : tie.Else-not-only_below) → T (plan_valid (plan (start d)))
 plan-held d = true→T (sym d.valid.ensures ∙ not-false _ d.if-not-valid.false-raw)
 
-sets-held : (d : tie.Else-not-only_below invariant-loop decreases-loop) → T (sets_pass (start d).args.v.n (start d).args.sets.now)
+sets-held : (d : tie.Else-not-only_below) → T (sets_pass (start d).args.v.n (start d).args.sets.now)
 sets-held d = true→T (sym (d.union_of.ensures.below (start d).args.v.n) ∙ sym d.only_below.ensures ∙ not-false _ d.if-not-only_below.false-raw)
 
 pub returns-then-fault-ne0 : goal.returns-then-fault-ne0
 returns-then-fault-ne0 c =
-    let s = c.before.before.before in
+    let s = (goal.at.returns-then-fault-ne0 c).Start in
     (settings_fail (party s) (ap (λ (x : ℕ). eqb x 0) (sym c.fault.ensures) ∙ ne_eqb c.fault.result 0 c.if-fault-ne0.true), ((λ t. absurd t), (λ t. absurd t)))
 
 pub returns-then-not-valid : goal.returns-then-not-valid
 returns-then-not-valid c =
-    let s = c.before.before.before.before.before in
+    let s = (goal.at.returns-then-not-valid c).Start in
     (plan_fails (party s) (sym c.valid.ensures ∙ not-true _ c.if-not-valid.true), ((λ t. absurd t), (λ t. absurd t)))
 
 pub only_below-requires : goal.only_below-requires
-only_below-requires c = (settings→ (party c.before.before.before.before.before.before.before) (settings-held c.before.before.before.before)).most
+only_below-requires c = (settings→ (party (goal.at.only_below-requires c).Start) (settings-held (goal.at.only_below-requires c).Else-fault-ne0)).most
 
 pub returns-then-not-only_below : goal.returns-then-not-only_below
 returns-then-not-only_below c =
-    let s = c.before.before.before.before.before.before.before.before.before in
+    let s = (goal.at.returns-then-not-only_below c).Start in
     let a = s.args in
     let n : length a.sets.now ≡ slot_count * level_count = omega arith in
     (sets_stop a.v (plan s) a.t5 a.sets.now (levels_full s) n (sym (c.union_of.ensures.below a.v.n) ∙ sym c.only_below.ensures ∙ not-true _ c.if-not-only_below.true), ((λ t. absurd t), (λ t. absurd t)))
 
 pub loop-i-init : goal.loop-i-init
 loop-i-init c =
-    let s = c.before.before.before.before.before.before.before.before.before.before in
+    let s = (goal.at.loop-i-init c).Start in
     let a = s.args in (
       omega arith,
       λ v t. passed_start (party_in v (plan s) a.t5 a.sets.now) c.no_level-last.result c.empty-chart.result.surveys a.ports.now c.no_level-last.ensures c.empty-chart.ensures.1,
@@ -75,7 +76,7 @@ loop-i-init c =
 
 pub returns-then-not-output_passes : goal.returns-then-not-output_passes
 returns-then-not-output_passes c =
-    let d = c.before.before.before.before.before.before in
+    let d = (goal.at.returns-then-not-output_passes c).Else-not-only_below in
     let s = start d in
     let a = s.args in
     let o = c.loop-i in
@@ -85,7 +86,7 @@ returns-then-not-output_passes c =
 
 pub returns-then-not-unresolved : goal.returns-then-not-unresolved
 returns-then-not-unresolved c =
-    let d = c.before.before.before.before.before.before.before.before.before.before in
+    let d = (goal.at.returns-then-not-unresolved c).Else-not-only_below in
     let s = start d in
     let a = s.args in
     let o = c.loop-i in
@@ -96,7 +97,7 @@ returns-then-not-unresolved c =
 
 pub loop-i-preserved-then-not-l : goal.loop-i-preserved-then-not-l
 loop-i-preserved-then-not-l c =
-    let d = c.before.before.before.before.before.before.before.before.before.before in
+    let d = (goal.at.loop-i-preserved-then-not-l c).Else-not-only_below in
     let s = start d in
     let a = s.args in
     let o = c.loop-i in
@@ -109,7 +110,7 @@ loop-i-preserved-then-not-l c =
 
 pub inspect_entered-e-requires : goal.inspect_entered-e-requires
 inspect_entered-e-requires c =
-    let d = c.before.before.before.before.before.before.before.before.before.before.before in
+    let d = (goal.at.inspect_entered-e-requires c).Else-not-only_below in
     let s = start d in
     let a = s.args in
     let o = c.loop-i in
@@ -121,7 +122,7 @@ inspect_entered-e-requires c =
 
 pub returns-then-not-e : goal.returns-then-not-e
 returns-then-not-e c =
-    let d = c.before.before.before.before.before.before.before.before.before.before.before.before.before.before in
+    let d = (goal.at.returns-then-not-e c).Else-not-only_below in
     let s = start d in
     let a = s.args in
     let o = c.loop-i in
@@ -132,7 +133,7 @@ returns-then-not-e c =
 
 pub loop-i-preserved : goal.loop-i-preserved
 loop-i-preserved c =
-    let d = c.before.before.before.before.before.before.before.before.before.before.before.before.before.before.before.before in
+    let d = (goal.at.loop-i-preserved c).Else-not-only_below in
     let s = start d in
     let a = s.args in
     let o = c.loop-i in
@@ -148,13 +149,13 @@ loop-i-preserved c =
 
 pub returns : goal.returns
 returns c =
-    let d = c.before.before.before.before in
+    let d = (goal.at.returns c).Else-not-only_below in
     let s = start d in
     let a = s.args in
     let o = c.loop-i in
     let P = o.invariant.1 a.v (sets-held d) in
     let full = party_full a.v (plan s) a.t5 a.sets.now (levels_full s) in
-    let t = all_pass (party s) o.i o.last o.chart.surveys o.ports (omega arith) (omega arith) P (settings-held c.before.before.before.before.before.before.before.before.before.before) (plan-held d) in (
+    let t = all_pass (party s) o.i o.last o.chart.surveys o.ports (omega arith) (omega arith) P (settings-held (goal.at.returns c).Else-fault-ne0) (plan-held d) in (
       sym (T→true (party_valid (party s)) t),
       (
         (λ _. all_charted (party s) o.i o.last o.chart.surveys o.ports (omega arith) (omega arith) P full t),

@@ -10,42 +10,43 @@ use Rattle.party_fields.specs.Inner.{entry_fits}
 use Rattle.party_inspect.proofs.Entries.{over_asks}
 use Rattle.party_inspect.proofs.Places.{entered_not, entered_part}
 use borrow.Author.Rules.{rules}
+use Rattle.party_inspect.proofs.inspect_entered.Goals.{Else-not-entry_passes, Start}
 use Rattle.party_inspect.proofs.inspect_entered.Goals as goal
 
 -- the plan that is lent
-abbrev plan : tie.Start → Plan
+abbrev plan : Start → Plan
 plan s = shaped s.args.shape s.args.ps.now s.args.cs.now
 
 -- the array's length
-places : (s : tie.Start) → length s.args.l.echoed ≡ value_count
+places : (s : Start) → length s.args.l.echoed ≡ value_count
 places s = search rules
 
 -- its entry passes
-abbrev start : tie.Else-not-entry_passes → tie.Start
+abbrev start : Else-not-entry_passes → Start
 start d = d.before.before.before.before.before
 
-entry-held : (d : tie.Else-not-entry_passes) → T (entry_fits (start d).args.last.sending (start d).args.last.survey.degree (start d).args.i (start d).args.l.side)
+entry-held : (d : Else-not-entry_passes) → T (entry_fits (start d).args.last.sending (start d).args.last.survey.degree (start d).args.i (start d).args.l.side)
 entry-held d = true→T (sym d.entry_passes.ensures ∙ not-false _ d.if-not-entry_passes.false-raw)
 
 pub returns-then-not-entry_passes : goal.returns-then-not-entry_passes
 returns-then-not-entry_passes c =
-    let s = c.before.before.before.before.before in
+    let s = (goal.at.returns-then-not-entry_passes c).Start in
     let a = s.args in
     let b = c.entry_passes in
     (entered_not (plan s) a.last a.ports.now a.i a.l b.result b.ensures _ (not-true _ c.if-not-entry_passes.true), places s)
 
 pub enter-span-requires : goal.enter-span-requires
-enter-span-requires c = (c.requires, entry-held c.before)
+enter-span-requires c = (c.requires, entry-held (goal.at.enter-span-requires c).Else-not-entry_passes)
 
 pub inspect_part-requires : goal.inspect_part-requires
 inspect_part-requires c =
-    let s = c.before.before.before.before.before.before.before.before in
+    let s = (goal.at.inspect_part-requires c).Start in
     let a = s.args in
-    over_asks (plan s) a.last a.ports.now a.i a.l.side s.requires (entry-held c.before.before.before) c.enter-span.result _ c.enter-span.ensures
+    over_asks (plan s) a.last a.ports.now a.i a.l.side s.requires (entry-held (goal.at.inspect_part-requires c).Else-not-entry_passes) c.enter-span.result _ c.enter-span.ensures
 
 pub returns : goal.returns
 returns c =
-    let s = c.before.before.before.before.before.before.before.before.before in
+    let s = (goal.at.returns c).Start in
     let a = s.args in
     let b = c.entry_passes in
     let e = c.enter-span in

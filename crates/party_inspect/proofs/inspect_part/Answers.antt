@@ -8,21 +8,22 @@ use Rattle.plan.specs.Plan.{Plan}
 use Rattle.plan.specs.Tie.{shaped}
 use Rattle.component.specs.Inner.{members}
 use Rattle.party_inspect.proofs.Places.{part_elsewhere, part_small, part_large}
+use Rattle.party_inspect.proofs.inspect_part.Goals.{Else-not-contains, Start}
 use Rattle.party_inspect.proofs.inspect_part.Goals as goal
 
 -- the plan that is lent
-abbrev plan : tie.Start → Plan
+abbrev plan : Start → Plan
 plan s = shaped s.args.shape s.args.ps.now s.args.cs.now
 
 -- its component
-abbrev component : tie.Start → Set
+abbrev component : Start → Set
 component s = members (plan s) s.args.span s.args.ports.now
 
 -- it holds the position
-abbrev start : tie.Else-not-contains → tie.Start
+abbrev start : Else-not-contains → Start
 start d = d.before.before.before.before.before
 
-inside : (d : tie.Else-not-contains) → T (component (start d) (start d).args.l.position)
+inside : (d : Else-not-contains) → T (component (start d) (start d).args.l.position)
 inside d = true→T (sym d.contains.ensures ∙ not-false _ d.if-not-contains.false-raw)
 
 pub returns-then-not-contains : goal.returns-then-not-contains
@@ -34,7 +35,7 @@ returns-then-not-contains c =
 
 pub size-requires : goal.size-requires
 size-requires c =
-    let s = c.before.before.before.before.before.before in
+    let s = c in
     (s.requires.component, s.requires.flat)
 
 pub returns-then-size-lt3 : goal.returns-then-size-lt3
@@ -47,8 +48,8 @@ returns-then-size-lt3 c =
 
 pub inspect_sending-requires : goal.inspect_sending-requires
 inspect_sending-requires c =
-    let s = c.before.before.before.before.before.before.before.before.before in
-    (s.requires, omega (arith, c.size.ensures, c.if-size-lt3.false), inside c.before.before.before.before)
+    let s = c in
+    (s.requires, omega (arith, c.size.ensures, c.if-size-lt3.false), inside (goal.at.inspect_sending-requires c).After-contains)
 
 pub returns : goal.returns
 returns c =

@@ -12,7 +12,7 @@ overflow_add-sending c = omega (arith, c.requires.0.exists)
 
 pub returns : goal.returns
 returns c =
-    let s = c.before.before.before.before.before in
+    let s = c in
     let a = s.args in
     let v = c.survey_at-s in (
       sends_passes _ _ _ _ _ v.result v.ensures a.l c.values_pass.result c.values_pass.ensures,

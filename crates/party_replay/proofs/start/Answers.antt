@@ -17,22 +17,23 @@ use lib.ListN.{length, get_or, set}
 use Rattle.party_run.proofs.Parts.{sized_in, chart_more, chart_same}
 use Rattle.party_replay.proofs.Calls.{valid_plan, whole_enterable, start_ready, start_runs}
 use Rattle.party_replay.proofs.Redone.{gives_same, room_same}
+use Rattle.party_replay.proofs.start.Goals.{After-enter-e, Joined-e, Start}
 use Rattle.party_replay.proofs.start.Goals as goal
 
-abbrev plan : tie.Start → Plan
+abbrev plan : Start → Plan
 plan s = shaped s.args.shape s.args.ps.now s.args.cs.now
 
-abbrev first : tie.Start → Party
+abbrev first : Start → Party
 first s = party_in s.args.v (plan s) s.args.levels s.args.sets.now
 
-formed : (s : tie.Start) → Formed (first s)
+formed : (s : Start) → Formed (first s)
 formed s =
     let a = s.args in
     let t = s.well-formed.1.1.1.1.1.0 in
     (sized_in a.v (plan s) a.levels a.sets.now s.requires.0.valid (levels_full a.levels _ t) (levels_echoes a.levels _ t)).formed
 
 -- level 0 is entered over the whole plan
-entered : (c : tie.After-enter-e)
+entered : (c : After-enter-e)
     → Enters (plan c.before.before.before.before.before.before.before.before) (whole_of (plan c.before.before.before.before.before.before.before.before))
     (get_or c.args.levels 0 no_code_level) 0 c.args.x
     c.enter-e.result c.enter-e.new.ports
@@ -43,16 +44,16 @@ entered c =
     holds_enters (plan s) h.result _ (whole_of (plan s)) h.ensures (get_or a.levels 0 no_code_level) 0 a.x c.enter-e.result c.enter-e.new.ports c.enter-e.ensures
 
 pub whole-span-requires : goal.whole-span-requires
-whole-span-requires c = let s = c.before.before.before.before in valid_plan (first s) s.requires.0.valid
+whole-span-requires c = let s = (goal.at.whole-span-requires c).Start in valid_plan (first s) s.requires.0.valid
 
 pub enter-e-requires : goal.enter-e-requires
 enter-e-requires c =
-    let s = c.before.before.before.before.before.before.before in
+    let s = (goal.at.enter-e-requires c).Start in
     let h = c.whole-span in
     whole_enterable (plan s) (valid_plan (first s) s.requires.0.valid) s.requires.0.rows h.result _ h.ensures s.args.x s.requires.3
 
 -- the chart then
-charted : (c : tie.Joined-e)
+charted : (c : Joined-e)
     → c.if-e.d ≡ chart_with c.args.chart 0 c.enter-e.result
 charted c =
     let chart = c.args.chart in
@@ -60,7 +61,7 @@ charted c =
     ⊎_elim (λ w. w.3 ∙ chart_more chart 0 e w.0.taken) (λ w. w.1 ∙ chart_same chart 0 e w.0.left) c.if-e.branch-raw
 
 -- rules are applied to the party that entered
-runs : (c : tie.After-enter-e)
+runs : (c : After-enter-e)
     → let s = c.before.before.before.before.before.before.before.before in
     starting (first s) s.args.x ≡ run (party_in s.args.v (plan s) (set s.args.levels 0 c.enter-e.result.level) s.args.sets.now)
 runs c =
@@ -71,9 +72,9 @@ runs c =
 
 pub run-requires : goal.run-requires
 run-requires c =
-    let d = c.before.before in
-    let e = d.before.before in
-    let s = e.before.before.before.before.before.before.before.before in
+    let d = (goal.at.run-requires c).Joined-e in
+    let e = (goal.at.run-requires c).After-enter-e in
+    let s = (goal.at.run-requires c).Start in
     let a = s.args in (
       start_ready a.v (plan s) a.levels a.sets.now a.chart a.ports.now (formed s) s.requires.0.charts a.x s.requires.2 s.requires.3 e.enter-e.result
           e.enter-e.new.ports (entered e) (chart_surveys a.chart _ s.well-formed.1.1.1.1.1.1.0) d.if-e.d (charted d) s.requires.0.rows,
@@ -81,4 +82,4 @@ run-requires c =
     )
 
 pub returns : goal.returns
-returns c = let n = c.before.before in gives_same (runs n.before.before.before.before.before) n.run.ensures
+returns c = let n = c in gives_same (runs (goal.at.returns c).After-enter-e) n.run.ensures

@@ -16,25 +16,26 @@ use Rattle.party_step.proofs.Typed.{levels_full, levels_echoes}
 use Rattle.party_run.proofs.Parts.{sized_in}
 use Rattle.party_replay.proofs.Calls.{valid_sender, taken_place, taken_held, taken_ready, taken_runs}
 use Rattle.party_replay.proofs.Redone.{taking_held, gives_same, room_same, gives_rest}
+use Rattle.party_replay.proofs.take.Goals.{After-add, After-contains, After-place-k, Start}
 use Rattle.party_replay.proofs.take.Goals as goal
 
-abbrev plan : tie.Start → Plan
+abbrev plan : Start → Plan
 plan s = shaped s.args.shape s.args.ps.now s.args.cs.now
 
-abbrev first : tie.Start → Party
+abbrev first : Start → Party
 first s = party_in s.args.v (plan s) s.args.levels s.args.sets.now
 
-formed : (s : tie.Start) → Formed (first s)
+formed : (s : Start) → Formed (first s)
 formed s =
     let a = s.args in
     let t = s.well-formed.1.1.1.1.1.0 in
     (sized_in a.v (plan s) a.levels a.sets.now s.requires.0.valid (levels_full a.levels _ t) (levels_echoes a.levels _ t)).formed
 
-sender : (s : tie.Start) → s.args.s < max_boards
+sender : (s : Start) → s.args.s < max_boards
 sender s = valid_sender (first s) s.requires.0.valid s.args.s s.requires.2
 
 -- the place of the message's set
-there : (c : tie.After-place-k) → c.place-k.result < set_count
+there : (c : After-place-k) → c.place-k.result < set_count
 there c =
     let s = c.before.before.before.before in
     let a = s.args in
@@ -42,7 +43,7 @@ there c =
     c.place-k.ensures
 
 -- what was found there
-held : (c : tie.After-contains) → held_by (first c.before.before.before.before.before.before) c.args.s c.args.m ≡ c.contains.result
+held : (c : After-contains) → held_by (first c.before.before.before.before.before.before) c.args.s c.args.m ≡ c.contains.result
 held c =
     let k = c.place-k in
     let s = c.before.before.before.before.before.before in
@@ -51,36 +52,36 @@ held c =
     k.ensures c.contains.result c.contains.ensures
 
 pub offset_bounds-sets-k : goal.offset_bounds-sets-k
-offset_bounds-sets-k c = omega (arith, there c)
+offset_bounds-sets-k c = omega (arith, there (goal.at.offset_bounds-sets-k c).After-place-k)
 
 pub bounds-sets-k : goal.bounds-sets-k
-bounds-sets-k c = there c
+bounds-sets-k c = there (goal.at.bounds-sets-k c).After-way_told-1
 
 pub contains-requires : goal.contains-requires
-contains-requires c = sender c.before.before.before.before.before
+contains-requires c = sender (goal.at.contains-requires c).After-shared_slice_known-1
 
 pub returns-then-contains : goal.returns-then-contains
 returns-then-contains c =
-    let s = c.before.before.before.before.before.before.before in
+    let s = (goal.at.returns-then-contains c).After-shared_slice_known-1 in
     let a = s.args in
-    gives_same (taking_held (first s) a.s a.m (held c.before ∙ c.if-contains.true)) (gives_rest (first s) a.chart a.ports.now a.from a.out.now s.requires.0.charts)
+    gives_same (taking_held (first s) a.s a.m (held (goal.at.returns-then-contains c).After-contains ∙ c.if-contains.true)) (gives_rest (first s) a.chart a.ports.now a.from a.out.now s.requires.0.charts)
 
 pub add-requires : goal.add-requires
-add-requires c = sender c.before.before.before.before.before.before.before
+add-requires c = sender (goal.at.add-requires c).After-shared_slice_known-1
 
 pub offset_bounds-sets-k-2 : goal.offset_bounds-sets-k-2
-offset_bounds-sets-k-2 c = omega (arith, there c.before.before.before.before)
+offset_bounds-sets-k-2 c = omega (arith, there (goal.at.offset_bounds-sets-k-2 c).After-way_told-1)
 
 pub bounds-sets-k-2 : goal.bounds-sets-k-2
-bounds-sets-k-2 c = there c.before.before.before.before
+bounds-sets-k-2 c = there (goal.at.bounds-sets-k-2 c).After-way_told-1
 
 -- rules are applied to the party that heard it
-runs : (c : tie.After-add)
-    → let k = c.before.before.before.before in
+runs : (c : After-add)
+    → let k = c in
     let s = k.before.before.before.before in
     taking (first s) s.args.s s.args.m ≡ run (party_in s.args.v (plan s) s.args.levels (set s.args.sets.now k.place-k.result c.add.result))
 runs c =
-    let k = c.before.before.before.before in
+    let k = c in
     let s = k.before.before.before.before in
     let a = s.args in
     taken_runs a.v (plan s) a.levels a.sets.now a.chart a.ports.now (formed s) s.requires.0.charts a.s a.m s.requires.2 s.requires.3
@@ -88,9 +89,9 @@ runs c =
 
 pub run-requires : goal.run-requires
 run-requires c =
-    let n = c.before.before.before in
-    let k = n.before.before.before.before in
-    let s = k.before.before.before.before in
+    let n = (goal.at.run-requires c).Else-contains in
+    let k = n in
+    let s = (goal.at.run-requires c).Start in
     let a = s.args in (
       taken_ready a.v (plan s) a.levels a.sets.now a.chart a.ports.now (formed s) s.requires.0.charts a.s a.m s.requires.2 s.requires.3
           k.place-k.result k.place-k.ensures n.add.result n.add.ensures s.requires.0.rows,
@@ -98,4 +99,4 @@ run-requires c =
     )
 
 pub returns : goal.returns
-returns c = gives_same (runs c.before.before.before.before.before.before) c.run.ensures
+returns c = gives_same (runs (goal.at.returns c).Else-contains) c.run.ensures

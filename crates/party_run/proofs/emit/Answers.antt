@@ -8,14 +8,14 @@ use Rattle.party_run.proofs.emit.Goals as goal
 
 pub put-requires : goal.put-requires
 put-requires c =
-    let s = c.before.before.before.before.before in
+    let s = c in
     let a = s.args in
     subst (λ (bs : List ℕ). a.at + length bs ≤ length a.out.now) (send_bytes a.number a.i a.e c.in-Send.b c.in-Send.is)
     s.requires.0
 
 pub put-requires-in-SendEnter : goal.put-requires-in-SendEnter
 put-requires-in-SendEnter c =
-    let s = c.before.before.before.before.before in
+    let s = c in
     let a = s.args in
     subst (λ (bs : List ℕ). a.at + length bs ≤ length a.out.now) (side_bytes a.number a.i a.e c.in-SendEnter.k c.in-SendEnter.is)
     s.requires.0

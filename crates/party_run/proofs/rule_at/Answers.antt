@@ -20,7 +20,7 @@ part s i =
 
 pub lowest_rule-requires : goal.lowest_rule-requires
 lowest_rule-requires c =
-    let s = c.before.before in
+    let s = c in
     let a = s.args in
     subst (λ (z : List ℕ). InLimits a.c (as_level z a.l) × (slot_count ≤ length z)) (sym (part a.sets.now a.i))
     (s.requires.2, sets_there a.sets.now a.i s.requires.1 s.requires.0)

@@ -12,15 +12,16 @@ use Rattle.party_bounds.proofs.Laws.{Sized}
 use Rattle.party_step.proofs.Typed.{levels_full, levels_echoes, chart_surveys}
 use Rattle.party_run.proofs.Parts.{sized_in, chart_more, chart_same}
 use Rattle.party_run.proofs.Turns.{turn_start, turn_end, turn_limits, turn_next, turn_more, turn_fits, turn_steps, turn_again}
+use Rattle.party_run.proofs.run.Goals.{After-k-1, After-m-1, In-loop-i, Start, Then-applies}
 use Rattle.party_run.proofs.run.Goals as goal
 
-abbrev plan : tie.Start invariant-loop decreases-loop → Plan
+abbrev plan : Start → Plan
 plan s = shaped s.args.shape s.args.ps.now s.args.cs.now
 
-abbrev first : tie.Start invariant-loop decreases-loop → Party
+abbrev first : Start → Party
 first s = party_in s.args.v (plan s) s.args.levels s.args.sets.now
 
-sized : (s : tie.Start invariant-loop decreases-loop) → Sized (first s)
+sized : (s : tie.Start) → Sized (first s)
 sized s =
     let a = s.args in
     let t = s.well-formed.1.1.1.1.1.0 in
@@ -28,41 +29,41 @@ sized s =
 
 pub loop-i-init : goal.loop-i-init
 loop-i-init c =
-    let s = c.before.before.before in
+    let s = (goal.at.loop-i-init c).Start in
     let a = s.args in
     turn_start a.v (plan s) a.sets.now a.from a.out.now a.levels a.chart a.ports.now (sized s) s.requires.0.charts
     (chart_surveys a.chart _ s.well-formed.1.1.1.1.1.1.0)
 
 -- i is a level that sends
-below : (c : tie.In-loop-i invariant-loop decreases-loop) → c.loop-i.i + 1 < level_count
+below : (c : tie.In-loop-i) → c.loop-i.i + 1 < level_count
 below c = omega (arith, c.loop-i.invariant.going.charts.last, c.loop-i-test.true)
 
 pub offset_bounds-d-i : goal.offset_bounds-d-i
-offset_bounds-d-i c = omega (arith, below c)
+offset_bounds-d-i c = omega (arith, below (goal.at.offset_bounds-d-i c).In-loop-i)
 
 pub bounds-d-i : goal.bounds-d-i
-bounds-d-i c = omega (arith, below c)
+bounds-d-i c = omega (arith, below (goal.at.bounds-d-i c).In-loop-i)
 
 pub offset_bounds-ls-i : goal.offset_bounds-ls-i
-offset_bounds-ls-i c = omega (arith, below c.before)
+offset_bounds-ls-i c = omega (arith, below (goal.at.offset_bounds-ls-i c).In-loop-i)
 
 pub bounds-ls-i : goal.bounds-ls-i
-bounds-ls-i c = omega (arith, below c.before)
+bounds-ls-i c = omega (arith, below (goal.at.bounds-ls-i c).In-loop-i)
 
 pub overflow_add-next : goal.overflow_add-next
-overflow_add-next c = omega (arith, below c.before.before)
+overflow_add-next c = omega (arith, below (goal.at.overflow_add-next c).In-loop-i)
 
 pub offset_bounds-ls-i-in-loop-i : goal.offset_bounds-ls-i-in-loop-i
-offset_bounds-ls-i-in-loop-i c = omega (arith, below c.before.before)
+offset_bounds-ls-i-in-loop-i c = omega (arith, below (goal.at.offset_bounds-ls-i-in-loop-i c).In-loop-i)
 
 pub bounds-ls-i-in-loop-i : goal.bounds-ls-i-in-loop-i
-bounds-ls-i-in-loop-i c = omega (arith, below c.before.before)
+bounds-ls-i-in-loop-i c = omega (arith, below (goal.at.bounds-ls-i-in-loop-i c).In-loop-i)
 
 pub rule_at-a-requires : goal.rule_at-a-requires
 rule_at-a-requires c =
-    let t = c.before.before.before.before.before in
+    let t = (goal.at.rule_at-a-requires c).In-loop-i in
     let l = t.loop-i in
-    let s = t.before.before.before.before.before in
+    let s = (goal.at.rule_at-a-requires c).Start in
     let a = s.args in (
       omega (arith, below t),
       omega (arith, c.rule_at-arg-1.given.0),
@@ -72,11 +73,11 @@ rule_at-a-requires c =
 
 pub emit-sent-requires : goal.emit-sent-requires
 emit-sent-requires c =
-    let n = c.before.before in
-    let x = n.before.before in
-    let t = x.before.before.before.before.before in
+    let n = c in
+    let x = n in
+    let t = (goal.at.emit-sent-requires c).In-loop-i in
     let l = t.loop-i in
-    let s = t.before.before.before.before.before in
+    let s = (goal.at.emit-sent-requires c).Start in
     let a = s.args in (
       omega (
         arith,
@@ -89,24 +90,24 @@ emit-sent-requires c =
     )
 
 -- the turn of a rule that applies, and what was known before it
-abbrev turn-k : tie.After-k-1 invariant-loop decreases-loop → tie.Then-applies invariant-loop decreases-loop
+abbrev turn-k : After-k-1 → Then-applies
 turn-k c = c.before.before.before.before.before
 
-abbrev turn-m : tie.After-m-1 invariant-loop decreases-loop → tie.Then-applies invariant-loop decreases-loop
+abbrev turn-m : After-m-1 → Then-applies
 turn-m c = turn-k c.before.before.before.before
 
-abbrev within : tie.Then-applies invariant-loop decreases-loop → tie.In-loop-i invariant-loop decreases-loop
+abbrev within : Then-applies → In-loop-i
 within y = y.before.before.before.before.before.before.before.before
 
 pub offset_bounds-ls-i-then-applies : goal.offset_bounds-ls-i-then-applies
-offset_bounds-ls-i-then-applies c = omega (arith, below (within (turn-k c)))
+offset_bounds-ls-i-then-applies c = omega (arith, below (within (turn-k (goal.at.offset_bounds-ls-i-then-applies c).After-k-1)))
 
 pub bounds-ls-i-then-applies : goal.bounds-ls-i-then-applies
-bounds-ls-i-then-applies c = omega (arith, below (within (turn-k c)))
+bounds-ls-i-then-applies c = omega (arith, below (within (turn-k (goal.at.bounds-ls-i-then-applies c).After-k-1)))
 
 pub step-below-requires : goal.step-below-requires
 step-below-requires c =
-    let y = turn-k c.before.before in
+    let y = turn-k (goal.at.step-below-requires c).After-k-1 in
     let n = y.before in
     let x = n.before.before in
     let t = within y in
@@ -118,16 +119,16 @@ step-below-requires c =
     y.if-applies.taken s.pre.0.rows
 
 pub overflow_add-j : goal.overflow_add-j
-overflow_add-j c = omega (arith, below (within (turn-m c)))
+overflow_add-j c = omega (arith, below (within (turn-m (goal.at.overflow_add-j c).After-m-1)))
 
 pub offset_bounds-ls-j : goal.offset_bounds-ls-j
-offset_bounds-ls-j c = omega (arith, below (within (turn-m c)))
+offset_bounds-ls-j c = omega (arith, below (within (turn-m (goal.at.offset_bounds-ls-j c).After-m-1)))
 
 pub bounds-ls-j : goal.bounds-ls-j
-bounds-ls-j c = omega (arith, below (within (turn-m c)))
+bounds-ls-j c = omega (arith, below (within (turn-m (goal.at.bounds-ls-j c).After-m-1)))
 
 -- a rule is left
-more : (y : tie.Then-applies invariant-loop decreases-loop) → (within y).loop-i.rules < max_rules
+more : (y : tie.Then-applies) → (within y).loop-i.rules < max_rules
 more y =
     let n = y.before in
     let x = n.before.before in
@@ -140,38 +141,38 @@ more y =
     y.if-applies.true
 
 pub overflow_add-rules : goal.overflow_add-rules
-overflow_add-rules c = omega (arith, more (turn-m c))
+overflow_add-rules c = omega (arith, more (turn-m (goal.at.overflow_add-rules c).After-m-1))
 
 pub loop-i-smaller-then-below : goal.loop-i-smaller-then-below
 loop-i-smaller-then-below c =
-    let k = c.before.before.before in
-    omega (arith, more (turn-m k.before), below (within (turn-m k.before)), k.back-i.ensures)
+    let k = c in
+    omega (arith, more (turn-m (goal.at.loop-i-smaller-then-below c).After-m-1), below (within (turn-m (goal.at.loop-i-smaller-then-below c).After-m-1)), k.back-i.ensures)
 
 pub loop-i-smaller-else-below : goal.loop-i-smaller-else-below
 loop-i-smaller-else-below c =
-    let k = c.before in
-    omega (arith, more (turn-m k.before), below (within (turn-m k.before)), k.back-i.ensures)
+    let k = c in
+    omega (arith, more (turn-m (goal.at.loop-i-smaller-else-below c).After-m-1), below (within (turn-m (goal.at.loop-i-smaller-else-below c).After-m-1)), k.back-i.ensures)
 
 pub overflow_add-d : goal.overflow_add-d
-overflow_add-d c = omega (arith, below (within (turn-m c.before.before.before.before)))
+overflow_add-d c = omega (arith, below (within (turn-m (goal.at.overflow_add-d c).After-m-1)))
 
 pub offset_bounds-d-j : goal.offset_bounds-d-j
-offset_bounds-d-j c = omega (arith, below (within (turn-m c.before.before.before.before)))
+offset_bounds-d-j c = omega (arith, below (within (turn-m (goal.at.offset_bounds-d-j c).After-m-1)))
 
 pub bounds-d-j : goal.bounds-d-j
-bounds-d-j c = omega (arith, below (within (turn-m c.before.before.before.before)))
+bounds-d-j c = omega (arith, below (within (turn-m (goal.at.bounds-d-j c).After-m-1)))
 
 pub loop-i-preserved-then-below : goal.loop-i-preserved-then-below
 loop-i-preserved-then-below c =
-    let k = c.before.before.before in
-    let y = turn-m k.before in
+    let k = c in
+    let y = turn-m (goal.at.loop-i-preserved-then-below c).After-m-1 in
     let n = y.before in
     let x = n.before.before in
     let t = within y in
     let l = t.loop-i in
     let s = t.before.before.before.before.before in
     let a = s.args in
-    let m = k.before.before in
+    let m = k in
     let o = m.emit-sent in
     turn_again a.v (plan s) a.sets.now (first s) a.from a.out.now l.ls l.d l.ports l.out l.sent l.rules l.i l.inv
     t.loop-i-test.taken x.context.result x.context.ensures n.rule_at-a.result n.rule_at-a.ensures n.applies.result n.applies.ensures
@@ -180,15 +181,15 @@ loop-i-preserved-then-below c =
 
 pub loop-i-preserved-else-below : goal.loop-i-preserved-else-below
 loop-i-preserved-else-below c =
-    let k = c.before in
-    let y = turn-m k.before in
+    let k = c in
+    let y = turn-m (goal.at.loop-i-preserved-else-below c).After-m-1 in
     let n = y.before in
     let x = n.before.before in
     let t = within y in
     let l = t.loop-i in
     let s = t.before.before.before.before.before in
     let a = s.args in
-    let m = k.before.before in
+    let m = k in
     let o = m.emit-sent in
     turn_again a.v (plan s) a.sets.now (first s) a.from a.out.now l.ls l.d l.ports l.out l.sent l.rules l.i l.inv
     t.loop-i-test.taken x.context.result x.context.ensures n.rule_at-a.result n.rule_at-a.ensures n.applies.result n.applies.ensures
@@ -196,18 +197,18 @@ loop-i-preserved-else-below c =
     k.back-i.result k.back-i.ensures _ (chart_same l.d (l.i + 1) m.step-below.result c.if-below.false)
 
 pub overflow_add-i : goal.overflow_add-i
-overflow_add-i c = omega (arith, below c.before.before.before.before.before.before.before.before)
+overflow_add-i c = omega (arith, below (goal.at.overflow_add-i c).In-loop-i)
 
 pub loop-i-smaller : goal.loop-i-smaller
-loop-i-smaller c = omega (arith, below c.before.before.before.before.before.before.before.before)
+loop-i-smaller c = omega (arith, below (goal.at.loop-i-smaller c).In-loop-i)
 
 pub loop-i-preserved : goal.loop-i-preserved
 loop-i-preserved c =
-    let n = c.before in
-    let x = n.before.before in
-    let t = x.before.before.before.before.before in
+    let n = c in
+    let x = n in
+    let t = x in
     let l = t.loop-i in
-    let s = t.before.before.before.before.before in
+    let s = (goal.at.loop-i-preserved c).Start in
     let a = s.args in
     turn_next a.v (plan s) a.sets.now (first s) a.from a.out.now l.ls l.d l.ports l.out l.sent l.rules l.i l.invariant
     t.loop-i-test.true x.context.result x.context.ensures n.rule_at-a.result n.rule_at-a.ensures n.applies.result n.applies.ensures
@@ -219,6 +220,6 @@ shape_of-out c = c.loop-i.invariant.going.long
 pub returns : goal.returns
 returns c =
     let l = c.loop-i in
-    let s = c.before.before.before.before.before in
+    let s = (goal.at.returns c).Start in
     let a = s.args in
     turn_end a.v (plan s) a.sets.now (first s) a.from a.out.now l.ls l.d l.ports l.out l.sent l.rules l.i l.invariant c.loop-i-test.false

@@ -9,17 +9,18 @@ use Rattle.component.specs.Component.{side_of}
 use Rattle.component.specs.Inner.{members}
 use Rattle.party_step.specs.Inner.{Enters}
 use Rattle.party_step.proofs.Entries.{holds_enterable, holds_enters}
+use Rattle.party_step.proofs.descend.Goals.{Start}
 use Rattle.party_step.proofs.descend.Goals as goal
 
 -- the plan, and the side that is entered
-abbrev plan : tie.Start → Plan
+abbrev plan : Start → Plan
 plan s = shaped s.args.shape s.args.ps.now s.args.cs.now
 
-abbrev side : tie.Start → Set
+abbrev side : Start → Set
 side s = side_of (plan s) (members (plan s) s.args.deepest s.args.ports.now) s.args.k
 
 pub gate-x-requires : goal.gate-x-requires
-gate-x-requires c = let s = c.before.before.before in (s.requires.rows, s.requires.has)
+gate-x-requires c = let s = c in (s.requires.rows, s.requires.has)
 
 pub side-span-requires : goal.side-span-requires
 side-span-requires c = c.requires.has

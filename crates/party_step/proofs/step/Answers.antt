@@ -4,15 +4,16 @@ use Rattle.plan.specs.Plan.{Plan}
 use Rattle.plan.specs.Tie.{shaped}
 use Rattle.party_step.specs.Inner.{way_of}
 use Rattle.party_step.proofs.Entries.{steps_descends, stepped_stays, stepped_enters}
+use Rattle.party_step.proofs.step.Goals.{Start}
 use Rattle.party_step.proofs.step.Goals as goal
 
-abbrev plan : tie.Start → Plan
+abbrev plan : Start → Plan
 plan s = shaped s.args.shape s.args.ps.now s.args.cs.now
 
 pub returns-then-not-w : goal.returns-then-not-w
 returns-then-not-w c =
-    let b = c.before in
-    let s = b.before.before.before.before.before in
+    let b = c in
+    let s = (goal.at.returns-then-not-w c).Start in
     let a = s.args in
     let w = b.Way-of in
     stepped_stays (plan s) a.deepest a.ports.now a.centre a.position (way_of a.e) w.result w.ensures a.next
@@ -20,16 +21,16 @@ returns-then-not-w c =
 
 pub descend-requires : goal.descend-requires
 descend-requires c =
-    let b = c.before in
-    let s = b.before.before.before.before.before in
+    let b = c in
+    let s = (goal.at.descend-requires c).Start in
     let a = s.args in
     let w = b.Way-of in
     steps_descends (plan s) a.deepest a.ports.now a.centre a.position (way_of a.e) w.result w.ensures s.requires (not-false _ b.if-not-w.false)
 
 pub returns : goal.returns
 returns c =
-    let b = c.before.before in
-    let s = b.before.before.before.before.before in
+    let b = c in
+    let s = (goal.at.returns c).Start in
     let a = s.args in
     let w = b.Way-of in
     let e = c.descend in

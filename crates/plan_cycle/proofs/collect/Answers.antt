@@ -7,7 +7,7 @@ use Rattle.plan_cycle.proofs.collect.Goals as goal
 
 pub loop-second-init : goal.loop-second-init
 loop-second-init c =
-    let s = c.before.before.before.before.before.before in
+    let s = c in
     (search rules, search rules, collected_start c.past_at-count.ensures c.past_at-first.ensures c.past_at-second.ensures s.requires)
 
 pub put_edge-requires : goal.put_edge-requires
@@ -21,8 +21,8 @@ loop-second-smaller c = omega (arith, collected_room c.loop-second.invariant.2)
 
 pub loop-second-preserved : goal.loop-second-preserved
 loop-second-preserved c =
-    let p = c.before.before.before.before.before.before in
-    let l = p.before.before.before in
+    let p = c in
+    let l = p in
     (search rules, search rules, collected_next l.loop-second.invariant.2 p.put_edge.ensures.0 p.put_edge.ensures.1 c.past_at-first-in-loop-second.ensures c.past_at-second-in-loop-second.ensures l.loop-second-test.true)
 
 pub put_edge-requires-2 : goal.put_edge-requires-2
@@ -33,7 +33,7 @@ overflow_add-result c = omega (arith, collected_room c.loop-second.invariant.2)
 
 pub returns : goal.returns
 returns c =
-    let p = c.before.before.before.before in
-    let l = p.before.before.before in
+    let p = c in
+    let l = p in
     let h = l.loop-second.invariant.2 in
     (omega (arith, collected_room h), collected_end h p.put_edge-2.ensures.0 p.put_edge-2.ensures.1 l.loop-second-test.false)

@@ -9,7 +9,7 @@ use Rattle.plan_cycle.proofs.cycle_at.Goals as goal
 
 pub mark-requires : goal.mark-requires
 mark-requires c =
-    let s = c.before.before.before.before.before.before.before.before.before in
+    let s = c in
     let e = c.collect-m.ensures in
     (search rules, search rules, search rules, e.0, rw e.1 (rejected_below _ _ s.requires), rw e.1 (to_rejected _ _ s.requires).rejected)
 

@@ -19,44 +19,44 @@ use Rattle.plan_finish.proofs.finish.Goals as goal
 
 pub returns-then-at-s : goal.returns-then-at-s
 returns-then-at-s c =
-    let s = c.before.before.before.before.before.before.before in
+    let s = c in
     λ up t. answer c.refuse.ensures (end_known (list_in s.args.p.edges up s.args.room.now) s.args.s.now s.args.at c.in-Tree.is (spare s.args.s.now s.args.at _ c.if-at-s.true))
 
 pub slice_bounds-one-end : goal.slice_bounds-one-end
 slice_bounds-one-end c =
-    let s = c.before.before.before.before.before.before.before in
+    let s = c in
     let z = known (list_in s.args.p.edges s.requires.0 s.args.room.now) c.in-Tree.is s.requires.1 in
     sym (length-take-le max_rows s.args.room.now (omega (arith, (lent_of s.args.p.edges s.requires.0 s.args.room.now z.0).columns)))
 
 pub slice_bounds-two-end : goal.slice_bounds-two-end
 slice_bounds-two-end c =
-    let s = c.before.before.before.before.before.before.before in
+    let s = c in
     let z = known (list_in s.args.p.edges s.requires.0 s.args.room.now) c.in-Tree.is s.requires.1 in
     omega (arith, (lent_of s.args.p.edges s.requires.0 s.args.room.now z.0).columns)
 
 pub overflow_cast-n : goal.overflow_cast-n
 overflow_cast-n c =
-    let s = c.before.before.before.before.before.before.before.before.before in
+    let s = c in
     let z = known (list_in s.args.p.edges s.requires.0 s.args.room.now) c.in-Tree.is s.requires.1 in
     omega (arith, z.0.within)
 
 pub tree_plan-requires : goal.tree_plan-requires
 tree_plan-requires c =
-    let s = c.before.before.before.before.before.before.before.before.before in
+    let s = c in
     let z = known (list_in s.args.p.edges s.requires.0 s.args.room.now) c.in-Tree.is s.requires.1 in
     (omega (arith, z.1), z.0.within, tree_below (list_in s.args.p.edges s.requires.0 s.args.room.now) z, omega (arith, z.0.within, z.0.columns.one), omega (arith, z.0.within, z.0.columns.two))
 
 pub returns-then-s-at : goal.returns-then-s-at
 returns-then-s-at c =
-    let s = c.before.before.before.before.before.before.before.before in
+    let s = c in
     λ up t. answer c.refuse-then-s-at.ensures (end_known (list_in s.args.p.edges up s.args.room.now) s.args.s.now s.args.at c.in-Range.is (spare s.args.s.now s.args.at _ (λ e. c.if-s-at.true (sym e))))
 
 pub range_plan-requires : goal.range_plan-requires
-range_plan-requires c = let s = c.before.before.before.before.before.before.before in known (list_in s.args.p.edges s.requires.0 s.args.room.now) c.in-Range.is s.requires.1
+range_plan-requires c = let s = c in known (list_in s.args.p.edges s.requires.0 s.args.room.now) c.in-Range.is s.requires.1
 
 pub returns-else-at-s : goal.returns-else-at-s
 returns-else-at-s c =
-    let s = c.before.before.before.before.before.before.before.before.before.before.before in
+    let s = c in
     let n = s.args.p.edges in
     let e = c.in-Tree.is in
     λ up t. answer_found c.accept.ensures
@@ -65,12 +65,12 @@ returns-else-at-s c =
 
 pub returns-else-s-at : goal.returns-else-s-at
 returns-else-s-at c =
-    let s = c.before.before.before.before.before.before.before.before.before in
+    let s = c in
     λ up t. answer_found c.accept-in-Range.ensures c.range_plan.ensures (end_known (list_in s.args.p.edges up s.args.room.now) s.args.s.now s.args.at c.in-Range.is (whole s.args.s.now s.args.at _ (sym c.if-s-at.false)))
 
 pub returns-in-Refused : goal.returns-in-Refused
 returns-in-Refused c =
-    let s = c.before.before.before.before.before.before.before in
+    let s = c in
     λ up t. answer c.refuse-in-Refused.ensures (end_known (list_in s.args.p.edges up s.args.room.now) s.args.s.now s.args.at c.in-Refused.is refl)
 
 pub returns-in-Kind : goal.returns-in-Kind

@@ -10,24 +10,24 @@ use Rattle.plan_growth.proofs.grow.Goals as goal
 
 pub loop-i-init : goal.loop-i-init
 loop-i-init c =
-    let s = c.before.before.before.before.before in
+    let s = c in
     (search rules, search rules, search rules, search rules, search rules, search rules, search rules, order_start _ _ s.requires.0, hung_none s.args.v max_vertices max_rows _ _ s.requires.5)
 
 pub take_edge-k-requires : goal.take_edge-k-requires
 take_edge-k-requires c =
-    let s = c.before.before.before.before.before.before.before.before.before.before.before.before.before in
+    let s = c in
     let o = c.loop-i in
     (laid_named o.invariant.7, o.invariant.8, rows_below s.args.v _ _ s.args.m (o.i + 1) (omega arith) s.requires.1, omega arith, omega arith)
 
 pub hang-requires : goal.hang-requires
 hang-requires c =
-    let s = c.before.before.before.before.before.before.before.before.before.before.before.before.before.before.before.before.before.before.before.before.before.before.before.before.before in
+    let s = c in
     let b = row_below s.args.v _ _ s.args.m c.loop-i.i c.loop-i-test.true s.requires.1 in
     (omega (arith, b.0), omega (arith, b.1), omega arith, omega arith, omega arith)
 
 pub loop-i-preserved : goal.loop-i-preserved
 loop-i-preserved c =
-    let s = c.before.before.before.before.before.before.before.before.before.before.before.before.before.before.before.before.before.before.before.before.before.before.before.before.before.before.before.before.before in
+    let s = c in
     let o = c.loop-i in
     let h = c.hang.ensures in
     let t = c.loop-i-test.true in

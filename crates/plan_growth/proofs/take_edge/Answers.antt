@@ -8,7 +8,7 @@ use Rattle.plan_growth.proofs.take_edge.Goals as goal
 
 pub extend-next-requires : goal.extend-next-requires
 extend-next-requires c =
-    let s = c.before.before.before.before.before.before.before.before.before.before.before.before.before in
+    let s = c in
     let b = row_below s.args.v _ _ (s.args.i + 1) s.args.i (omega arith) s.requires.2 in
     (s.requires.0, b.0, b.1)
 

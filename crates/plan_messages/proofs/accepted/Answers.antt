@@ -13,12 +13,12 @@ levels-k-requires c = subst (λ (q : Plan). T (plan_valid q)) (sym c.shape-s.ens
 
 pub overflow_mul-result : goal.overflow_mul-result
 overflow_mul-result c =
-    let a = c.before.before.before.before.before.before in
+    let a = c in
     let e = c.shape-s.ensures in
     let k = levels_most (shaped c.shape-s.result a.args.p.parent a.args.p.child) (subst (λ (q : Plan). T (plan_valid q)) (sym e) a.requires) in
     record { fits = omega (arith, c.levels-k.ensures, k) }
 
 pub returns : goal.returns
 returns c =
-    let a = c.before.before.before.before.before.before in
+    let a = c in
     bound_is (as_plan a.args.p) _ c.levels-k.result c.shape-s.ensures c.levels-k.ensures

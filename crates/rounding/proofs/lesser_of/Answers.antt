@@ -9,12 +9,12 @@ use Rattle.rounding.proofs.lesser_of.Goals as goal
 
 pub returns-then-a-b : goal.returns-then-a-b
 returns-then-a-b c =
-    let s = c.before in
+    let s = c in
     to_z-of_z w64 s.args.a s.ranges.a
     ∙ sym (ap (λ (t : Bool). pick t s.args.a s.args.b) (compared w64 s.ranges.a s.ranges.b c.if-a-b.true))
 
 pub returns : goal.returns
 returns c =
-    let s = c.before in
+    let s = c in
     to_z-of_z w64 s.args.b s.ranges.b
     ∙ sym (ap (λ (t : Bool). pick t s.args.a s.args.b) (compared w64 s.ranges.a s.ranges.b c.if-a-b.false))

@@ -17,12 +17,12 @@ overflow_cast-result c = fits_unsigned w64 c.args.z c.ranges.z (flipped_back w64
 
 pub overflow_add-result : goal.overflow_add-result
 overflow_add-result c =
-    let s = c.before in
+    let s = c in
     record { fits = omega (arith, ap nat_abs (flipped_back w64 s.args.z s.ranges.z c.if-z-lt0.true), s.ranges.z.sfits) }
 
 pub returns-then-z-lt0 : goal.returns-then-z-lt0
 returns-then-z-lt0 c =
-    let s = c.before in
+    let s = c in
     ap (λ (n : ℕ). n + 1) (ap nat_abs (flipped_back w64 s.args.z s.ranges.z c.if-z-lt0.true))
     ∙ add-one _
     ∙ ap nat_abs (sym (below_zero w64 s.args.z s.ranges.z c.if-z-lt0.true))
@@ -32,5 +32,5 @@ overflow_cast-result-2 c = fits_unsigned w64 c.args.z c.ranges.z (kept w64 c.arg
 
 pub returns : goal.returns
 returns c =
-    let s = c.before in
+    let s = c in
     ap nat_abs (kept w64 s.args.z s.ranges.z c.if-z-lt0.false ∙ sym (from_zero w64 s.args.z s.ranges.z c.if-z-lt0.false))

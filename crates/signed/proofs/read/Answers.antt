@@ -12,7 +12,7 @@ use Rattle.signed.proofs.read.Goals as goal
 
 pub returns-in-Value : goal.returns-in-Value
 returns-in-Value c =
-    let n = c.number_of_lem in
+    let n = c.number_of in
     ap (λ (x : ℤ). Value x c.in-Value.next) (ap (λ (x : ℤ). to_z w32 (of_z w32 x)) n.ensures ∙ to_z-of_z w32 _ (unzigzag_fits c.in-Value.v (omega arith)))
     ∙ ap signed_of (sym c.in-Value.is ∙ c.read.ensures)
 

@@ -6,17 +6,17 @@ use Rattle.tree_levels.proofs.levels.Goals as goal
 
 pub loop-alive-init : goal.loop-alive-init
 loop-alive-init c =
-    let s = c.before.before.before.before.before in
+    let s = c in
     done_start (rows s.args.ps.now s.args.cs.now (s.args.n - 1)) s.args.n c.fill.new.m c.fill.ensures
 
 pub round-requires : goal.round-requires
 round-requires c =
-    let s = c.before.before.before.before.before.before.before in
+    let s = c in
     let o = c.loop-alive in
     (s.requires.0, s.requires.1, o.invariant.small, done_below s.args.ps.now s.args.cs.now s.args.n o.k o.alive s.requires.0 o.invariant)
 
 -- a turn more
-turn : (c : tie.In-loop-alive invariant-loop decreases-loop) → Done (rows c.args.ps.now c.args.cs.now (c.args.n - 1)) c.args.n (c.loop-alive.k + 1) c.round.new.alive
+turn : (c : tie.In-loop-alive) → Done (rows c.args.ps.now c.args.cs.now (c.args.n - 1)) c.args.n (c.loop-alive.k + 1) c.round.new.alive
 turn c =
     let s = c.before.before.before.before.before.before.before.before.before in
     let o = c.loop-alive in
@@ -24,21 +24,21 @@ turn c =
     done_more s.args.ps.now s.args.cs.now s.args.n o.k o.alive s.requires.0 o.invariant r.result r.ensures.0 c.loop-alive-test.true r.new.alive r.ensures.1.0 r.ensures.1.1
 
 pub overflow_add-k : goal.overflow_add-k
-overflow_add-k c = omega (arith, (turn c).few, c.requires.1)
+overflow_add-k c = omega (arith, (turn (goal.at.overflow_add-k c).In-loop-alive).few, c.requires.1)
 
 pub loop-alive-smaller : goal.loop-alive-smaller
 loop-alive-smaller c =
-    let s = c.before.before.before.before.before.before.before.before.before in
+    let s = c in
     let o = c.loop-alive in
     let r = c.round in
     done_less s.args.ps.now s.args.cs.now s.args.n o.k o.alive s.requires.0 o.invariant r.result r.ensures.0 c.loop-alive-test.true r.new.alive r.ensures.1.0
 
 pub loop-alive-preserved : goal.loop-alive-preserved
-loop-alive-preserved c = turn c
+loop-alive-preserved c = turn (goal.at.loop-alive-preserved c).In-loop-alive
 
 pub returns : goal.returns
 returns c =
-    let s = c.before.before.before.before.before.before.before.before.before in
+    let s = c in
     let o = c.loop-alive in
     let r = c.round in
     done_end s.args.ps.now s.args.cs.now s.args.n o.k o.alive s.requires.0 o.invariant r.result r.ensures.0 c.loop-alive-test.false

@@ -11,13 +11,13 @@ use Rattle.tree_levels.proofs.round.Goals as goal
 
 pub components-requires : goal.components-requires
 components-requires c =
-    let s = c.before.before.before.before.before.before.before.before.before in
+    let s = c in
     let h = s.requires.1 in
     (s.requires.0, omega arith, omega arith, omega arith, omega arith, h, s.requires.2, s.requires.3, refl, refl)
 
 pub take_out-requires : goal.take_out-requires
 take_out-requires c =
-    let s = c.before.before.before.before.before.before.before.before.before.before.before.before.before.before.before.before.before in
+    let s = c in
     let p = c.components in
     let h = s.requires.1 in (
       omega arith,
@@ -28,7 +28,7 @@ take_out-requires c =
 
 pub returns : goal.returns
 returns c =
-    let s = c.before.before.before.before.before.before.before.before.before.before.before.before.before.before.before.before.before.before.before in
+    let s = c in
     let p = c.components in
     let t = c.take_out in (
       round_any s.args.ps.now s.args.cs.now s.args.alive.now p.new.labels p.new.sub p.new.light s.args.n s.requires.0 s.requires.3 p.ensures t.result t.ensures.0,

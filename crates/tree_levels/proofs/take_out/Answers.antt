@@ -6,7 +6,7 @@ use Rattle.tree_levels.proofs.take_out.Goals as goal
 
 pub loop-x-init : goal.loop-x-init
 loop-x-init c =
-    let s = c.before.before.before.before in (
+    let s = c in (
       search rules,
       search rules,
       search rules,
@@ -17,14 +17,14 @@ loop-x-init c =
 
 pub take-any-requires : goal.take-any-requires
 take-any-requires c =
-    let s = c.before.before.before.before.before.before.before.before in
+    let s = c in
     let o = c.loop-x in
     let h = s.requires.3 o.x c.loop-x-test.true in
     (omega (arith, o.invariant.1, s.requires.0), omega (arith, s.requires.1), omega (arith, s.requires.2), omega (arith, o.invariant.2))
 
 pub loop-x-preserved : goal.loop-x-preserved
 loop-x-preserved c =
-    let s = c.before.before.before.before.before.before.before.before.before.before.before.before.before in
+    let s = c in
     let o = c.loop-x in
     let h = s.requires.3 o.x c.loop-x-test.true in (
       search rules,
@@ -37,6 +37,6 @@ loop-x-preserved c =
 
 pub returns : goal.returns
 returns c =
-    let s = c.before.before.before.before.before.before in
+    let s = c in
     let o = c.loop-x in
     (any_end s.args.labels.now s.args.sub.now s.args.light.now o.x s.args.n (omega arith) o.any o.invariant.3, cut_end s.args.labels.now s.args.sub.now s.args.light.now o.x s.args.n (omega arith) s.args.alive.now o.alive o.invariant.4)

@@ -9,7 +9,7 @@ use Rattle.tree_pass.proofs.around.Goals as goal
 
 pub loop-i-init : goal.loop-i-init
 loop-i-init c =
-    let s = c.before.before.before.before.before.before.before.before.before in (
+    let s = c in (
       search rules,
       search rules,
       search rules,
@@ -19,7 +19,7 @@ loop-i-init c =
 
 pub pass-requires : goal.pass-requires
 pass-requires c =
-    let s = c.before.before.before.before.before.before.before.before.before.before.before.before.before.before.before.before.before in
+    let s = c in
     let o = c.loop-i in
     let r = row_ends s.args.ps.now s.args.cs.now s.args.n s.args.m s.requires.0 o.i c.loop-i-test.true c.wide-p.result c.wide-v.result c.wide-p.ensures c.wide-v.ensures in
     let h = s.requires in
@@ -29,7 +29,7 @@ pass-requires c =
 
 pub loop-i-preserved : goal.loop-i-preserved
 loop-i-preserved c =
-    let s = c.before.before.before.before.before.before.before.before.before.before.before.before.before.before.before.before.before.before.before.before.before.before in
+    let s = c in
     let o = c.loop-i in (
       search rules,
       search rules,
@@ -42,7 +42,7 @@ loop-i-preserved c =
 
 pub returns : goal.returns
 returns c =
-    let s = c.before.before.before.before.before.before.before.before.before.before.before in
+    let s = c in
     let o = c.loop-i in (
       labelled_end s.args.ps.now s.args.cs.now (marked s.args.ins.now) s.args.n o.i s.args.m o.out (omega arith) o.invariant.3,
       near_end s.args.ps.now s.args.cs.now s.args.ins.now s.args.near.now s.args.c o.i s.args.m o.near (omega arith) o.invariant.4,

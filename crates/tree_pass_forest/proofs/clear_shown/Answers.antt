@@ -9,26 +9,26 @@ use Rattle.tree_pass_forest.proofs.clear_shown.Goals as goal
 
 pub loop-i-init : goal.loop-i-init
 loop-i-init c =
-    let s = c.before.before.before.before.before.before in
+    let s = c in
     (search rules, search rules, left_start s.args.ps.now s.args.cs.now s.args.ins.now s.args.labels.now s.args.sub.now s.args.light.now)
 
 pub bounds-labels-v : goal.bounds-labels-v
 bounds-labels-v c =
-    let s = c.before.before.before.before.before.before.before.before.before.before.before.before.before in
+    let s = c in
     let o = c.loop-i in
     let r = row_ends s.args.ps.now s.args.cs.now s.args.n s.args.m s.requires.0 o.i c.loop-i-test.true c.wide-p.result c.wide-v.result c.wide-p.ensures c.wide-v.ensures in
     omega (arith, r.1, s.requires.2)
 
 pub bounds-sub-l : goal.bounds-sub-l
 bounds-sub-l c =
-    let s = c.before.before.before.before.before.before.before.before.before.before.before.before.before.before.before in
+    let s = c in
     let o = c.loop-i in
     let r = row_ends s.args.ps.now s.args.cs.now s.args.n s.args.m s.requires.0 o.i c.loop-i-test.true c.wide-p.result c.wide-v.result c.wide-p.ensures c.wide-v.ensures in
     omega (arith, s.requires.5 c.wide-v.result r.1, c.wide-l.ensures, s.requires.3)
 
 pub clear-requires : goal.clear-requires
 clear-requires c =
-    let s = c.before.before.before.before.before.before.before.before.before.before.before.before.before.before.before.before.before in
+    let s = c in
     let o = c.loop-i in
     let r = row_ends s.args.ps.now s.args.cs.now s.args.n s.args.m s.requires.0 o.i c.loop-i-test.true c.wide-p.result c.wide-v.result c.wide-p.ensures c.wide-v.ensures in
     let h = s.requires in
@@ -37,7 +37,7 @@ clear-requires c =
 
 pub loop-i-preserved : goal.loop-i-preserved
 loop-i-preserved c =
-    let s = c.before.before.before.before.before.before.before.before.before.before.before.before.before.before.before.before.before.before.before.before in
+    let s = c in
     let o = c.loop-i in (
       search rules,
       search rules,
@@ -47,6 +47,6 @@ loop-i-preserved c =
 
 pub returns : goal.returns
 returns c =
-    let s = c.before.before.before.before.before.before.before.before in
+    let s = c in
     let o = c.loop-i in
     left_end s.args.ps.now s.args.cs.now s.args.ins.now s.args.labels.now s.args.sub.now s.args.light.now o.i s.args.m o.light (omega arith) o.invariant.2

@@ -9,17 +9,17 @@ use Rattle.tree_pass_forest.proofs.components.Goals as goal
 
 pub around-requires : goal.around-requires
 around-requires c =
-    let s = c.before.before.before.before.before.before.before.before in
+    let s = c in
     (s.requires.0, s.requires.1, s.requires.2, omega (arith, s.requires.5), s.requires.5, none_at s.args.ins.now s.args.n s.requires.6 s.requires.7)
 
 pub sizes-requires : goal.sizes-requires
 sizes-requires c =
-    let s = c.before.before.before.before.before.before.before.before.before.before.before.before.before in
+    let s = c in
     (s.requires.0, s.requires.1, s.requires.3, s.requires.5, λ x l. ap (λ (z : List ℕ). get_or z x 0) s.requires.8 ∙ mark_bit s.args.ins.now x (s.requires.6 x))
 
 pub clear_shown-requires : goal.clear_shown-requires
 clear_shown-requires c =
-    let s = c.before.before.before.before.before.before.before.before.before.before.before.before.before.before.before.before.before.before.before in (
+    let s = c in (
       s.requires.0,
       s.requires.1,
       omega (arith, s.requires.2, c.around.auto.out),
@@ -30,7 +30,7 @@ clear_shown-requires c =
 
 pub returns : goal.returns
 returns c =
-    let s = c.before.before.before.before.before.before.before.before.before.before.before.before.before.before.before.before.before.before.before.before.before.before in (
+    let s = c in (
       c.around.ensures.0,
       (
         c.sizes.ensures,

@@ -9,12 +9,12 @@ use Rattle.tree_pass_forest.proofs.sizes.Goals as goal
 
 pub loop-i-init : goal.loop-i-init
 loop-i-init c =
-    let s = c.before.before.before.before in
+    let s = c in
     (search rules, search rules, climbed_start s.args.ps.now s.args.cs.now s.args.ins.now s.args.n s.args.m s.args.sub.now s.requires.0 s.requires.4)
 
 pub raise-requires : goal.raise-requires
 raise-requires c =
-    let s = c.before.before.before.before.before.before.before.before.before.before.before in
+    let s = c in
     let o = c.loop-i in
     let r = row_ends s.args.ps.now s.args.cs.now s.args.n s.args.m s.requires.0 (o.i - 1) (omega arith) c.wide-p.result c.wide-v.result c.wide-p.ensures c.wide-v.ensures in
     let h = s.requires in
@@ -24,7 +24,7 @@ raise-requires c =
 
 pub loop-i-preserved : goal.loop-i-preserved
 loop-i-preserved c =
-    let s = c.before.before.before.before.before.before.before.before.before.before.before.before.before.before in
+    let s = c in
     let o = c.loop-i in (
       search rules,
       search rules,
@@ -34,6 +34,6 @@ loop-i-preserved c =
 
 pub returns : goal.returns
 returns c =
-    let s = c.before.before.before.before.before.before in
+    let s = c in
     let o = c.loop-i in
     climbed_end s.args.ps.now s.args.cs.now (marked s.args.ins.now) s.args.n s.args.m o.i o.sub (omega arith) o.invariant.2

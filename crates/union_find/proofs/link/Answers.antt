@@ -7,13 +7,14 @@ use borrow.Author.Rules.{rules}
 use Rattle.union_find.specs.Inner.{Top}
 use Rattle.union_find.proofs.Roots.{rooted, placed}
 use Rattle.union_find.proofs.Sets.{weights_fit, linked_same, linked_under, under_same, under_high}
+use Rattle.union_find.proofs.link.Goals.{After-root-q}
 use Rattle.union_find.proofs.link.Goals as goal
 
-p-placed : (c : tie.After-root-q) → let s = c.before.before.before.before.before.before in (c.root-p.result < s.args.n) × Top s.args.up.now c.root-p.result
-p-placed c = let s = c.before.before.before.before.before.before in placed _ _ _ s.requires.5 s.args.a c.root-p.result s.requires.0 c.root-p.ensures
+p-placed : (c : After-root-q) → let s = c in (c.root-p.result < s.args.n) × Top s.args.up.now c.root-p.result
+p-placed c = let s = c in placed _ _ _ s.requires.5 s.args.a c.root-p.result s.requires.0 c.root-p.ensures
 
-q-placed : (c : tie.After-root-q) → let s = c.before.before.before.before.before.before in (c.root-q.result < s.args.n) × Top s.args.up.now c.root-q.result
-q-placed c = let s = c.before.before.before.before.before.before in placed _ _ _ s.requires.5 s.args.b c.root-q.result s.requires.1 c.root-q.ensures
+q-placed : (c : After-root-q) → let s = c in (c.root-q.result < s.args.n) × Top s.args.up.now c.root-q.result
+q-placed c = let s = c in placed _ _ _ s.requires.5 s.args.b c.root-q.result s.requires.1 c.root-q.ensures
 
 pub root-p-requires : goal.root-p-requires
 root-p-requires c = (search rules, search rules, rooted _ _ _ c.requires.5)
@@ -23,29 +24,29 @@ root-q-requires c = (search rules, search rules, rooted _ _ _ c.requires.5)
 
 pub returns-then-p-q : goal.returns-then-p-q
 returns-then-p-q c =
-    let k = c.before in
-    let s = k.before.before.before.before.before.before in
+    let k = (goal.at.returns-then-p-q c).After-root-q in
+    let s = k in
     let q = q-placed k in (
       λ E u. linked_same _ E _ _ u s.args.a s.args.b s.requires.0 s.requires.1 (sym k.root-p.ensures ∙ c.if-p-q.true ∙ k.root-q.ensures),
       under_same _ _ _ q.0 q.1,
     )
 
 pub offset_bounds-weight-p : goal.offset_bounds-weight-p
-offset_bounds-weight-p c = omega (arith, p-placed c.before, q-placed c.before)
+offset_bounds-weight-p c = omega (arith, p-placed (goal.at.offset_bounds-weight-p c).After-root-q, q-placed (goal.at.offset_bounds-weight-p c).After-root-q)
 
 pub bounds-weight-p : goal.bounds-weight-p
-bounds-weight-p c = omega (arith, p-placed c.before.before, q-placed c.before.before)
+bounds-weight-p c = omega (arith, p-placed (goal.at.bounds-weight-p c).After-root-q, q-placed (goal.at.bounds-weight-p c).After-root-q)
 
 pub offset_bounds-weight-q : goal.offset_bounds-weight-q
-offset_bounds-weight-q c = omega (arith, p-placed c.before.before, q-placed c.before.before)
+offset_bounds-weight-q c = omega (arith, p-placed (goal.at.offset_bounds-weight-q c).After-root-q, q-placed (goal.at.offset_bounds-weight-q c).After-root-q)
 
 pub bounds-weight-q : goal.bounds-weight-q
-bounds-weight-q c = omega (arith, p-placed c.before.before.before, q-placed c.before.before.before)
+bounds-weight-q c = omega (arith, p-placed (goal.at.bounds-weight-q c).After-root-q, q-placed (goal.at.bounds-weight-q c).After-root-q)
 
 pub attach-requires : goal.attach-requires
 attach-requires c =
-    let k = c.before.before.before.before.before.before in
-    let s = k.before.before.before.before.before.before in
+    let k = (goal.at.attach-requires c).After-root-q in
+    let s = k in
     let p = p-placed k in
     let q = q-placed k in
     let d = c.if-p-q.false in
@@ -54,8 +55,8 @@ attach-requires c =
 
 pub attach-requires-2 : goal.attach-requires-2
 attach-requires-2 c =
-    let k = c.before.before.before.before.before.before in
-    let s = k.before.before.before.before.before.before in
+    let k = (goal.at.attach-requires-2 c).After-root-q in
+    let s = k in
     let p = p-placed k in
     let q = q-placed k in
     let d = c.if-p-q.false in
@@ -64,11 +65,11 @@ attach-requires-2 c =
 
 pub returns-then-weight-p : goal.returns-then-weight-p
 returns-then-weight-p c =
-    let a = c.before.before.before.before in
-    let i = a.before.before.before in
-    let e = i.before.before.before in
-    let k = e.before in
-    let s = k.before.before.before.before.before.before in
+    let a = c in
+    let i = a in
+    let e = i in
+    let k = (goal.at.returns-then-weight-p c).After-root-q in
+    let s = k in
     let p = p-placed k in
     let q = q-placed k in (
       λ E u.
@@ -80,11 +81,11 @@ returns-then-weight-p c =
 
 pub returns : goal.returns
 returns c =
-    let a = c.before.before.before.before in
-    let i = a.before.before.before in
-    let e = i.before.before.before in
-    let k = e.before in
-    let s = k.before.before.before.before.before.before in
+    let a = c in
+    let i = a in
+    let e = i in
+    let k = (goal.at.returns c).After-root-q in
+    let s = k in
     let p = p-placed k in
     let q = q-placed k in (
       λ E u.

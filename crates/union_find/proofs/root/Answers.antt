@@ -20,13 +20,13 @@ bounds-up-r-in-loop-above c =
 
 pub loop-above-smaller : goal.loop-above-smaller
 loop-above-smaller c =
-    let k = c.before.before.before in
+    let k = c in
     let o = k.loop-above in
     above_steps _ _ k.requires.2 o.r o.above o.invariant.0 o.invariant.1 c.loop-above-test.true
 
 pub loop-above-preserved : goal.loop-above-preserved
 loop-above-preserved c =
-    let k = c.before.before.before in
+    let k = c in
     let p = k.requires.2 in
     let o = k.loop-above in
     (above_inside _ _ p o.r o.above o.invariant.0 o.invariant.1, c.wide-above-in-loop-above.ensures, above_root _ _ p o.r o.above o.invariant.0 o.invariant.1 ∙ o.invariant.2)

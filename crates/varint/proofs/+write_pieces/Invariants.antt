@@ -1,5 +1,7 @@
--- How many pieces may still come.
+-- `varint::write_pieces` meets its contract.
+use Prim.Native.Nat.{ℕ, ◌-◌}
+use borrow.Fn.PlainCycle.{Measures}
 use Rattle.varint.proofs.+write_pieces.Given as goal
 
-abbrev pub decreases-write_pieces : goal.decreases-write_pieces
-decreases-write_pieces l = l.left
+-- MEASURE abbrev μ_write_pieces : Measures 1 write-pieces-kinds.ps ℕ
+-- μ_write_pieces κs a = a.1.1.0

@@ -9,4 +9,4 @@ pub returns : goal.returns
 unfolding line_step
 returns c =
     let l = c.args.self in
-    tells l (c.step_of_lem.ensures ∙ ap (λ (k : Command). step_by k l.words l.first l.second) c.named.ensures)
+    tells l (c.step_of.ensures ∙ ap (λ (k : Command). step_by k l.words l.first l.second) c.named.ensures)
