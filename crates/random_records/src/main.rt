@@ -1,6 +1,8 @@
 // Question 19 and calls on records that no history reaches: records of boards in random votes, with
 // a few numbers changed so that they just pass or just fail, in the library and in a second
 // implementation.
+#![tactic(auto)]
+
 mod both;
 mod calls;
 mod compare;
@@ -18,6 +20,7 @@ use second_plan::table;
 use second_plan::table::Table;
 use second_wire::num;
 use second_wire::num::Room;
+use std::io;
 
 // How many votes a run has, and the states of the pseudo-random numbers before each run's first.
 const VOTES: usize = 450;
@@ -96,19 +99,19 @@ fn run_one(s: &mut State, journals: &mut Journals, out: &mut Out) {
 }
 
 // A run of votes from a seed.
-fn run(seed: usize, journals: &mut Journals, out: &mut Out) {
+fn run(rt: &impl Print, seed: usize, journals: &mut Journals, out: &mut Out) -> io::Result<()> {
     let mut s = state::begin(seed);
-    report::write_seed(&s);
+    report::write_seed(rt, &s)?;
     for _ in 0..VOTES {
         run_one(&mut s, journals, out);
     }
-    report::write(&s);
+    report::write(rt, &s)
 }
 
 // Two runs.
-fn main() {
+fn main(rt: HostRuntime) -> io::Result<()> {
     let mut journals = [7u8; 2 * state::JOURNAL];
     let mut out = [7u8; 2 * random_buffers::OUTGOING];
-    run(SEED, &mut journals, &mut out);
-    run(OTHER_SEED, &mut journals, &mut out);
+    run(&rt, SEED, &mut journals, &mut out)?;
+    run(&rt, OTHER_SEED, &mut journals, &mut out)
 }

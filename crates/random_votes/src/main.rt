@@ -1,5 +1,7 @@
 // Random votes on the library and on a second implementation of the rules: each call is made on both and compared, and the answers are held to demand 3. Two
 // votes run side by side, and their boards are read as pairs; in votes by counts they start by counts, and count answers are read.
+#![tactic(auto)]
+
 mod beside;
 mod calls;
 mod codes;
@@ -26,6 +28,7 @@ use random_votes_steps::choose::seek;
 use second_plan::table;
 use second_plan::table::Table;
 use second_wire::num;
+use std::io;
 
 // How many votes are run from each seed, and the states of the pseudo-random numbers before the first of them; and of those by which pairs are read.
 const VOTES: usize = 2440;
@@ -230,22 +233,22 @@ fn run_seeds(s: &mut State, w: &mut State, out: &mut Out) {
 }
 
 // A seed is kept and told.
-fn seed(s: &mut State, place: usize, seed: usize) {
+fn seed(rt: &impl Print, s: &mut State, place: usize, seed: usize) -> io::Result<()> {
     state::set(s, place, seed);
-    random_report::line(s, b"seed", place);
+    random_report::line(rt, s, b"seed", place)
 }
 
 // The cases at the limits, the votes, and what they came to.
-fn main() {
+fn main(rt: HostRuntime) -> io::Result<()> {
     let mut s = [0usize; 65536];
     let mut w = [0usize; 65536];
     let mut out = [0u8; 2 * random_buffers::OUTGOING];
-    limits::write_settings(&mut s);
-    limits::write_plans(&mut s);
-    limits::write_lengths();
-    seed(&mut s, state::SEED, SEED);
-    seed(&mut w, state::SEED, OTHER_SEED);
-    seed(&mut s, pair::SEED, PAIR_SEED);
+    limits::write_settings(&rt, &mut s)?;
+    limits::write_plans(&rt, &mut s)?;
+    limits::write_lengths(&rt)?;
+    seed(&rt, &mut s, state::SEED, SEED)?;
+    seed(&rt, &mut w, state::SEED, OTHER_SEED)?;
+    seed(&rt, &mut s, pair::SEED, PAIR_SEED)?;
     run_seeds(&mut s, &mut w, &mut out);
-    report::write(&s, &w);
+    report::write(&rt, &s, &w)
 }

@@ -2,22 +2,24 @@
 use random_report::{lines, rows};
 use random_votes_state::close;
 use random_votes_state::state::State;
+use std::io;
 
 // Rules.
-fn write_rules(s: &State) {
+fn write_rules(rt: &impl Print, s: &State) -> io::Result<()> {
     let areas = [close::BOARD_RULES, close::BENCH_RULES];
     rows(
+        rt,
         s,
         b"rules of closing applied by boards:\n\
         rules of closing applied by the bench:",
         &areas,
         1,
         6,
-    );
+    )
 }
 
 // Closings.
-fn write_closings(s: &State) {
+fn write_closings(rt: &impl Print, s: &State) -> io::Result<()> {
     let places = [
         close::SMALL_VOTES,
         close::AT_START,
@@ -30,6 +32,7 @@ fn write_closings(s: &State) {
         close::STARTS_REFUSED,
     ];
     lines(
+        rt,
         s,
         b"votes on one or two positions\n\
         closings in a start\n\
@@ -41,11 +44,11 @@ fn write_closings(s: &State) {
         restores that gave a closed board\n\
         starts refused at a closed board",
         &places,
-    );
+    )
 }
 
 // Messages, readings and lives.
-fn write_messages(s: &State) {
+fn write_messages(rt: &impl Print, s: &State) -> io::Result<()> {
     let places = [
         close::TAKEN + close::ECHO_KEPT,
         close::TAKEN + close::ECHO_HELD,
@@ -64,6 +67,7 @@ fn write_messages(s: &State) {
         close::MOST_BYTES,
     ];
     lines(
+        rt,
         s,
         b"closing echoes kept\n\
         held already\n\
@@ -81,12 +85,12 @@ fn write_messages(s: &State) {
         rules of a board's life at most\n\
         bytes of its messages at most",
         &places,
-    );
+    )
 }
 
 // The lines on closing.
-pub fn write(s: &State) {
-    write_rules(s);
-    write_closings(s);
-    write_messages(s);
+pub fn write(rt: &impl Print, s: &State) -> io::Result<()> {
+    write_rules(rt, s)?;
+    write_closings(rt, s)?;
+    write_messages(rt, s)
 }
