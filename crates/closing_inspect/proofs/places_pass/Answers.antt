@@ -5,7 +5,6 @@ use mathlib.Core.Bool.{true}
 use Prim.Native.Nat.{◌+◌, ◌-◌}
 use native.Mathlib.Omega.{arith}
 use lib.ListN.{length}
-use borrow.Author.Tests.{not-true, not-false}
 use Rattle.level.specs.Level.{no_output}
 use Rattle.closing_counts.proofs.Laws.{get_d_within}
 use Rattle.closing.specs.Closing.{place_count}
@@ -29,7 +28,7 @@ returns-then-not-place_passes c =
     let l = places (goal.at.returns-then-not-place_passes c).Start in
     let i = c.loop-i in
     let e = c.place_passes.ensures ∙ ap (place_passes a.n a.positions i.i) (get_d_within a.t1.kept i.i 0 no_output (omega arith)) in
-    sym (places_fail a.n a.positions a.t1 (i.i + 1) place_count (omega arith) (places_next a.n a.positions a.t1 i.i i.invariant.1 e (not-true _ c.if-not-place_passes.true)))
+    sym (places_fail a.n a.positions a.t1 (i.i + 1) place_count (omega arith) (places_next a.n a.positions a.t1 i.i i.invariant.1 e c.if-not-place_passes.true))
 
 pub overflow_add-i : goal.overflow_add-i
 overflow_add-i c = omega arith
@@ -43,7 +42,7 @@ loop-i-preserved c =
     let l = places (goal.at.loop-i-preserved c).Start in
     let i = c.loop-i in
     let e = c.place_passes.ensures ∙ ap (place_passes a.n a.positions i.i) (get_d_within a.t1.kept i.i 0 no_output (omega arith)) in
-    (omega arith, places_next a.n a.positions a.t1 i.i i.invariant.1 e (not-false _ c.if-not-place_passes.false-raw))
+    (omega arith, places_next a.n a.positions a.t1 i.i i.invariant.1 e c.if-not-place_passes.false)
 
 pub returns : goal.returns
 returns c =
