@@ -31,7 +31,7 @@ loop-s-preserved c =
     let f = echoed_by a.kept.now a.x in (
       omega arith,
       elim c.if-echoed_by.branch [
-        then-echoed_by w ↦ omega (arith, count_in_lem f i.s (sym c.echoed_by.ensures ∙ w.if-echoed_by.true))
+        | then-echoed_by w ↦ omega (arith, count_in_lem f i.s (sym c.echoed_by.ensures ∙ w.if-echoed_by.true))
         | else-echoed_by w ↦ omega (arith, count_out f i.s (sym c.echoed_by.ensures ∙ w.if-echoed_by.false))
       ],
     )
