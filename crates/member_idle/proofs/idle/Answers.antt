@@ -30,13 +30,13 @@ pub offset_bounds-sets-k : goal.offset_bounds-sets-k
 offset_bounds-sets-k c = omega (arith, there (goal.at.offset_bounds-sets-k c).After-place-k)
 
 pub bounds-sets-k : goal.bounds-sets-k
-bounds-sets-k c = there (goal.at.bounds-sets-k c).After-way_told-1
+bounds-sets-k c = there (goal.at.bounds-sets-k c).After-place-k
 
 pub returns-else-c : goal.returns-else-c
 returns-else-c c =
     let a = c in
     let k = a in
-    tells_held _ _ _ _ _ k.in-Level.m k.in-Level.is a.if-c.false (table (goal.at.returns-else-c c).After-place-k) a.place-k.result a.place-k.ensures c.contains.result c.contains.ensures
+    tells_held _ _ _ _ _ k.in-Level.m k.in-Level.is a.if-c.false (table (goal.at.returns-else-c c).Else-c) a.place-k.result a.place-k.ensures c.contains.result c.contains.ensures
 
 pub returns-in-Echo : goal.returns-in-Echo
 returns-in-Echo c =

@@ -34,7 +34,7 @@ ready s = party_ready (board s) s.args.chart s.args.ports.now s.requires.0
 formed : (s : Start) → Formed (first s)
 formed s =
     let a = s.args in
-    let t = s.well-formed.1.1.1.1.1.0 in
+    let t = s.well_formed.1.1.1.1.1.0 in
     (sized_in a.v (plan s) a.levels a.sets.now (ready s).valid (levels_full a.levels _ t) (levels_echoes a.levels _ t)).formed
 
 new : (s : Start) → started (first s) ≡ false

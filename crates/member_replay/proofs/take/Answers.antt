@@ -35,7 +35,7 @@ found : (c : After-idle) → let s = c.before.before.before.before.before in idl
 found c =
     let s = c in
     let a = s.args in
-    sym (c.idle.ensures.tells a.v (shaped a.shape a.ps.now a.cs.now) a.levels refl (levels_full a.levels _ s.well-formed.1.1.1.1.1.0))
+    sym (c.idle.ensures.tells a.v (shaped a.shape a.ps.now a.cs.now) a.levels refl (levels_full a.levels _ s.well_formed.1.1.1.1.1.0))
 
 pub returns-then-idle : goal.returns-then-idle
 returns-then-idle c =

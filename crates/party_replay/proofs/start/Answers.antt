@@ -29,7 +29,7 @@ first s = party_in s.args.v (plan s) s.args.levels s.args.sets.now
 formed : (s : Start) → Formed (first s)
 formed s =
     let a = s.args in
-    let t = s.well-formed.1.1.1.1.1.0 in
+    let t = s.well_formed.1.1.1.1.1.0 in
     (sized_in a.v (plan s) a.levels a.sets.now s.requires.0.valid (levels_full a.levels _ t) (levels_echoes a.levels _ t)).formed
 
 -- level 0 is entered over the whole plan
@@ -77,7 +77,7 @@ run-requires c =
     let s = (goal.at.run-requires c).Start in
     let a = s.args in (
       start_ready a.v (plan s) a.levels a.sets.now a.chart a.ports.now (formed s) s.requires.0.charts a.x s.requires.2 s.requires.3 e.enter-e.result
-          e.enter-e.new.ports (entered e) (chart_surveys a.chart _ s.well-formed.1.1.1.1.1.1.0) d.if-e.d (charted d) s.requires.0.rows,
+          e.enter-e.new.ports (entered e) (chart_surveys a.chart _ s.well_formed.1.1.1.1.1.1.0) d.if-e.d (charted d) s.requires.0.rows,
       room_same (sym (runs e)) a.from (length a.out.now) s.requires.1,
     )
 

@@ -28,7 +28,7 @@ first s = party_in s.args.v (plan s) s.args.levels s.args.sets.now
 formed : (s : Start) → Formed (first s)
 formed s =
     let a = s.args in
-    let t = s.well-formed.1.1.1.1.1.0 in
+    let t = s.well_formed.1.1.1.1.1.0 in
     (sized_in a.v (plan s) a.levels a.sets.now s.requires.0.valid (levels_full a.levels _ t) (levels_echoes a.levels _ t)).formed
 
 sender : (s : Start) → s.args.s < max_boards
@@ -55,25 +55,25 @@ pub offset_bounds-sets-k : goal.offset_bounds-sets-k
 offset_bounds-sets-k c = omega (arith, there (goal.at.offset_bounds-sets-k c).After-place-k)
 
 pub bounds-sets-k : goal.bounds-sets-k
-bounds-sets-k c = there (goal.at.bounds-sets-k c).After-way_told-1
+bounds-sets-k c = there (goal.at.bounds-sets-k c).After-place-k
 
 pub contains-requires : goal.contains-requires
-contains-requires c = sender (goal.at.contains-requires c).After-shared_slice_known-1
+contains-requires c = sender (goal.at.contains-requires c).Start
 
 pub returns-then-contains : goal.returns-then-contains
 returns-then-contains c =
-    let s = (goal.at.returns-then-contains c).After-shared_slice_known-1 in
+    let s = (goal.at.returns-then-contains c).Start in
     let a = s.args in
     gives_same (taking_held (first s) a.s a.m (held (goal.at.returns-then-contains c).After-contains ∙ c.if-contains.true)) (gives_rest (first s) a.chart a.ports.now a.from a.out.now s.requires.0.charts)
 
 pub add-requires : goal.add-requires
-add-requires c = sender (goal.at.add-requires c).After-shared_slice_known-1
+add-requires c = sender (goal.at.add-requires c).Start
 
 pub offset_bounds-sets-k-2 : goal.offset_bounds-sets-k-2
-offset_bounds-sets-k-2 c = omega (arith, there (goal.at.offset_bounds-sets-k-2 c).After-way_told-1)
+offset_bounds-sets-k-2 c = omega (arith, there (goal.at.offset_bounds-sets-k-2 c).After-place-k)
 
 pub bounds-sets-k-2 : goal.bounds-sets-k-2
-bounds-sets-k-2 c = there (goal.at.bounds-sets-k-2 c).After-way_told-1
+bounds-sets-k-2 c = there (goal.at.bounds-sets-k-2 c).After-place-k
 
 -- rules are applied to the party that heard it
 runs : (c : After-add)
@@ -89,7 +89,7 @@ runs c =
 
 pub run-requires : goal.run-requires
 run-requires c =
-    let n = (goal.at.run-requires c).Else-contains in
+    let n = (goal.at.run-requires c).After-add in
     let k = n in
     let s = (goal.at.run-requires c).Start in
     let a = s.args in (
@@ -99,4 +99,4 @@ run-requires c =
     )
 
 pub returns : goal.returns
-returns c = gives_same (runs (goal.at.returns c).Else-contains) c.run.ensures
+returns c = gives_same (runs (goal.at.returns c).After-add) c.run.ensures
