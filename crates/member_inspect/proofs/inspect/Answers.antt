@@ -3,6 +3,7 @@ use mathlib.Core.Path.{◌≡◌, sym, ◌∙◌}
 use mathlib.Core.Bool.{Bool, true, false}
 use Prim.Native.Nat.{◌≤◌}
 use lib.Dec.{T}
+use borrow.Author.Tests.{not-true, not-false}
 use Rattle.base.specs.Limits.{max_boards}
 use Rattle.base.proofs.Bools.{true→T}
 use Rattle.plan.specs.Tie.{shaped}
@@ -40,20 +41,20 @@ pub returns-then-not-i : goal.returns-then-not-i
 returns-then-not-i c =
     let i = c.inspect-i.ensures in
     record {
-      passes = party_fails (board (goal.at.returns-then-not-i c).Start) i.passes c.if-not-i.true;
+      passes = party_fails (board (goal.at.returns-then-not-i c).Start) i.passes (not-true _ c.if-not-i.true);
       charted = i.charted;
       sized = i.sized;
     }
 
 pub passes-requires : goal.passes-requires
 passes-requires c =
-    few_boards (board (goal.at.passes-requires c).Start) c.inspect-i.ensures.passes c.if-not-i.false
+    few_boards (board (goal.at.passes-requires c).Start) c.inspect-i.ensures.passes (not-false _ c.if-not-i.false)
 
 pub returns : goal.returns
 returns c =
     let m = board (goal.at.returns c).Start in
     let i = c.inspect-i.ensures in
-    let h = c.if-not-i.false in
+    let h = not-false _ c.if-not-i.false in
     let t = party_passes m i.passes h in
     record {
       passes = closing_decides m i.passes h c.passes.ensures;

@@ -5,7 +5,7 @@ use Prim.Native.Nat.{ℕ, ◌-◌, ◌*◌, ◌<◌}
 use native.Mathlib.Omega.{arith}
 use lib.Dec.{T, eqb}
 use lib.ListN.{length}
-use borrow.Author.Tests.{eq-eqb, ne_eqb}
+use borrow.Author.Tests.{eq-eqb, ne_eqb, not-true, not-false}
 use Rattle.base.specs.Limits.{max_rows, level_count}
 use Rattle.base.proofs.Bools.{true→T, T→true}
 use Rattle.plan.specs.Plan.{Plan}
@@ -107,7 +107,7 @@ returns-then-not-unresolved c =
     let b = c.output_passes in
     let u = c.unresolved in
     record {
-      passes = out_stops a.v (plan s) a.levels a.sets.now (levels_full s) o.i h b.result b.ensures (sets-held d) c.if-not-output_passes.false c.if-not-l.true u.result u.ensures.answers c.if-not-unresolved.true;
+      passes = out_stops a.v (plan s) a.levels a.sets.now (levels_full s) o.i h b.result b.ensures (sets-held d) c.if-not-output_passes.false (not-true _ c.if-not-l.true) u.result u.ensures.answers c.if-not-unresolved.true;
       charted = λ t. absurd t;
       sized = λ t. absurd t;
     }
@@ -122,7 +122,7 @@ loop-i-preserved-then-not-l c =
     let b = c.output_passes in
     let u = c.unresolved in (
       omega arith,
-      λ v t. out_next v (plan s) a.levels a.sets.now (levels_full s) o.i h b.result b.ensures t c.if-not-output_passes.false c.if-not-l.true u.result u.ensures.answers c.if-not-unresolved.false u.ensures.sized o.last o.chart.surveys o.ports (o.invariant.1 v t),
+      λ v t. out_next v (plan s) a.levels a.sets.now (levels_full s) o.i h b.result b.ensures t c.if-not-output_passes.false (not-true _ c.if-not-l.true) u.result u.ensures.answers c.if-not-unresolved.false u.ensures.sized o.last o.chart.surveys o.ports (o.invariant.1 v t),
     )
 
 pub inspect_entered-e-requires : goal.inspect_entered-e-requires
@@ -132,8 +132,8 @@ inspect_entered-e-requires c =
     let a = s.args in
     let o = c.loop-i in
     let h : o.i < level_count = omega (arith, c.loop-i-test.true) in
-    let parents : length a.ps.now ≡ max_rows = omega (arith, c.inspect_entered-arg-1.given) in
-    let children : length a.cs.now ≡ max_rows = omega (arith, c.inspect_entered-arg-in-loop-i-1.given) in
+    let parents : length a.ps.now ≡ max_rows = omega arith in
+    let children : length a.cs.now ≡ max_rows = omega arith in
     let y = rows_lent (plan s) (plan-held d) parents children in
     charts_ready (party s) o.i o.last o.chart.surveys o.ports (o.invariant.1 a.v (sets-held d)).chart (plan-held d) y h
 
@@ -147,7 +147,7 @@ returns-then-not-e c =
     let b = c.output_passes in
     let e = c.inspect_entered-e in
     record {
-      passes = entered_stops a.v (plan s) a.levels a.sets.now (levels_full s) o.i h b.result b.ensures (sets-held d) c.if-not-output_passes.false c.if-not-l.false o.last o.chart.surveys o.ports (o.invariant.1 a.v (sets-held d)) e.result _ e.ensures.settles c.if-not-e.true;
+      passes = entered_stops a.v (plan s) a.levels a.sets.now (levels_full s) o.i h b.result b.ensures (sets-held d) c.if-not-output_passes.false (not-false _ c.if-not-l.false) o.last o.chart.surveys o.ports (o.invariant.1 a.v (sets-held d)) e.result _ e.ensures.settles (not-true _ c.if-not-e.true);
       charted = λ t. absurd t;
       sized = λ t. absurd t;
     }
@@ -159,13 +159,13 @@ loop-i-preserved c =
     let a = s.args in
     let o = c.loop-i in
     let h : o.i < level_count = omega (arith, c.loop-i-test.true) in
-    let parents : length a.ps.now ≡ max_rows = omega (arith, c.inspect_entered-arg-1.given) in
-    let children : length a.cs.now ≡ max_rows = omega (arith, c.inspect_entered-arg-in-loop-i-1.given) in
+    let parents : length a.ps.now ≡ max_rows = omega arith in
+    let children : length a.cs.now ≡ max_rows = omega arith in
     let y = rows_lent (plan s) (plan-held d) parents children in
     let b = c.output_passes in
     let e = c.inspect_entered-e in (
       omega arith,
-      λ v t. entered_next v (plan s) a.levels a.sets.now (levels_full s) o.i h b.result b.ensures t c.if-not-output_passes.false c.if-not-l.false o.last o.chart.surveys o.ports (o.invariant.1 v t) e.result _ e.ensures.settles c.if-not-e.false e.ensures.sized (plan-held d) y,
+      λ v t. entered_next v (plan s) a.levels a.sets.now (levels_full s) o.i h b.result b.ensures t c.if-not-output_passes.false (not-false _ c.if-not-l.false) o.last o.chart.surveys o.ports (o.invariant.1 v t) e.result _ e.ensures.settles (not-false _ c.if-not-e.false) e.ensures.sized (plan-held d) y,
     )
 
 pub returns : goal.returns

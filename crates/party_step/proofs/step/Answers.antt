@@ -1,4 +1,5 @@
 -- `party_step::step` meets its contract.
+use borrow.Author.Tests.{not-true, not-false}
 use Rattle.plan.specs.Plan.{Plan}
 use Rattle.plan.specs.Tie.{shaped}
 use Rattle.party_step.specs.Inner.{way_of}
@@ -16,7 +17,7 @@ returns-then-not-w c =
     let a = s.args in
     let w = c.way_of-w in
     stepped_stays (plan s) a.deepest a.ports.now a.centre a.position (way_of a.e) w.result w.ensures a.next
-    b.if-not-w.true c.silent.result c.silent.ensures
+    (not-true _ b.if-not-w.true) c.silent.result c.silent.ensures
 
 pub descend-requires : goal.descend-requires
 descend-requires c =
@@ -24,7 +25,7 @@ descend-requires c =
     let s = (goal.at.descend-requires c).Start in
     let a = s.args in
     let w = c.way_of-w in
-    steps_descends (plan s) a.deepest a.ports.now a.centre a.position (way_of a.e) w.result w.ensures s.requires b.if-not-w.false
+    steps_descends (plan s) a.deepest a.ports.now a.centre a.position (way_of a.e) w.result w.ensures s.requires (not-false _ b.if-not-w.false)
 
 pub returns : goal.returns
 returns c =
@@ -33,5 +34,5 @@ returns c =
     let a = s.args in
     let w = c.way_of-w in
     let e = c.descend in
-    stepped_enters (plan s) a.deepest a.ports.now a.centre a.position (way_of a.e) w.result w.ensures a.next b.if-not-w.false
+    stepped_enters (plan s) a.deepest a.ports.now a.centre a.position (way_of a.e) w.result w.ensures a.next (not-false _ b.if-not-w.false)
     e.result e.new.ports e.ensures
