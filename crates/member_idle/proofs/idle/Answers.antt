@@ -40,10 +40,8 @@ returns-else-c c =
 
 pub returns-in-Echo : goal.returns-in-Echo
 returns-in-Echo c =
-    let g = c.p-in-Echo-1.given in
-    tells_echo _ _ _ _ _ g.0.0 g.0.1.0 g.1 c.keeps.result c.keeps.ensures
+    tells_echo _ _ _ _ _ c.in-Echo.number c.in-Echo.x c.in-Echo.is c.keeps.result c.keeps.ensures
 
 pub returns-in-Ready : goal.returns-in-Ready
 returns-in-Ready c =
-    let g = c.enum_told.given in
-    tells_ready _ _ _ _ _ _ g.1 c.contains-in-Ready.result c.contains-in-Ready.ensures
+    tells_ready _ _ _ _ _ _ c.in-Ready.is c.contains-in-Ready.result c.contains-in-Ready.ensures

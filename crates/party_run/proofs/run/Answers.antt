@@ -66,7 +66,7 @@ rule_at-a-requires c =
     let s = (goal.at.rule_at-a-requires c).Start in
     let a = s.args in (
       omega (arith, below t),
-      omega (arith, c.rule_at-arg-1.given.0),
+      omega arith,
       turn_limits a.v (plan s) a.sets.now (first s) a.from a.out.now l.ls l.d l.ports l.out l.sent l.rules l.i l.invariant
           t.loop-i-test.true c.context.result c.context.ensures,
     )
