@@ -37,18 +37,23 @@ sender s = valid_sender (first s) s.requires.0.valid s.args.s s.requires.2
 -- the place of the message's set
 there : (c : After-place-k) → c.place-k.result < set_count
 there c =
-    let s = c.before.before.before.before in
-    let a = s.args in
-    taken_place a.v (plan s) a.levels a.sets.now a.chart a.ports.now (formed s) s.requires.0.charts a.s a.m s.requires.2 s.requires.3 c.place-k.result
+    let a = c.args in
+    let p = shaped a.shape a.ps.now a.cs.now in
+    let t = c.well_formed.1.1.1.1.1.0 in
+    let f = (sized_in a.v p a.levels a.sets.now c.requires.0.valid (levels_full a.levels _ t) (levels_echoes a.levels _ t)).formed in
+    taken_place a.v p a.levels a.sets.now a.chart a.ports.now f c.requires.0.charts a.s a.m c.requires.2 c.requires.3 c.place-k.result
     c.place-k.ensures
 
 -- what was found there
-held : (c : After-contains) → held_by (first c.before.before.before.before.before.before) c.args.s c.args.m ≡ c.contains.result
+held : (c : After-contains)
+    → held_by (party_in c.args.v (shaped c.args.shape c.args.ps.now c.args.cs.now) c.args.levels c.args.sets.now) c.args.s c.args.m ≡ c.contains.result
 held c =
     let k = c.place-k in
-    let s = c.before.before.before.before.before.before in
-    let a = s.args in
-    taken_held a.v (plan s) a.levels a.sets.now a.chart a.ports.now (formed s) s.requires.0.charts a.s a.m s.requires.2 s.requires.3 k.result
+    let a = c.args in
+    let p = shaped a.shape a.ps.now a.cs.now in
+    let t = c.well_formed.1.1.1.1.1.0 in
+    let f = (sized_in a.v p a.levels a.sets.now c.requires.0.valid (levels_full a.levels _ t) (levels_echoes a.levels _ t)).formed in
+    taken_held a.v p a.levels a.sets.now a.chart a.ports.now f c.requires.0.charts a.s a.m c.requires.2 c.requires.3 k.result
     k.ensures c.contains.result c.contains.ensures
 
 pub offset_bounds-sets-k : goal.offset_bounds-sets-k
@@ -77,15 +82,18 @@ bounds-sets-k-2 c = there (goal.at.bounds-sets-k-2 c).After-place-k
 
 -- rules are applied to the party that heard it
 runs : (c : After-add)
-    → let k = c in
-    let s = k.before.before.before.before in
-    taking (first s) s.args.s s.args.m ≡ run (party_in s.args.v (plan s) s.args.levels (set s.args.sets.now k.place-k.result c.add.result))
+    → let a = c.args in
+    let p = shaped a.shape a.ps.now a.cs.now in
+    taking (party_in a.v p a.levels a.sets.now) a.s a.m ≡ run (party_in a.v p a.levels (set a.sets.now c.place-k.result c.add.result))
 runs c =
-    let k = c in
-    let s = k.before.before.before.before in
-    let a = s.args in
-    taken_runs a.v (plan s) a.levels a.sets.now a.chart a.ports.now (formed s) s.requires.0.charts a.s a.m s.requires.2 s.requires.3
-    k.place-k.result k.place-k.ensures c.add.result c.add.ensures (held c.before.before ∙ c.if-contains.false)
+    let a = c.args in
+    let p = shaped a.shape a.ps.now a.cs.now in
+    let t = c.well_formed.1.1.1.1.1.0 in
+    let f = (sized_in a.v p a.levels a.sets.now c.requires.0.valid (levels_full a.levels _ t) (levels_echoes a.levels _ t)).formed in
+    let h = taken_held a.v p a.levels a.sets.now a.chart a.ports.now f c.requires.0.charts a.s a.m c.requires.2 c.requires.3
+        c.place-k.result c.place-k.ensures c.contains.result c.contains.ensures in
+    taken_runs a.v p a.levels a.sets.now a.chart a.ports.now f c.requires.0.charts a.s a.m c.requires.2 c.requires.3
+    c.place-k.result c.place-k.ensures c.add.result c.add.ensures (h ∙ c.if-contains.false)
 
 pub run-requires : goal.run-requires
 run-requires c =
