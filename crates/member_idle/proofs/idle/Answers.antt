@@ -16,7 +16,7 @@ table c = ap in_table (sym c.in-Level.is) ∙ c.requires.1
 
 -- where its set lies
 there : (c : After-place-k) → c.place-k.result < set_count
-there c = omega (arith, c.place-k.ensures, place_below c.in-Level.m (table c.before))
+there c = omega (arith, c.place-k.ensures, place_below c.in-Level.m (ap in_table (sym c.in-Level.is) ∙ c.requires.1))
 
 pub returns-then-c : goal.returns-then-c
 returns-then-c c =
