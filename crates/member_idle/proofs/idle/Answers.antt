@@ -16,7 +16,7 @@ table c = ap in_table (sym c.in-Level.is) ∙ c.requires.1
 
 -- where its set lies
 there : (c : After-place-k) → c.place-k.result < set_count
-there c = omega (arith, c.place-k.ensures, place_below c.in-Level.m (table c.before))
+there c = omega (arith, c.place-k.ensures, place_below c.in-Level.m (ap in_table (sym c.in-Level.is) ∙ c.requires.1))
 
 pub returns-then-c : goal.returns-then-c
 returns-then-c c =
@@ -30,20 +30,18 @@ pub offset_bounds-sets-k : goal.offset_bounds-sets-k
 offset_bounds-sets-k c = omega (arith, there (goal.at.offset_bounds-sets-k c).After-place-k)
 
 pub bounds-sets-k : goal.bounds-sets-k
-bounds-sets-k c = there (goal.at.bounds-sets-k c).After-way_told-1
+bounds-sets-k c = there (goal.at.bounds-sets-k c).After-place-k
 
 pub returns-else-c : goal.returns-else-c
 returns-else-c c =
     let a = c in
     let k = a in
-    tells_held _ _ _ _ _ k.in-Level.m k.in-Level.is a.if-c.false (table (goal.at.returns-else-c c).After-place-k) a.place-k.result a.place-k.ensures c.contains.result c.contains.ensures
+    tells_held _ _ _ _ _ k.in-Level.m k.in-Level.is a.if-c.false (table (goal.at.returns-else-c c).Else-c) a.place-k.result a.place-k.ensures c.contains.result c.contains.ensures
 
 pub returns-in-Echo : goal.returns-in-Echo
 returns-in-Echo c =
-    let g = c.p-in-Echo-1.given in
-    tells_echo _ _ _ _ _ g.0.0 g.0.1.0 g.1 c.keeps.result c.keeps.ensures
+    tells_echo _ _ _ _ _ c.in-Echo.number c.in-Echo.x c.in-Echo.is c.keeps.result c.keeps.ensures
 
 pub returns-in-Ready : goal.returns-in-Ready
 returns-in-Ready c =
-    let g = c.enum_told.given in
-    tells_ready _ _ _ _ _ _ g.1 c.contains-in-Ready.result c.contains-in-Ready.ensures
+    tells_ready _ _ _ _ _ _ c.in-Ready.is c.contains-in-Ready.result c.contains-in-Ready.ensures

@@ -1,6 +1,6 @@
 -- `member_inspect::inspect` meets its contract: the party's question 19, then that of what the board keeps to close.
 use mathlib.Core.Path.{◌≡◌, sym, ◌∙◌}
-use mathlib.Core.Bool.{Bool, true, false, not}
+use mathlib.Core.Bool.{Bool, true, false}
 use Prim.Native.Nat.{◌≤◌}
 use lib.Dec.{T}
 use borrow.Author.Tests.{not-true, not-false}
@@ -18,20 +18,20 @@ use Rattle.member_inspect.proofs.inspect.Goals as goal
 
 module _ (m : Member) {ok : Bool} (e : ok ≡ party_valid m.party) where
   -- a party that fails decides
-  party_fails : not ok ≡ true → ok ≡ member_valid m
+  party_fails : ok ≡ false → ok ≡ member_valid m
   unfolding member_valid
-  party_fails h = let f = not-true ok h in rw (sym e ∙ f, f)
+  party_fails f = rw (sym e ∙ f, f)
 
-  module _ (h : not ok ≡ false) where
+  module _ (h : ok ≡ true) where
     party_passes : T ok
-    party_passes = true→T (not-false ok h)
+    party_passes = true→T h
 
     few_boards : m.party.n ≤ max_boards
-    few_boards = (valid→ m.party (true→T (sym e ∙ not-false ok h))).settings.most
+    few_boards = (valid→ m.party (true→T (sym e ∙ h))).settings.most
 
     closing_decides : {r : Bool} → r ≡ closing_valid m.party.n m.party.plan.count m.closing → r ≡ member_valid m
     unfolding member_valid
-    closing_decides i = rw (sym e ∙ not-false ok h) i
+    closing_decides i = rw (sym e ∙ h) i
 
 -- the board that is lent
 abbrev board : Start → Member
@@ -40,16 +40,24 @@ board s = member_in s.args.v (shaped s.args.shape s.args.ps.now s.args.cs.now) s
 pub returns-then-not-i : goal.returns-then-not-i
 returns-then-not-i c =
     let i = c.inspect-i.ensures in
-    (party_fails (board (goal.at.returns-then-not-i c).Start) i.0 c.if-not-i.true, i.1)
+    record {
+      passes = party_fails (board (goal.at.returns-then-not-i c).Start) i.passes (not-true _ c.if-not-i.true);
+      charted = i.charted;
+      sized = i.sized;
+    }
 
 pub passes-requires : goal.passes-requires
 passes-requires c =
-    few_boards (board (goal.at.passes-requires c).Start) c.inspect-i.ensures.0 c.if-not-i.false
+    few_boards (board (goal.at.passes-requires c).Start) c.inspect-i.ensures.passes (not-false _ c.if-not-i.false)
 
 pub returns : goal.returns
 returns c =
     let m = board (goal.at.returns c).Start in
     let i = c.inspect-i.ensures in
-    let h = c.if-not-i.false in
-    let t = party_passes m i.0 h in
-    (closing_decides m i.0 h c.passes.ensures, ((λ _. i.1.0 t), (λ _. i.1.1 t)))
+    let h = not-false _ c.if-not-i.false in
+    let t = party_passes m i.passes h in
+    record {
+      passes = closing_decides m i.passes h c.passes.ensures;
+      charted = λ _. i.charted t;
+      sized = λ _. i.sized t;
+    }

@@ -19,17 +19,15 @@ pub start-requires : goal.start-requires
 start-requires c =
     let k = c in
     let s = (goal.at.start-requires c).Start in
-    let g = k.r.given in
-    let f = fits_start (first s) g.0.0 g.0.1.0 (subst (Fits (first s)) g.1 s.requires.2) in
-    (s.requires.0, room_same (replayed_start (first s) s.args.r g.1) s.args.from (length s.args.out.now) s.requires.1, not-T→false (started (first s)) f.1, f.2)
+    let f = fits_start (first s) k.in-Start.agreement k.in-Start.x (subst (Fits (first s)) k.in-Start.is s.requires.2) in
+    (s.requires.0, room_same (replayed_start (first s) s.args.r k.in-Start.is) s.args.from (length s.args.out.now) s.requires.1, not-T→false (started (first s)) f.1, f.2)
 
 pub take-requires : goal.take-requires
 take-requires c =
     let k = c in
     let s = (goal.at.take-requires c).Start in
-    let g = k.r-in-Taken-1.given in
-    let f = fits_taken (first s) g.0.0 g.0.1.0 (subst (Fits (first s)) g.1 s.requires.2) in
-    (s.requires.0, room_same (replayed_taken (first s) s.args.r g.1) s.args.from (length s.args.out.now) s.requires.1, f.1, T→true (in_table g.0.1.0) f.2)
+    let f = fits_taken (first s) k.in-Taken.s k.in-Taken.p (subst (Fits (first s)) k.in-Taken.is s.requires.2) in
+    (s.requires.0, room_same (replayed_taken (first s) s.args.r k.in-Taken.is) s.args.from (length s.args.out.now) s.requires.1, f.1, T→true (in_table k.in-Taken.p) f.2)
 
 pub returns-in-Start : goal.returns-in-Start
 returns-in-Start c =

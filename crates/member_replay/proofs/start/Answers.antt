@@ -34,7 +34,7 @@ ready s = party_ready (board s) s.args.chart s.args.ports.now s.requires.0
 formed : (s : Start) → Formed (first s)
 formed s =
     let a = s.args in
-    let t = s.well-formed.1.1.1.1.1.0 in
+    let t = s.well_formed.1.1.1.1.1.0 in
     (sized_in a.v (plan s) a.levels a.sets.now (ready s).valid (levels_full a.levels _ t) (levels_echoes a.levels _ t)).formed
 
 new : (s : Start) → started (first s) ≡ false
@@ -47,7 +47,7 @@ begun s = formed_entered (first s) (formed s) s.args.x (false→not-T (new s)) s
 pub start-ran-requires : goal.start-ran-requires
 unfolding starting levels-run.starting
 start-ran-requires c =
-    let s = c.before.before.before.before.before.before in
+    let s = (goal.at.start-ran-requires c).Start in
     let a = s.args in
     (ready s, level_room (entered (first s) a.x) a.c a.from (length a.out.now) s.requires.1, new s, s.requires.3)
 
@@ -55,7 +55,7 @@ pub finish-requires : goal.finish-requires
 unfolding starting levels-run.starting
 finish-requires c =
     let n = c in
-    let s = n.before.before.before.before.before.before.before in
+    let s = (goal.at.finish-requires c).Start in
     let a = s.args in
     end_asks a.v (plan s) a.sets.now a.c (entered (first s) a.x) (begun s) a.from a.out.now s.requires.1 _ n.start-ran.result _ _ refl n.start-ran.ensures
 
@@ -63,7 +63,7 @@ pub returns : goal.returns
 unfolding starting levels-run.starting
 returns c =
     let n = c in
-    let s = n.before.before.before.before.before.before.before in
+    let s = (goal.at.returns c).Start in
     let a = s.args in
     let g = c.finish in
     end_gives a.v (plan s) a.sets.now a.c (entered (first s) a.x) (begun s) a.from a.out.now s.requires.1 _ n.start-ran.result _ _ refl n.start-ran.ensures g.result _ _ g.ensures

@@ -25,7 +25,7 @@ first s = party_in s.args.v (plan s) s.args.levels s.args.sets.now
 formed : (s : Start) → Formed (first s)
 formed s =
     let a = s.args in
-    let t = s.well-formed.1.1.1.1.1.0 in
+    let t = s.well_formed.1.1.1.1.1.0 in
     (sized_in a.v (plan s) a.levels a.sets.now s.requires.0.valid (levels_full a.levels _ t) (levels_echoes a.levels _ t)).formed
 
 -- it was taken
