@@ -35,7 +35,7 @@ sized : (s : Start) → T (member_valid (member s)) → Sized (member s)
 unfolding member_valid
 sized s v =
     let a = s.args in
-    let t = s.well-formed.1.1.1.1.1.0 in
+    let t = s.well_formed.1.1.1.1.1.0 in
     let p : Bool = party_valid (member s).party in
     let q : Bool = closing_valid a.v.n (plan s).count a.c in
     record {

@@ -6,7 +6,5 @@ use Rattle.board_ends.proofs.passes.Goals as goal
 
 pub returns : goal.returns
 returns c =
-    let s = c in
-    let v = s in
-    let m = v.args.m in
-    c.inspect-i.ensures.0 ∙ ap member_valid (parts m.party v.vote-v.ensures s.shape-shape.ensures m.party.levels m.party.sets m.closing)
+    let m = c.args.m in
+    c.inspect-i.ensures.passes ∙ ap member_valid (parts m.party c.vote-v.ensures c.shape-shape.ensures m.party.levels m.party.sets m.closing)

@@ -1,5 +1,6 @@
 -- `board_ends::read_answer` meets its contract.
 use mathlib.Core.Path.{◌≡◌, sym, ap, ◌∙◌}
+use mathlib.Core.Bool.{not}
 use Prim.Native.Nat.{ℕ, ◌<◌}
 use native.Mathlib.Omega.{arith}
 use lib.ListN.{length}
@@ -26,12 +27,11 @@ abbrev context : Code.Member → ℕ → Context
 context m y = record { n = m.party.n; t = m.party.t; output = y }
 
 pub returns-then-not-passes : goal.returns-then-not-passes
-returns-then-not-passes c = answer_refused (as_member c.args.m) c.passes.ensures c.if-not-passes.true
+returns-then-not-passes c = answer_refused (as_member c.args.m) c.passes.ensures (ap not c.if-not-passes.true)
 
 pub returns : goal.returns
 returns c =
-    let e = c in
-    let s = (goal.at.returns c).Else-not-passes in
-    let m = s.args.m in
+    let s = (goal.at.returns c).Start in
+    let m = c.args.m in
     let x = c.answer_in-x.ensures ∙ ap (λ (y : ℕ). answer_in (context m y) m.closing) (sym (output m.party (some s))) in
-    answer_read (as_member m) e.passes.ensures e.if-not-passes.false-raw (c.answer_at-a.ensures ∙ ap (answer_of (as_plan m.party.plan)) x)
+    answer_read (as_member m) c.passes.ensures (ap not c.if-not-passes.false) (c.answer_at-a.ensures ∙ ap (answer_of (as_plan m.party.plan)) x)
