@@ -33,7 +33,7 @@ use denote.Struct.Declared.{Declared}
 use denote.Struct.Laws as LL
 use denote.Struct.Rest.{all_own, own_open, own_put}
 use denote.Triple.Clauses.{Ended, Clauses, at_exit, lasts, closing}
-use denote.Triple.Entry.{Args, Res, on_entry}
+use denote.Triple.Entry.{Args, Res, on-entry}
 use denote.Triple.Spec.{Meets, exits}
 use denote.Triple.Walked.{says, Stays, Silent, stay_none, Goes-none, walk_of, ends_at, walked, walk_Meets}
 use Rattle.plan_reader.specs.declared.PlanReader.{PlanReader}
@@ -60,7 +60,7 @@ Start F κ q a vs = token κ q ∷ ‵ ((F (κ, tt)).own a vs) ∷ []
 module _ {M : Type 1} {𝓤 : Ura M} (𝓛 : Logic 𝓤) (F R : Lfts 1 → RattleType) (c : Clauses 𝓤 (One F R)) where
   open 𝓛 use {H}
 
-  starts : (κ : Lft) (q : Share) (a : (F (κ, tt)).Denot) (vs : List Val) → ent 𝓤 (on_entry 𝓛 (One F R).signature (κ, tt) (q, tt) (a, tt) (vs, tt)) (⋆ 𝓛 (Start F κ q a vs))
+  starts : (κ : Lft) (q : Share) (a : (F (κ, tt)).Denot) (vs : List Val) → ent 𝓤 (on-entry 𝓛 (One F R).signature (κ, tt) (q, tt) (a, tt) (vs, tt)) (⋆ 𝓛 (Start F κ q a vs))
   starts κ q a vs = qed 𝓛 (token κ q ∷ ‵ (owns (F (κ, tt) ∷ []) (a, tt) (vs, tt)) ∷ []) ∵ frame ! $ fsplit ! $ keep ! (0 ∷ []) $ done !
 
   module _ (κ : Lft) (q : Share) (a : (F (κ, tt)).Denot) (vs : List Val) (g : (c (κ, tt) (a, tt)).ghost) where

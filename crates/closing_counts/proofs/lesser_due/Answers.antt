@@ -1,6 +1,6 @@
 -- A position that so many senders have and that was not echoed.
 use mathlib.Core.Path.{sym, ap, ap₂, ◌∙◌}
-use mathlib.Core.Bool.{Bool, not, ◌&&◌, and_false}
+use mathlib.Core.Bool.{Bool, not, ◌&&◌, and-false}
 use native.Mathlib.Omega.{arith}
 use borrow.Author.Tests.{lt-leb, le-leb}
 use Rattle.base.specs.Sets.{count}
@@ -23,7 +23,7 @@ pub returns-then-said : goal.returns-then-said
 returns-then-said c =
     let a = c.args in
     lesser_fails (reached a.kept.now a.n a.k a.y && not (said_in a.kept.now a.relayed.now a.echoed a.answer a.y)) a.y a.x
-    (ap (λ (b : Bool). reached a.kept.now a.n a.k a.y && not b) (sym c.said.ensures ∙ c.if-said.true) ∙ and_false (reached a.kept.now a.n a.k a.y))
+    (ap (λ (b : Bool). reached a.kept.now a.n a.k a.y && not b) (sym c.said.ensures ∙ c.if-said.true) ∙ and-false (reached a.kept.now a.n a.k a.y))
 
 pub returns : goal.returns
 returns c =

@@ -28,7 +28,7 @@ use denote.Slice.{slice_ty}
 use denote.Steps.{owned, nothing}
 use denote.Enum.Laws as EL
 use denote.Struct.Laws as LL
-use denote.Triple.Entry.{Vals, on_entry}
+use denote.Triple.Entry.{Vals, on-entry}
 use denote.Triple.Statement.{Contract, Triple}
 use denote.Triple.Call.{calls_at}
 use denote.Triple.Spec.{Meets, triple_of}
@@ -98,7 +98,7 @@ module _ {M : Type 1} {𝓤 : Ura M} (𝓛 : Logic 𝓤) (mem : Memory → SProp
   En l₀ l₁ l₂ l₃ l₄ l₅ = (T'.mir (named 0), l₀) ∷ (T'.mir (named 0), l₁) ∷ (K'.mir, l₂) ∷ (ty_int w64, l₃) ∷ (ty_int w64, l₄) ∷ (slice_ty (ty_ref erased imm (ty_int w8)), l₅) ∷ []
 
   module _ (C : Calls 𝓤 H) (Λ : Loops 𝓤 H) (fm : FmC 𝓤 H 𝓛.laws C) (known : Triple 𝓤 (C #plan-groups·past) (Place 𝓛 mem run)) where
-    walk : Is (Reader (κ, tt)) d (mach d ∷ []) → Is K.the_row f (fv ∷ []) → ent 𝓤 (on_entry 𝓛 past.signature (κ, tt) (q, tt) (d, (f, tt)) at) (WpFn 𝓤 H C Λ code.function (mach d ∷ fv ∷ []) Post)
+    walk : Is (Reader (κ, tt)) d (mach d ∷ []) → Is K.the_row f (fv ∷ []) → ent 𝓤 (on-entry 𝓛 past.signature (κ, tt) (q, tt) (d, (f, tt)) at) (WpFn 𝓤 H C Λ code.function (mach d ∷ fv ∷ []) Post)
     walk is k =
         let wt = ((LL.lawful (declared (κ, tt)) (laws (κ, tt)) 𝓛).typed d (mach d ∷ []) is).0 in
         let wk = ((EL.lawful K.the_type K'.the_laws 𝓛 tt).typed f _ k).0 in

@@ -42,7 +42,7 @@ use denote.Steps.{nothing, owned, peeks, heard}
 use denote.Enum.Laws as EL
 use denote.Struct.Laws as LL
 use denote.Triple.Clauses.{ensured, lasts}
-use denote.Triple.Entry.{on_entry}
+use denote.Triple.Entry.{on-entry}
 use denote.Triple.Statement.{Contract, Triple}
 use denote.Triple.Call.{calls_at, calls_at_last}
 use denote.Triple.Spec.{Meets, triple_of}
@@ -480,7 +480,7 @@ module _ {M : Type 1} {𝓤 : Ura M} (𝓛 : Logic 𝓤) (mem : Memory → SProp
       the_loop : (x : At) → Sq 𝓛 (Inv x) (runs 𝓣.C 𝓣.Λ En pieces.t-3 (at_ret En Exit))
       the_loop x = first ! $ blocks ! $ loops ! 𝓣 less less_wf Inv turn x
 
-    walk : Lent us₀ rs₀ → ent 𝓤 (on_entry 𝓛 read-plan.signature (κ, (κ₁, (κ₂, tt))) (q, (q₁, (q₂, tt))) passed passed_at) (WpFn 𝓤 H 𝓣.C 𝓣.Λ code.function (bytes_at ∷ up_at ∷ room_at ∷ []) Exit)
+    walk : Lent us₀ rs₀ → ent 𝓤 (on-entry 𝓛 read-plan.signature (κ, (κ₁, (κ₂, tt))) (q, (q₁, (q₂, tt))) passed passed_at) (WpFn 𝓤 H 𝓣.C 𝓣.Λ code.function (bytes_at ∷ up_at ∷ room_at ∷ []) Exit)
     walk lent =
         qed 𝓛 ((‵ (flft κ q) ⊛ (‵ (flft κ₁ q₁) ⊛ (‵ (flft κ₂ q₂) ⊛ ‵ ftrue))) ∷ ‵ (owns (ShrSlice (named 0) κ u8 ∷ MutSlice (named 1) κ₁ u16 ∷ MutSlice (named 2) κ₂ u16 ∷ []) passed passed_at) ∷ []) ∵ enter ! 𝓣.C 𝓣.Λ code.function (bytes_at ∷ up_at ∷ room_at ∷ []) _ $
         alloc1 ! (λ l₀. alloc1 ! (λ l₁. alloc1 ! (λ l₂. alloc1 ! (λ l₃. alloc1 ! (λ l₄. alloc1 ! (λ l₅. alloc1 ! (λ l₆. alloc1 ! (λ l₇. alloc1 ! (λ l₈. alloc1 ! (λ l₉. alloc1 ! (λ l₁₀. alloc1 ! (λ l₁₁. alloc1 ! (λ l₁₂. alloc1 ! (λ l₁₃. alloc1 ! (λ l₁₄. alloc1 ! (λ l₁₅. alloc1 ! (λ l₁₆. alloc1 ! (λ l₁₇. alloc1 ! (λ l₁₈. alloc0 ! $ params1 ! $

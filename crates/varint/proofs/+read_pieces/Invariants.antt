@@ -1,7 +1,5 @@
--- `varint::read_pieces` meets its contract.
-use Prim.Native.Nat.{ℕ}
-use borrow.Fn.PlainCycle.{Measures}
+-- How many pieces may still come.
 use Rattle.varint.proofs.+read_pieces.Given as goal
 
--- MEASURE abbrev μ_read_pieces : Measures 1 read-pieces-kinds.ps ℕ
--- μ_read_pieces κs a = a.1.1.0
+abbrev pub decreases-read_pieces : goal.decreases-read_pieces
+decreases-read_pieces l = l.left

@@ -1,6 +1,6 @@
 -- Rule 14.
 use mathlib.Core.Path.{◌∙◌}
-use mathlib.Core.Bool.{and_true, and_false}
+use mathlib.Core.Bool.{and-true, and-false}
 use native.Mathlib.Omega.{arith}
 use borrow.Author.Tests.{eq-eqb, ne_eqb, lt-leb, le-leb, lt-ltb, le-ltb}
 use Rattle.message.specs.Message.{none_value}
@@ -26,11 +26,11 @@ returns-then-c-eq-NO_OUTPUT c s =
     let a = c.args in
     let v = a.self.result in
     c.idle-then-c-eq-NO_OUTPUT.ensures s
-    ∙ rw (le-leb 1 v (omega (arith, c.if-value-lt1.false)), lt-ltb v none_value (omega (arith, c.if-value-ge-NONE.false)), eq-eqb _ _ c.if-c-eq-NO_OUTPUT.true, and_false (unanswered (as_level s a.self)))
+    ∙ rw (le-leb 1 v (omega (arith, c.if-value-lt1.false)), lt-ltb v none_value (omega (arith, c.if-value-ge-NONE.false)), eq-eqb _ _ c.if-c-eq-NO_OUTPUT.true, and-false (unanswered (as_level s a.self)))
 
 pub returns : goal.returns
 unfolding rule14
 returns c s =
     let a = c.args in
     let v = a.self.result in
-    rw (le-leb 1 v (omega (arith, c.if-value-lt1.false)), lt-ltb v none_value (omega (arith, c.if-value-ge-NONE.false)), ne_eqb _ _ c.if-c-eq-NO_OUTPUT.false, and_true (unanswered (as_level s a.self))) (c.answer.ensures s)
+    rw (le-leb 1 v (omega (arith, c.if-value-lt1.false)), lt-ltb v none_value (omega (arith, c.if-value-ge-NONE.false)), ne_eqb _ _ c.if-c-eq-NO_OUTPUT.false, and-true (unanswered (as_level s a.self))) (c.answer.ensures s)
