@@ -36,4 +36,4 @@ returns c =
     let n5 = length-append (b1 ++ b2) b3 in
     let s2 = then_put l p1.new.out p2.new.out 0 p1.result b1 b2 (omega arith) p1.ensures.1 p1.ensures.0 p2.ensures.1 in
     let s3 = then_put l p2.new.out p3.new.out 0 p2.result (b1 ++ b2) b3 (omega arith) s2 (omega arith) p3.ensures.1 in
-    (prefix_len_of_le _ _ (omega arith), (omega arith, s3))
+    record { prefix_len = prefix_len_of_le _ _ (omega arith); value = (omega arith, s3) }
