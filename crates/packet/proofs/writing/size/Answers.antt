@@ -9,20 +9,16 @@ use Rattle.packet.proofs.writing.size.Goals as goal
 
 pub overflow_add-result : goal.overflow_add-result
 overflow_add-result c =
-    let g = c.p-in-Echo-1.given in
-    omega (arith, head_length g.0.0 echo_kind (omega arith), pieces_most 4 g.0.0, pieces_most 4 g.0.1.0)
+    omega (arith, head_length c.in-Echo.number echo_kind (omega arith), pieces_most 4 c.in-Echo.number, pieces_most 4 c.in-Echo.x)
 
 pub returns-in-Level : goal.returns-in-Level
 returns-in-Level c =
-    let g = c.p.given in
-    omega (arith, ap (λ x. length (packet_bytes x)) g.1, ap length (level_bytes g.0.0))
+    omega (arith, ap (λ x. length (packet_bytes x)) c.in-Level.is, ap length (level_bytes c.in-Level.m))
 
 pub returns-in-Echo : goal.returns-in-Echo
 returns-in-Echo c =
-    let g = c.p-in-Echo-1.given in
-    omega (arith, ap (λ x. length (packet_bytes x)) g.1, echo_length g.0.0 g.0.1.0)
+    omega (arith, ap (λ x. length (packet_bytes x)) c.in-Echo.is, echo_length c.in-Echo.number c.in-Echo.x)
 
 pub returns-in-Ready : goal.returns-in-Ready
 returns-in-Ready c =
-    let g = c.p-in-Ready-1.given in
-    omega (arith, ap (λ x. length (packet_bytes x)) g.1, ap length (ready_bytes g.0.0))
+    omega (arith, ap (λ x. length (packet_bytes x)) c.in-Ready.is, ap length (ready_bytes c.in-Ready.number))
