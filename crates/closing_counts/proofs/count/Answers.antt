@@ -1,6 +1,5 @@
 -- The count so far.
 use mathlib.Core.Path.{◌≡◌, sym, ap, ◌∙◌}
-use mathlib.Core.Logic.{⊎_elim}
 use Prim.Native.Nat.{ℕ, ◌-◌}
 use native.Mathlib.Omega.{arith}
 use Rattle.base.specs.Sets.{count}
@@ -8,6 +7,7 @@ use Rattle.base.proofs.Counts.{count_le}
 use Rattle.base.proofs.Loops.{count_start}
 use Rattle.closing_counts.specs.Counts.{echoed_by}
 use Rattle.closing_counts.proofs.Laws.{count_in_lem, count_out}
+use Rattle.closing_counts.proofs.count.Goals.{then-echoed_by, else-echoed_by}
 use Rattle.closing_counts.proofs.count.Goals as goal
 
 pub loop-s-init : goal.loop-s-init
@@ -30,10 +30,10 @@ loop-s-preserved c =
     let i = c.loop-s in
     let f = echoed_by a.kept.now a.x in (
       omega arith,
-      ⊎_elim
-          (λ w. omega (arith, count_in_lem f i.s (sym c.echoed_by.ensures ∙ w.0.taken)))
-          (λ w. omega (arith, count_out f i.s (sym c.echoed_by.ensures ∙ w.0.left)))
-          c.if-echoed_by.branch-raw,
+      elim c.if-echoed_by.branch [
+        | then-echoed_by w ↦ omega (arith, count_in_lem f i.s (sym c.echoed_by.ensures ∙ w.if-echoed_by.true))
+        | else-echoed_by w ↦ omega (arith, count_out f i.s (sym c.echoed_by.ensures ∙ w.if-echoed_by.false))
+      ],
     )
 
 pub returns : goal.returns

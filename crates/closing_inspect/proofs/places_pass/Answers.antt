@@ -5,16 +5,16 @@ use mathlib.Core.Bool.{true}
 use Prim.Native.Nat.{◌+◌, ◌-◌}
 use native.Mathlib.Omega.{arith}
 use lib.ListN.{length}
-use borrow.Author.Tests.{not-true, not-false}
 use Rattle.level.specs.Level.{no_output}
 use Rattle.closing_counts.proofs.Laws.{get_d_within}
 use Rattle.closing.specs.Closing.{place_count}
 use Rattle.closing.specs.Valid.{place_passes, places_pass}
 use Rattle.closing_inspect.proofs.Laws.{places_start, places_next, places_fail}
+use Rattle.closing_inspect.proofs.places_pass.Goals.{Start}
 use Rattle.closing_inspect.proofs.places_pass.Goals as goal
 
 -- the array's length
-places : (s : tie.Start) → length s.args.c.kept ≡ place_count
+places : (s : Start) → length s.args.c.kept ≡ place_count
 places s = search rules
 
 pub loop-i-init : goal.loop-i-init
@@ -28,8 +28,8 @@ returns-then-not-place_passes c =
     let a = c.args in
     let l = places (goal.at.returns-then-not-place_passes c).Start in
     let i = c.loop-i in
-    let e = c.place_passes.ensures ∙ ap (place_passes a.n a.positions i.i) (get_d_within a.t1.kept i.i 0 no_output (omega arith)) in
-    sym (places_fail a.n a.positions a.t1 (i.i + 1) place_count (omega arith) (places_next a.n a.positions a.t1 i.i i.invariant.1 e (not-true _ c.if-not-place_passes.true)))
+    let e = c.place_passes.ensures ∙ ap (place_passes a.n a.positions i.i) (get_d_within a.c.kept i.i 0 no_output (omega arith)) in
+    sym (places_fail a.n a.positions a.c (i.i + 1) place_count (omega arith) (places_next a.n a.positions a.c i.i i.invariant.1 e c.if-not-place_passes.true))
 
 pub overflow_add-i : goal.overflow_add-i
 overflow_add-i c = omega arith
@@ -42,12 +42,12 @@ loop-i-preserved c =
     let a = c.args in
     let l = places (goal.at.loop-i-preserved c).Start in
     let i = c.loop-i in
-    let e = c.place_passes.ensures ∙ ap (place_passes a.n a.positions i.i) (get_d_within a.t1.kept i.i 0 no_output (omega arith)) in
-    (omega arith, places_next a.n a.positions a.t1 i.i i.invariant.1 e (not-false _ c.if-not-place_passes.false-raw))
+    let e = c.place_passes.ensures ∙ ap (place_passes a.n a.positions i.i) (get_d_within a.c.kept i.i 0 no_output (omega arith)) in
+    (omega arith, places_next a.n a.positions a.c i.i i.invariant.1 e c.if-not-place_passes.false)
 
 pub returns : goal.returns
 returns c =
     let a = c.args in
     let i = c.loop-i in
     let e : i.i ≡ place_count = omega arith in
-    sym (ap (places_pass a.n a.positions a.t1) (sym e) ∙ i.invariant.1)
+    sym (ap (places_pass a.n a.positions a.c) (sym e) ∙ i.invariant.1)

@@ -28,9 +28,7 @@ returns-in-Quiet c = let a = c.args in none_written a.out.now a.at (quiet_bytes 
 pub returns-in-Echo : goal.returns-in-Echo
 returns-in-Echo c =
     let a = c.args in
-    let e = c.e.given in
-    some_written a.out.now a.at c.put.result c.put.new.out (echo_bytes a.number a.e e.0.0 e.1)
-    c.put.ensures
+    some_written a.out.now a.at c.put.result c.put.new.out (echo_bytes a.number a.e c.in-Echo.x c.in-Echo.is) c.put.ensures
 
 pub returns-in-Ready : goal.returns-in-Ready
 returns-in-Ready c =

@@ -3,7 +3,6 @@ use borrow.Author.Rules.{rules}
 use mathlib.Core.Path.{sym, ap, ◌∙◌}
 use Prim.Native.Nat.{◌-◌}
 use native.Mathlib.Omega.{arith}
-use borrow.Author.Tests.{not-true, not-false}
 use Rattle.closing.specs.Rules.{Ruled, applies}
 use Rattle.closing_run.proofs.Going.{going_start, going_stop, going_over, going_fits, going_on}
 use Rattle.closing_run.proofs.run.Goals as goal
@@ -23,7 +22,7 @@ returns-then-not-applies c =
     let l = c.loop-rules in
     let r = c.lowest_rule-a in
     going_stop a.k a.c a.number a.from a.out.now l.d l.out l.sent l.rules l.invariant
-    (ap (λ (x : Ruled). applies x.effect) (sym r.ensures) ∙ sym c.applies.ensures ∙ not-true _ c.if-not-applies.true)
+    (ap (λ (x : Ruled). applies x.effect) (sym r.ensures) ∙ sym c.applies.ensures ∙ c.if-not-applies.true)
 
 pub emit-sent-requires : goal.emit-sent-requires
 emit-sent-requires c =
@@ -33,7 +32,7 @@ emit-sent-requires c =
     let r = c.lowest_rule-a in
     going_fits a.k a.c a.number a.from a.out.now l.d l.out l.sent l.rules l.invariant (omega (arith, c.loop-rules-test.true))
     r.result.effect r.result.closing (ap (λ (x : Ruled). x.effect) r.ensures) (ap (λ (x : Ruled). x.closing) r.ensures)
-    (sym c.applies.ensures ∙ not-false _ c.if-not-applies.false-raw) s.requires.1
+    (sym c.applies.ensures ∙ c.if-not-applies.false) s.requires.1
 
 pub overflow_add-rules : goal.overflow_add-rules
 overflow_add-rules c = omega arith
@@ -50,7 +49,7 @@ loop-rules-preserved c =
     let o = c.emit-sent in
     going_on a.k a.c a.number a.from a.out.now l.d l.out l.sent l.rules l.invariant (omega (arith, c.loop-rules-test.true))
     r.result.effect r.result.closing (ap (λ (x : Ruled). x.effect) r.ensures) (ap (λ (x : Ruled). x.closing) r.ensures)
-    (sym c.applies.ensures ∙ not-false _ c.if-not-applies.false-raw) s.requires.1 o.new.out o.result o.ensures.0 o.ensures.1
+    (sym c.applies.ensures ∙ c.if-not-applies.false) s.requires.1 o.new.out o.result o.ensures.0 o.ensures.1
 
 pub shape_of-out : goal.shape_of-out
 shape_of-out c = c.loop-rules.invariant.long

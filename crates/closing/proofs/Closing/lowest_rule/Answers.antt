@@ -1,5 +1,4 @@
 -- The rules in their order, each behind those that do not apply.
-use borrow.Author.Rules.{rules}
 use mathlib.Core.Path.{◌≡◌, ◌∙◌}
 use Rattle.closing.specs.Rules.{close_rule, lowest_rule}
 use Rattle.closing.proofs.Laws.{or_first, or_next, from2, from3, from4, lowest_first}
@@ -15,17 +14,23 @@ behind1 e =
 behind2 : (e : Else-applies-2) → from3 e.args.k e.args.self ≡ lowest_rule e.args.k e.args.self
 behind2 e =
     let a = e.args in
-    or_next (from3 a.k a.self) e.relay_rule-a.ensures e.applies-2.ensures e.if-applies-2.false ∙ behind1 e.before.before.before
+    or_next (from3 a.k a.self) e.relay_rule-a.ensures e.applies-2.ensures e.if-applies-2.false
+    ∙ or_next (from2 a.k a.self) e.echo_rule-a.ensures e.applies.ensures e.if-applies.false ∙ lowest_first a.k a.self
 
 behind3 : (e : Else-applies-3) → from4 e.args.k e.args.self ≡ lowest_rule e.args.k e.args.self
 behind3 e =
     let a = e.args in
-    or_next (from4 a.k a.self) e.value_rule-a.ensures e.applies-3.ensures e.if-applies-3.false ∙ behind2 e.before.before.before
+    or_next (from4 a.k a.self) e.value_rule-a.ensures e.applies-3.ensures e.if-applies-3.false
+    ∙ or_next (from3 a.k a.self) e.relay_rule-a.ensures e.applies-2.ensures e.if-applies-2.false
+    ∙ or_next (from2 a.k a.self) e.echo_rule-a.ensures e.applies.ensures e.if-applies.false ∙ lowest_first a.k a.self
 
 behind4 : (e : Else-applies-4) → close_rule e.args.k e.args.self ≡ lowest_rule e.args.k e.args.self
 behind4 e =
     let a = e.args in
-    or_next (close_rule a.k a.self) e.ready_rule-a.ensures e.applies-4.ensures e.if-applies-4.false ∙ behind3 e.before.before.before
+    or_next (close_rule a.k a.self) e.ready_rule-a.ensures e.applies-4.ensures e.if-applies-4.false
+    ∙ or_next (from4 a.k a.self) e.value_rule-a.ensures e.applies-3.ensures e.if-applies-3.false
+    ∙ or_next (from3 a.k a.self) e.relay_rule-a.ensures e.applies-2.ensures e.if-applies-2.false
+    ∙ or_next (from2 a.k a.self) e.echo_rule-a.ensures e.applies.ensures e.if-applies.false ∙ lowest_first a.k a.self
 
 pub returns-then-applies : goal.returns-then-applies
 returns-then-applies c =

@@ -1,6 +1,5 @@
 -- Ready after t+1 senders of it.
 use mathlib.Core.Path.{sym, ◌∙◌}
-use borrow.Author.Tests.{not-true, not-false}
 use Rattle.closing.proofs.Laws.{ready_before, ready_few, ready_made}
 use Rattle.closing.proofs.Closing.ready_rule.Goals as goal
 
@@ -12,9 +11,9 @@ returns-then-self c =
 pub returns-then-not-reaches : goal.returns-then-not-reaches
 returns-then-not-reaches c =
     let a = c.args in
-    c.idle-then-not-reaches.ensures ∙ ready_few a.k a.self c.if-self.false (sym c.reaches.ensures ∙ not-true _ c.if-not-reaches.true)
+    c.idle-then-not-reaches.ensures ∙ ready_few a.k a.self c.if-self.false (sym c.reaches.ensures ∙ c.if-not-reaches.true)
 
 pub returns : goal.returns
 returns c =
     let a = c.args in
-    ready_made a.k a.self c.if-self.false (sym c.reaches.ensures ∙ not-false _ c.if-not-reaches.false-raw)
+    ready_made a.k a.self c.if-self.false (sym c.reaches.ensures ∙ c.if-not-reaches.false)

@@ -19,10 +19,10 @@ pub returns-then-self-i-eq-NO_OUTPUT : goal.returns-then-self-i-eq-NO_OUTPUT
 returns-then-self-i-eq-NO_OUTPUT c =
     let a = c.args in
     let l = places (goal.at.returns-then-self-i-eq-NO_OUTPUT c).Start in
-    echo_first a.t1 a.s a.x (get_d_within a.t1.kept (2 * a.s) 0 no_output (omega arith)) c.if-self-i-eq-NO_OUTPUT.true
+    echo_first a.self a.s a.x (get_d_within a.self.kept (2 * a.s) 0 no_output (omega arith)) c.if-self-i-eq-NO_OUTPUT.true
 
 pub returns : goal.returns
 returns c =
     let a = c.args in
     let l = places (goal.at.returns c).Start in
-    echo_second a.t1 a.s a.x (get_d_within a.t1.kept (2 * a.s) 0 no_output (omega arith)) c.if-self-i-eq-NO_OUTPUT.false
+    echo_second a.self a.s a.x (get_d_within a.self.kept (2 * a.s) 0 no_output (omega arith)) c.if-self-i-eq-NO_OUTPUT.false
