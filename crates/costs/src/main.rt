@@ -437,11 +437,9 @@ fn call_all_again(
     requires { (4 ≤ v.plan_end) × (v.plan_end ≤ length s.now) × (v.boards ≤ max_boards) }
 {
     let mut sum: u64 = 0;
-    let mut i: usize = 0;
-    while i < v.boards {
+    for i in 0..v.boards {
         sum += call_again(rt, v, s, i, b.used[i], wire, journals, out)?;
         sum += call_empty(rt, v, s, i, journals, out)?;
-        i += 1;
     }
     Ok(sum)
 }
