@@ -31,7 +31,7 @@ fn reading(z: i64) {
 }
 
 // A board's answer, or `-`.
-fn answer(p: member::Member) {
+fn answer(p: party::Party) {
     let r = board::read_answer(p);
     let a = r.answer;
     match a {
@@ -41,7 +41,7 @@ fn answer(p: member::Member) {
 }
 
 // A board's number and its answer.
-pub fn board(i: usize, p: member::Member) {
+pub fn board(i: usize, p: party::Party) {
     io::print_decimal(STDOUT_FILENO, i as u64);
     byte(b' ');
     answer(p);

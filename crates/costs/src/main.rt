@@ -8,9 +8,8 @@ ghost use Rattle.costs.specs.Room.{message_limit, journal_size, journals_size, i
 use libc::{STDIN_FILENO, STDOUT_FILENO};
 
 const BOARDS: usize = base::MAX_BOARDS as usize;
-// What sound boards send: at most seven messages a level each, two closing echoes and a ready.
-const MESSAGES: usize = BOARDS
-    * (base::SENDING_LEVELS as usize * level::Level::MESSAGES as usize + 3);
+// What sound boards send: at most seven messages a level each.
+const MESSAGES: usize = BOARDS * base::SENDING_LEVELS as usize * 7;
 // A board's journal: its start, and those messages.
 const JOURNAL: usize = journal::RECORD_SIZE * (1 + MESSAGES);
 // The journals of all boards.
@@ -105,7 +104,7 @@ fn print(name: &[u8], x: u64) {
 // The boards of a vote: their parties, the used lengths of their journals, and how many messages they handed over.
 #[derive(Clone, Copy)]
 struct Boards {
-    parties: [member::Member; BOARDS],
+    parties: [party::Party; BOARDS],
     used: [usize; BOARDS],
     sent: usize,
 }
@@ -133,7 +132,7 @@ fn start(v: Vote, s: &[u8], i: usize, journals: &mut [u8], out: &mut [u8]) -> bo
     let from = JOURNAL * i;
     let end = from + JOURNAL;
     board::start(
-        made.member,
+        made.party,
         input_at(s, plan + INPUT * i),
         &mut journals[from..end],
         0,
@@ -143,7 +142,7 @@ fn start(v: Vote, s: &[u8], i: usize, journals: &mut [u8], out: &mut [u8]) -> bo
 
 // Board i takes message k.
 fn give(
-    p: member::Member,
+    p: party::Party,
     k: usize,
     i: usize,
     used: usize,
@@ -175,14 +174,14 @@ fn start_all(
     s: &[u8],
     journals: &mut [u8; JOURNALS],
     wire: &mut [u8; bench_wire::SIZE],
-    out: &mut [u8; level_limits::MEMBER_BYTES],
+    out: &mut [u8; level_limits::OUTGOING],
 ) -> Boards
     requires { (4 ≤ v.plan_end) × (v.plan_end ≤ length s.now) × (v.plan_end < input_limit) × (v.boards ≤ max_boards) }
 {
     let n = v.boards as u32;
     let end = v.plan_end;
     let blank = board::set_up(n, v.faults, 0, AGREEMENT, &s[PLAN..end]);
-    let none = blank.member;
+    let none = blank.party;
     let mut b = Boards {
         parties: [none; BOARDS],
         used: [0usize; BOARDS],
@@ -191,7 +190,7 @@ fn start_all(
     let mut i: usize = 0;
     while i < v.boards {
         let c = start(v, s, i, journals, out);
-        let p = c.member;
+        let p = c.party;
         b.parties[i] = p;
         b.used[i] = c.used;
         b.sent = bench_wire::keep_all(wire, b.sent, i as u8, out, c.sent);
@@ -206,7 +205,7 @@ fn give_all(
     boards: Boards,
     journals: &mut [u8; JOURNALS],
     wire: &mut [u8; bench_wire::SIZE],
-    out: &mut [u8; level_limits::MEMBER_BYTES],
+    out: &mut [u8; level_limits::OUTGOING],
 ) -> Boards
     requires { (1 ≤ v.boards) × (v.boards ≤ max_boards) }
 {
@@ -219,7 +218,7 @@ fn give_all(
         let i = t.board;
         let p = b.parties[i];
         let c = give(p, t.message, i, b.used[i], wire, journals, out);
-        let q = c.member;
+        let q = c.party;
         b.parties[i] = q;
         b.used[i] = c.used;
         b.sent = bench_wire::keep_all(wire, b.sent, i as u8, out, c.sent);
@@ -229,7 +228,7 @@ fn give_all(
 }
 
 // A reading, between two bytes written, since the compiler may make it a part of this function; 1 for an answer.
-fn read(p: member::Member) -> u64
+fn read(p: party::Party) -> u64
     ensures { result ≤ 1 }
 {
     io::write_all(STDOUT_FILENO, b"(");
@@ -239,17 +238,12 @@ fn read(p: member::Member) -> u64
     answers(a)
 }
 
-// A reading of a pair, likewise: the board, and the same under another number; whether the second byte was written.
-fn read_pair(p: member::Member) -> bool {
-    let mut q = p.party;
-    let c = p.closing;
+// A reading of a pair, likewise: the party, and the same under another number; whether the second byte was written.
+fn read_pair(p: party::Party) -> bool {
+    let mut q = p;
     q.agreement = AGREEMENT + 1;
-    let other = member::Member {
-        party: q,
-        closing: c,
-    };
     io::write_all(STDOUT_FILENO, b"[");
-    let r = board::read_pair(p, other);
+    let r = board::read_pair(p, q);
     let a = r.answer;
     match a {
         board::PairAnswer::None => io::write_all(STDOUT_FILENO, b"-"),
@@ -258,7 +252,7 @@ fn read_pair(p: member::Member) -> bool {
 }
 
 // A reading of the answer as a count, likewise.
-fn read_count(p: member::Member) -> bool {
+fn read_count(p: party::Party) -> bool {
     io::write_all(STDOUT_FILENO, b"{");
     let r = board::read_count(p, STEP_SIZE, 0);
     let a = r.answer;
@@ -269,7 +263,7 @@ fn read_count(p: member::Member) -> bool {
 }
 
 // Board i, which has not started, starts by a count, likewise.
-fn start_count(p: member::Member, i: usize, journals: &mut [u8], out: &mut [u8]) -> bool
+fn start_count(p: party::Party, i: usize, journals: &mut [u8], out: &mut [u8]) -> bool
     requires { (i < max_boards) × (length journals.old ≡ journals_size) }
 {
     let from = JOURNAL * i;
@@ -341,7 +335,7 @@ fn restore_empty(v: Vote, s: &[u8], i: usize, out: &mut [u8]) -> board::Called
 
 // Board i takes the first message again.
 fn give_again(
-    p: member::Member,
+    p: party::Party,
     i: usize,
     used: usize,
     wire: &[u8; bench_wire::SIZE],
@@ -368,7 +362,7 @@ fn give_again(
 
 // Board i starts again.
 fn start_again(
-    p: member::Member,
+    p: party::Party,
     i: usize,
     used: usize,
     journals: &mut [u8],
@@ -389,17 +383,17 @@ fn call_again(
     used: usize,
     wire: &[u8; bench_wire::SIZE],
     journals: &mut [u8; JOURNALS],
-    out: &mut [u8; level_limits::MEMBER_BYTES],
+    out: &mut [u8; level_limits::OUTGOING],
 ) -> u64
     requires { (4 ≤ v.plan_end) × (v.plan_end ≤ length s.now) × (v.boards ≤ max_boards) × (i < max_boards) }
     ensures { result ≤ 1 }
 {
     let c = restore_board(v, s, i, used, journals, out);
-    let again = give_again(c.member, i, c.used, wire, journals, out);
-    let second = start_again(again.member, i, again.used, journals, out);
-    read_pair(second.member);
-    read_count(second.member);
-    read(second.member)
+    let again = give_again(c.party, i, c.used, wire, journals, out);
+    let second = start_again(again.party, i, again.used, journals, out);
+    read_pair(second.party);
+    read_count(second.party);
+    read(second.party)
 }
 
 // Board i is restored from an empty journal, starts by a count, and is read as it was before that; 1 for an answer.
@@ -408,14 +402,14 @@ fn call_empty(
     s: &[u8],
     i: usize,
     journals: &mut [u8; JOURNALS],
-    out: &mut [u8; level_limits::MEMBER_BYTES],
+    out: &mut [u8; level_limits::OUTGOING],
 ) -> u64
     requires { (4 ≤ v.plan_end) × (v.plan_end ≤ length s.now) × (v.boards ≤ max_boards) × (i < max_boards) }
     ensures { result ≤ 1 }
 {
     let empty = restore_empty(v, s, i, out);
-    start_count(empty.member, i, journals, out);
-    read(empty.member)
+    start_count(empty.party, i, journals, out);
+    read(empty.party)
 }
 
 // So each board; how many have an answer.
@@ -425,7 +419,7 @@ fn call_all_again(
     b: Boards,
     wire: &[u8; bench_wire::SIZE],
     journals: &mut [u8; JOURNALS],
-    out: &mut [u8; level_limits::MEMBER_BYTES],
+    out: &mut [u8; level_limits::OUTGOING],
 ) -> u64
     requires { (4 ≤ v.plan_end) × (v.plan_end ≤ length s.now) × (v.boards ≤ max_boards) }
 {
@@ -457,7 +451,7 @@ fn run(s: &[u8])
     };
     let mut journals = [0u8; JOURNALS];
     let mut wire = [0u8; bench_wire::SIZE];
-    let mut out = [0u8; level_limits::MEMBER_BYTES];
+    let mut out = [0u8; level_limits::OUTGOING];
     let started = start_all(v, s, &mut journals, &mut wire, &mut out);
     let ended = give_all(v, started, &mut journals, &mut wire, &mut out);
     let answers = call_all_again(v, s, ended, &wire, &mut journals, &mut out);

@@ -41,8 +41,8 @@ fn print_call(used: usize, called: board::Called, journal: &[u8], out: &[u8]) {
 }
 
 // Is the answer 1?
-fn print_answer(m: member::Member) {
-    let r = board::read_answer(m);
+fn print_answer(p: party::Party) {
+    let r = board::read_answer(p);
     let a = r.answer;
     let board::Answer::At(z) = a else {
         io::write_all(STDOUT_FILENO, b"no answer\n");
@@ -55,31 +55,21 @@ fn print_answer(m: member::Member) {
     io::write_all(STDOUT_FILENO, b"another answer\n");
 }
 
-// Is the board closed?
-fn print_closed(m: member::Member) {
-    let r = board::read_closing(m);
-    if r.closed {
-        io::write_all(STDOUT_FILENO, b"closed\n");
-        return;
-    }
-    io::write_all(STDOUT_FILENO, b"not closed\n");
-}
-
 // The board takes its own message back.
 fn take_own(
     called: board::Called,
-    m: &[u8],
+    m: [u8; 4],
     journal: &mut [u8; 64],
-    out: &mut [u8; level_limits::MEMBER_BYTES],
+    out: &mut [u8; level_limits::OUTGOING],
 ) -> board::Called {
-    let next = board::take(called.member, 0, m, journal, called.used, out);
+    let next = board::take(called.party, 0, &m, journal, called.used, out);
     print_call(called.used, next, journal, out);
     next
 }
 
 // Power went after the second record and tore the third.
 fn print_restored() {
-    let mut out = [0u8; level_limits::MEMBER_BYTES];
+    let mut out = [0u8; level_limits::OUTGOING];
     let left = [1u8, 1, 1, 2, 0, 1, 0, 1, 0, 2, 0, 1];
     let back = board::restore(1, 0, 0, 1, &[2u8, 0, 2], &left, &mut out);
     io::write_all(STDOUT_FILENO, b"restored ");
@@ -93,17 +83,14 @@ fn print_restored() {
 
 fn main() {
     let mut journal = [0u8; 64];
-    let mut out = [0u8; level_limits::MEMBER_BYTES];
+    let mut out = [0u8; level_limits::OUTGOING];
     let made = board::set_up(1, 0, 0, 1, &[2u8, 0, 2]);
-    let started = board::start(made.member, 1, &mut journal, 0, &mut out);
+    let started = board::start(made.party, 1, &mut journal, 0, &mut out);
     print_call(0, started, &journal, &out);
-    let first = take_own(started, &[1, 0, 1, 0], &mut journal, &mut out);
-    let second = take_own(first, &[1, 0, 2, 0], &mut journal, &mut out);
-    let third = take_own(second, &[1, 0, 3, 0], &mut journal, &mut out);
-    let fourth = take_own(third, &[1, 0, 4, 0], &mut journal, &mut out);
-    print_answer(fourth.member);
-    let fifth = take_own(fourth, &[1, 0, 7, 1], &mut journal, &mut out);
-    let sixth = take_own(fifth, &[1, 0, 8], &mut journal, &mut out);
-    print_closed(sixth.member);
+    let first = take_own(started, [1, 0, 1, 0], &mut journal, &mut out);
+    let second = take_own(first, [1, 0, 2, 0], &mut journal, &mut out);
+    let third = take_own(second, [1, 0, 3, 0], &mut journal, &mut out);
+    let fourth = take_own(third, [1, 0, 4, 0], &mut journal, &mut out);
+    print_answer(fourth.party);
     print_restored();
 }

@@ -26,15 +26,7 @@ fn write_kind(kind: usize) {
         first result:\n\
         second result:\n\
         flags and proposals:\n\
-        level entered:\n\
-        position kept:\n\
-        many positions kept:\n\
-        relayed:\n\
-        senders of ready:\n\
-        answer echoed, ready sent:\n\
-        closing value:\n\
-        answer kept:\n\
-        closed:",
+        level entered:",
         kind,
     );
 }
@@ -95,22 +87,11 @@ fn write_calls(s: &State) {
 
 // What came of it.
 fn write_ends(s: &State) {
-    let places = [
-        state::RULES,
-        state::MOST,
-        state::CLOSED,
-        state::CLOSED_ENTERED,
-        state::CLOSINGS,
-        state::TABLES,
-        state::DIFFERENCES,
-    ];
+    let places = [state::RULES, state::MOST, state::TABLES, state::DIFFERENCES];
     lines(
         s,
         b"rules applied on changed records\n\
         most rules in a call on one\n\
-        changed records that passed and are closed\n\
-        of these with level 0 entered\n\
-        calls that closed a changed record\n\
         records compared as a whole\n\
         differences",
         &places,

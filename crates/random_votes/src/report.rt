@@ -132,7 +132,7 @@ fn write_rules(s: &State) {
 
 // What was said.
 fn write_messages(s: &State) {
-    row(s, b"messages handed over by kind:", state::KINDS, 1, 9);
+    row(s, b"messages handed over by kind:", state::KINDS, 1, 7);
     row(s, b"lies taken by level:", state::LIES_TAKEN, 0, 15);
 }
 
@@ -166,12 +166,12 @@ fn write_ends(s: &State) {
         cuts at which the wire module forgot what was handed over\n\
         messages forgotten before every sound board had taken them\n\
         votes with messages forgotten so\n\
-        of these, votes in which every sound board is closed in the end\n\
+        of these, votes in which every sound board has an answer in the end\n\
         messages handed over by restores\n\
         torn records dropped\n\
         starts lost\n\
         answers\n\
-        votes with answers or closing values one edge apart\n\
+        votes with answers one edge apart\n\
         messages of a sound board at one level at most\n\
         messages beyond 7 at a level, or beyond the plan's levels",
         &places,
@@ -197,7 +197,7 @@ fn write_faults(s: &State, w: &State) {
     fault(
         s,
         w,
-        b"answers and closings against demand 3 or the claims of closing, pairs and counts",
+        b"answers against demand 3 or the claims of pairs and counts",
         state::FAULTY_ANSWERS,
         state::FIRST_FAULT,
     );
@@ -213,7 +213,6 @@ fn write_counts(s: &State) {
     write_rules(s);
     write_messages(s);
     write_ends(s);
-    random_votes_closing::results::write(s);
     results::write(s);
     random_votes_counts::results::write(s);
 }

@@ -44,9 +44,9 @@ fn signed_of(z: i32) -> [u8; 8] {
     b
 }
 
-fn packet_of(p: packet::Packet) -> [u8; 8] {
+fn message_of(m: message::Message) -> [u8; 8] {
     let mut b = [0u8; 8];
-    let _w = packet::write(&mut b, p);
+    let _w = message::write(&mut b, m);
     b
 }
 
@@ -70,10 +70,10 @@ fn lengths(first: u32, last: u32) {
 
 // What is told of bytes that should be one message: the refusal's number and place, or 0.
 fn told(s: &[u8]) {
-    match packet::read(s) {
-        packet::Exactly::One(_) => number(0),
-        packet::Exactly::Broken { fault, at } => {
-            number(packet::refusal_number(fault) as u64);
+    match message::read(s) {
+        message::Exactly::One(_) => number(0),
+        message::Exactly::Broken { fault, at } => {
+            number(message::refusal_number(fault) as u64);
             number(at as u64);
         }
     }
@@ -96,17 +96,6 @@ fn tellings() {
     told(&[172, 2, 3, 5, 2, 0]);
 }
 
-// Closing messages: an echo and a ready, off level 0, with a position outside the table, and with a byte behind.
-fn closing_tellings() {
-    told(&[172, 2, 0, 7, 172, 2]);
-    told(&[172, 2, 0, 8]);
-    told(&[172, 2, 3, 7, 2]);
-    told(&[172, 2, 3, 8]);
-    told(&[172, 2, 0, 7, 128, 128, 4]);
-    told(&[172, 2, 0, 7]);
-    told(&[172, 2, 0, 8, 0]);
-}
-
 fn main() {
     bytes(varint_of(300));
     verdict(plan_reader::read(&[128, 0]));
@@ -117,15 +106,7 @@ fn main() {
         level: 2,
         body: echo,
     };
-    let second = packet::Packet::Level(m);
-    bytes(packet_of(second));
-    let closing = packet::Packet::Echo {
-        number: 7,
-        position: 44,
-    };
-    bytes(packet_of(closing));
-    let ready = packet::Packet::Ready { number: 7 };
-    bytes(packet_of(ready));
+    bytes(message_of(m));
     verdict(plan_reader::read(&[2, 9, 8]));
     verdict(plan_reader::settle(3, 1, 0, &[2, 9, 8]));
     verdict(plan_reader::settle(16, 5, 15, &[2, 9, 8]));
@@ -146,5 +127,4 @@ fn main() {
     lengths(2097152, 268435455);
     lengths(268435456, 4294967295);
     tellings();
-    closing_tellings();
 }

@@ -6,4 +6,4 @@ abbrev pub invariant-loop-kind : goal.invariant-loop-kind
 invariant-loop-kind l = 0 ≤ l.kind
 
 abbrev pub decreases-loop-kind : goal.decreases-loop-kind
-decreases-loop-kind l = 28 - l.kind
+decreases-loop-kind l = 20 - l.kind
