@@ -4,7 +4,7 @@ use native.Mathlib.Omega.{arith}
 use lib.ListN.{length}
 use Rattle.varint.proofs.Laws.{pieces_most}
 use Rattle.journal.specs.Journal.{record_bytes}
-use Rattle.journal.proofs.Laws.{start_length, taken_length, head_length, packet_most}
+use Rattle.journal.proofs.Laws.{start_length, taken_length, head_length, message_most}
 use Rattle.journal.proofs.size.Goals as goal
 
 pub overflow_add-result : goal.overflow_add-result
@@ -13,7 +13,8 @@ overflow_add-result c =
 
 pub overflow_add-result-in-Taken : goal.overflow_add-result-in-Taken
 overflow_add-result-in-Taken c =
-    omega (arith, head_length 2 c.in-Taken.sender (omega arith), pieces_most 4 c.in-Taken.sender, packet_most c.in-Taken.m)
+    let g = c.r-in-Taken-1.given in
+    omega (arith, head_length 2 g.0.0 (omega arith), pieces_most 4 g.0.0, message_most g.0.1.0)
 
 pub returns-in-Start : goal.returns-in-Start
 returns-in-Start c =
