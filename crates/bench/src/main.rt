@@ -16,7 +16,7 @@ fn main(rt: HostRuntime) -> io::Result<()> {
     let mut stdin = rt.stdin();
     let mut bytes = [0u8; BYTES];
     let mut wire = [0u8; bench_wire::SIZE];
-    let mut out = [0u8; level_limits::MEMBER_BYTES];
+    let mut out = [0u8; level_limits::OUTGOING];
     let mut input = Input::new();
     let mut vote = Vote::new();
     let nobody = vote.set_up(0);
@@ -38,7 +38,7 @@ fn main(rt: HostRuntime) -> io::Result<()> {
         if b < BOARDS {
             let p = parties[b];
             let called = call.make(p, &wire, &mut out);
-            let q = called.member;
+            let q = called.party;
             let v = called.verdict;
             parties[b] = q;
             vote = vote.after(b, v, &out, called.sent, &mut wire);

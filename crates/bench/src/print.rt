@@ -24,7 +24,7 @@ fn reading(rt: &impl Print, z: i64) -> io::Result<()> {
 }
 
 // A board's answer, or `-`.
-fn answer(rt: &impl Print, p: member::Member) -> io::Result<()> {
+fn answer(rt: &impl Print, p: party::Party) -> io::Result<()> {
     let r = board::read_answer(p);
     let a = r.answer;
     match a {
@@ -34,7 +34,7 @@ fn answer(rt: &impl Print, p: member::Member) -> io::Result<()> {
 }
 
 // A board's number and its answer.
-pub fn board(rt: &impl Print, i: usize, p: member::Member) -> io::Result<()> {
+pub fn board(rt: &impl Print, i: usize, p: party::Party) -> io::Result<()> {
     print!(rt; "{i} ")?;
     answer(rt, p)?;
     println!(rt)

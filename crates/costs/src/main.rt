@@ -11,9 +11,8 @@ use std::io;
 use std::io::Read;
 
 const BOARDS: usize = base::MAX_BOARDS as usize;
-// What sound boards send: at most seven messages a level each, two closing echoes and a ready.
-const MESSAGES: usize = BOARDS
-    * (base::SENDING_LEVELS as usize * level::Level::MESSAGES as usize + 3);
+// What sound boards send: at most seven messages a level each.
+const MESSAGES: usize = BOARDS * base::SENDING_LEVELS as usize * 7;
 // A board's journal: its start, and those messages.
 const JOURNAL: usize = journal::RECORD_SIZE * (1 + MESSAGES);
 // The journals of all boards.
@@ -103,7 +102,7 @@ fn answers(a: board::Answer) -> u64
 // The boards of a vote: their parties, the used lengths of their journals, and how many messages they handed over.
 #[derive(Clone, Copy)]
 struct Boards {
-    parties: [member::Member; BOARDS],
+    parties: [party::Party; BOARDS],
     used: [usize; BOARDS],
     sent: usize,
 }
@@ -131,7 +130,7 @@ fn start(v: Vote, s: &[u8], i: usize, journals: &mut [u8], out: &mut [u8]) -> bo
     let from = JOURNAL * i;
     let end = from + JOURNAL;
     board::start(
-        made.member,
+        made.party,
         input_at(s, plan + INPUT * i),
         &mut journals[from..end],
         0,
@@ -141,7 +140,7 @@ fn start(v: Vote, s: &[u8], i: usize, journals: &mut [u8], out: &mut [u8]) -> bo
 
 // Board i takes message k.
 fn give(
-    p: member::Member,
+    p: party::Party,
     k: usize,
     i: usize,
     used: usize,
@@ -173,14 +172,14 @@ fn start_all(
     s: &[u8],
     journals: &mut [u8; JOURNALS],
     wire: &mut [u8; bench_wire::SIZE],
-    out: &mut [u8; level_limits::MEMBER_BYTES],
+    out: &mut [u8; level_limits::OUTGOING],
 ) -> Boards
     requires { (4 ≤ v.plan_end) × (v.plan_end ≤ length s.now) × (v.plan_end < input_limit) × (v.boards ≤ max_boards) }
 {
     let n = v.boards as u32;
     let end = v.plan_end;
     let blank = board::set_up(n, v.faults, 0, AGREEMENT, &s[PLAN..end]);
-    let none = blank.member;
+    let none = blank.party;
     let mut b = Boards {
         parties: [none; BOARDS],
         used: [0usize; BOARDS],
@@ -189,7 +188,7 @@ fn start_all(
     let mut i: usize = 0;
     while i < v.boards {
         let c = start(v, s, i, journals, out);
-        let p = c.member;
+        let p = c.party;
         b.parties[i] = p;
         b.used[i] = c.used;
         b.sent = bench_wire::keep_all(wire, b.sent, i as u8, out, c.sent);
@@ -204,7 +203,7 @@ fn give_all(
     boards: Boards,
     journals: &mut [u8; JOURNALS],
     wire: &mut [u8; bench_wire::SIZE],
-    out: &mut [u8; level_limits::MEMBER_BYTES],
+    out: &mut [u8; level_limits::OUTGOING],
 ) -> Boards
     requires { (1 ≤ v.boards) × (v.boards ≤ max_boards) }
 {
@@ -217,7 +216,7 @@ fn give_all(
         let i = t.board;
         let p = b.parties[i];
         let c = give(p, t.message, i, b.used[i], wire, journals, out);
-        let q = c.member;
+        let q = c.party;
         b.parties[i] = q;
         b.used[i] = c.used;
         b.sent = bench_wire::keep_all(wire, b.sent, i as u8, out, c.sent);
@@ -227,7 +226,7 @@ fn give_all(
 }
 
 // A reading, between two bytes written, since the compiler may make it a part of this function; 1 for an answer.
-fn read(rt: &impl Print, p: member::Member) -> io::Result<u64>
+fn read(rt: &impl Print, p: party::Party) -> io::Result<u64>
     ensures { IfOk result (λ n. n ≤ 1) }
 {
     rt.write_all(b"(")?;
@@ -237,17 +236,12 @@ fn read(rt: &impl Print, p: member::Member) -> io::Result<u64>
     Ok(answers(a))
 }
 
-// A reading of a pair, likewise: the board, and the same under another number.
-fn read_pair(rt: &impl Print, p: member::Member) -> io::Result<()> {
-    let mut q = p.party;
-    let c = p.closing;
+// A reading of a pair, likewise: the party, and the same under another number.
+fn read_pair(rt: &impl Print, p: party::Party) -> io::Result<()> {
+    let mut q = p;
     q.agreement = AGREEMENT + 1;
-    let other = member::Member {
-        party: q,
-        closing: c,
-    };
     rt.write_all(b"[")?;
-    let r = board::read_pair(p, other);
+    let r = board::read_pair(p, q);
     let a = r.answer;
     match a {
         board::PairAnswer::None => rt.write_all(b"-"),
@@ -256,7 +250,7 @@ fn read_pair(rt: &impl Print, p: member::Member) -> io::Result<()> {
 }
 
 // A reading of the answer as a count, likewise.
-fn read_count(rt: &impl Print, p: member::Member) -> io::Result<()> {
+fn read_count(rt: &impl Print, p: party::Party) -> io::Result<()> {
     rt.write_all(b"{")?;
     let r = board::read_count(p, STEP_SIZE, 0);
     let a = r.answer;
@@ -269,7 +263,7 @@ fn read_count(rt: &impl Print, p: member::Member) -> io::Result<()> {
 // Board i, which has not started, starts by a count, likewise.
 fn start_count(
     rt: &impl Print,
-    p: member::Member,
+    p: party::Party,
     i: usize,
     journals: &mut [u8],
     out: &mut [u8],
@@ -345,7 +339,7 @@ fn restore_empty(v: Vote, s: &[u8], i: usize, out: &mut [u8]) -> board::Called
 
 // Board i takes the first message again.
 fn give_again(
-    p: member::Member,
+    p: party::Party,
     i: usize,
     used: usize,
     wire: &[u8; bench_wire::SIZE],
@@ -372,7 +366,7 @@ fn give_again(
 
 // Board i starts again.
 fn start_again(
-    p: member::Member,
+    p: party::Party,
     i: usize,
     used: usize,
     journals: &mut [u8],
@@ -394,17 +388,17 @@ fn call_again(
     used: usize,
     wire: &[u8; bench_wire::SIZE],
     journals: &mut [u8; JOURNALS],
-    out: &mut [u8; level_limits::MEMBER_BYTES],
+    out: &mut [u8; level_limits::OUTGOING],
 ) -> io::Result<u64>
     requires { (4 ≤ v.plan_end) × (v.plan_end ≤ length s.now) × (v.boards ≤ max_boards) × (i < max_boards) }
     ensures { IfOk result (λ n. n ≤ 1) }
 {
     let c = restore_board(v, s, i, used, journals, out);
-    let again = give_again(c.member, i, c.used, wire, journals, out);
-    let second = start_again(again.member, i, again.used, journals, out);
-    read_pair(rt, second.member)?;
-    read_count(rt, second.member)?;
-    read(rt, second.member)
+    let again = give_again(c.party, i, c.used, wire, journals, out);
+    let second = start_again(again.party, i, again.used, journals, out);
+    read_pair(rt, second.party)?;
+    read_count(rt, second.party)?;
+    read(rt, second.party)
 }
 
 // Board i is restored from an empty journal, starts by a count, and is read as it was before that; 1 for an answer.
@@ -414,14 +408,14 @@ fn call_empty(
     s: &[u8],
     i: usize,
     journals: &mut [u8; JOURNALS],
-    out: &mut [u8; level_limits::MEMBER_BYTES],
+    out: &mut [u8; level_limits::OUTGOING],
 ) -> io::Result<u64>
     requires { (4 ≤ v.plan_end) × (v.plan_end ≤ length s.now) × (v.boards ≤ max_boards) × (i < max_boards) }
     ensures { IfOk result (λ n. n ≤ 1) }
 {
     let empty = restore_empty(v, s, i, out);
-    start_count(rt, empty.member, i, journals, out)?;
-    read(rt, empty.member)
+    start_count(rt, empty.party, i, journals, out)?;
+    read(rt, empty.party)
 }
 
 // So each board; how many have an answer.
@@ -432,16 +426,14 @@ fn call_all_again(
     b: Boards,
     wire: &[u8; bench_wire::SIZE],
     journals: &mut [u8; JOURNALS],
-    out: &mut [u8; level_limits::MEMBER_BYTES],
+    out: &mut [u8; level_limits::OUTGOING],
 ) -> io::Result<u64>
     requires { (4 ≤ v.plan_end) × (v.plan_end ≤ length s.now) × (v.boards ≤ max_boards) }
 {
     let mut sum: u64 = 0;
-    let mut i: usize = 0;
-    while i < v.boards {
+    for i in 0..v.boards {
         sum += call_again(rt, v, s, i, b.used[i], wire, journals, out)?;
         sum += call_empty(rt, v, s, i, journals, out)?;
-        i += 1;
     }
     Ok(sum)
 }
@@ -464,7 +456,7 @@ fn run(rt: &impl Print, s: &[u8]) -> io::Result<()>
     };
     let mut journals = [0u8; JOURNALS];
     let mut wire = [0u8; bench_wire::SIZE];
-    let mut out = [0u8; level_limits::MEMBER_BYTES];
+    let mut out = [0u8; level_limits::OUTGOING];
     let started = start_all(v, s, &mut journals, &mut wire, &mut out);
     let ended = give_all(v, started, &mut journals, &mut wire, &mut out);
     let answers = call_all_again(rt, v, s, ended, &wire, &mut journals, &mut out)?;

@@ -48,7 +48,7 @@ fn print_call(
 }
 
 // Is the answer 1?
-fn print_answer(rt: &impl Print, m: member::Member) -> io::Result<()> {
+fn print_answer(rt: &impl Print, m: party::Party) -> io::Result<()> {
     let r = board::read_answer(m);
     let a = r.answer;
     let board::Answer::At(z) = a else {
@@ -60,31 +60,22 @@ fn print_answer(rt: &impl Print, m: member::Member) -> io::Result<()> {
     println!(rt; "another answer")
 }
 
-// Is the board closed?
-fn print_closed(rt: &impl Print, m: member::Member) -> io::Result<()> {
-    let r = board::read_closing(m);
-    if r.closed {
-        return println!(rt; "closed");
-    }
-    println!(rt; "not closed")
-}
-
 // The board takes its own message back.
 fn take_own(
     rt: &impl Print,
     called: board::Called,
-    m: &[u8],
+    m: [u8; 4],
     journal: &mut [u8; 64],
-    out: &mut [u8; level_limits::MEMBER_BYTES],
+    out: &mut [u8; level_limits::OUTGOING],
 ) -> io::Result<board::Called> {
-    let next = board::take(called.member, 0, m, journal, called.used, out);
+    let next = board::take(called.party, 0, m, journal, called.used, out);
     print_call(rt, called.used, next, journal, out)?;
     Ok(next)
 }
 
 // Power went after the second record and tore the third.
 fn print_restored(rt: &impl Print) -> io::Result<()> {
-    let mut out = [0u8; level_limits::MEMBER_BYTES];
+    let mut out = [0u8; level_limits::OUTGOING];
     let left = [1u8, 1, 1, 2, 0, 1, 0, 1, 0, 2, 0, 1];
     let back = board::restore(1, 0, 0, 1, &[2u8, 0, 2], &left, &mut out);
     let used = back.used;
@@ -96,17 +87,14 @@ fn print_restored(rt: &impl Print) -> io::Result<()> {
 
 fn main(rt: HostRuntime) -> io::Result<()> {
     let mut journal = [0u8; 64];
-    let mut out = [0u8; level_limits::MEMBER_BYTES];
+    let mut out = [0u8; level_limits::OUTGOING];
     let made = board::set_up(1, 0, 0, 1, &[2u8, 0, 2]);
-    let started = board::start(made.member, 1, &mut journal, 0, &mut out);
+    let started = board::start(made.party, 1, &mut journal, 0, &mut out);
     print_call(&rt, 0, started, &journal, &out)?;
     let first = take_own(&rt, started, &[1, 0, 1, 0], &mut journal, &mut out)?;
     let second = take_own(&rt, first, &[1, 0, 2, 0], &mut journal, &mut out)?;
     let third = take_own(&rt, second, &[1, 0, 3, 0], &mut journal, &mut out)?;
     let fourth = take_own(&rt, third, &[1, 0, 4, 0], &mut journal, &mut out)?;
-    print_answer(&rt, fourth.member)?;
-    let fifth = take_own(&rt, fourth, &[1, 0, 7, 1], &mut journal, &mut out)?;
-    let sixth = take_own(&rt, fifth, &[1, 0, 8], &mut journal, &mut out)?;
-    print_closed(&rt, sixth.member)?;
+    print_answer(&rt, fourth.party)?;
     print_restored(&rt)
 }

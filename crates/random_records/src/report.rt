@@ -28,15 +28,7 @@ fn write_kind(rt: &impl Print, kind: usize) -> io::Result<()> {
         first result:\n\
         second result:\n\
         flags and proposals:\n\
-        level entered:\n\
-        position kept:\n\
-        many positions kept:\n\
-        relayed:\n\
-        senders of ready:\n\
-        answer echoed, ready sent:\n\
-        closing value:\n\
-        answer kept:\n\
-        closed:",
+        level entered:",
         kind,
     )
 }
@@ -108,9 +100,6 @@ fn write_ends(rt: &impl Print, s: &State) -> io::Result<()> {
     let places = [
         state::RULES,
         state::MOST,
-        state::CLOSED,
-        state::CLOSED_ENTERED,
-        state::CLOSINGS,
         state::TABLES,
         state::DIFFERENCES,
     ];
@@ -119,9 +108,6 @@ fn write_ends(rt: &impl Print, s: &State) -> io::Result<()> {
         s,
         b"rules applied on changed records\n\
         most rules in a call on one\n\
-        changed records that passed and are closed\n\
-        of these with level 0 entered\n\
-        calls that closed a changed record\n\
         records compared as a whole\n\
         differences",
         &places,

@@ -150,7 +150,7 @@ fn write_rules(rt: &impl Print, s: &State) -> io::Result<()> {
 
 // What was said.
 fn write_messages(rt: &impl Print, s: &State) -> io::Result<()> {
-    row(rt, s, b"messages handed over by kind:", state::KINDS, 1, 9)?;
+    row(rt, s, b"messages handed over by kind:", state::KINDS, 1, 7)?;
     row(rt, s, b"lies taken by level:", state::LIES_TAKEN, 0, 15)
 }
 
@@ -185,12 +185,12 @@ fn write_ends(rt: &impl Print, s: &State) -> io::Result<()> {
         cuts at which the wire module forgot what was handed over\n\
         messages forgotten before every sound board had taken them\n\
         votes with messages forgotten so\n\
-        of these, votes in which every sound board is closed in the end\n\
+        of these, votes in which every sound board has an answer in the end\n\
         messages handed over by restores\n\
         torn records dropped\n\
         starts lost\n\
         answers\n\
-        votes with answers or closing values one edge apart\n\
+        votes with answers one edge apart\n\
         messages of a sound board at one level at most\n\
         messages beyond 7 at a level, or beyond the plan's levels",
         &places,
@@ -219,7 +219,7 @@ fn write_faults(rt: &impl Print, s: &State, w: &State) -> io::Result<()> {
         rt,
         s,
         w,
-        b"answers and closings against demand 3 or the claims of closing, pairs and counts",
+        b"answers against demand 3 or the claims of pairs and counts",
         state::FAULTY_ANSWERS,
         state::FIRST_FAULT,
     )
@@ -235,7 +235,6 @@ fn write_counts(rt: &impl Print, s: &State) -> io::Result<()> {
     write_rules(rt, s)?;
     write_messages(rt, s)?;
     write_ends(rt, s)?;
-    random_votes_closing::results::write(rt, s)?;
     results::write(rt, s)?;
     random_votes_counts::results::write(rt, s)
 }

@@ -45,9 +45,9 @@ fn signed_of(z: i32) -> [u8; 8] {
     b
 }
 
-fn packet_of(p: packet::Packet) -> [u8; 8] {
+fn message_of(m: message::Message) -> [u8; 8] {
     let mut b = [0u8; 8];
-    let _w = packet::write(&mut b, p);
+    let _w = message::write(&mut b, m);
     b
 }
 
@@ -71,10 +71,10 @@ fn lengths(rt: &impl Print, first: u32, last: u32) -> io::Result<()> {
 
 // What is told of bytes that should be one message: the refusal's number and place, or 0.
 fn told(rt: &impl Print, s: &[u8]) -> io::Result<()> {
-    match packet::read(s) {
-        packet::Exactly::One(_) => number(rt, 0)?,
-        packet::Exactly::Broken { fault, at } => {
-            number(rt, packet::refusal_number(fault) as u64)?;
+    match message::read(s) {
+        message::Exactly::One(_) => number(rt, 0)?,
+        message::Exactly::Broken { fault, at } => {
+            number(rt, message::refusal_number(fault) as u64)?;
             number(rt, at as u64)?;
         }
     }
@@ -97,18 +97,7 @@ fn tellings(rt: &impl Print) -> io::Result<()> {
     told(rt, &[172, 2, 3, 5, 2, 0])
 }
 
-// Closing messages: an echo and a ready, off level 0, with a position outside the table, and with a byte behind.
-fn closing_tellings(rt: &impl Print) -> io::Result<()> {
-    told(rt, &[172, 2, 0, 7, 172, 2])?;
-    told(rt, &[172, 2, 0, 8])?;
-    told(rt, &[172, 2, 3, 7, 2])?;
-    told(rt, &[172, 2, 3, 8])?;
-    told(rt, &[172, 2, 0, 7, 128, 128, 4])?;
-    told(rt, &[172, 2, 0, 7])?;
-    told(rt, &[172, 2, 0, 8, 0])
-}
-
-// The bytes of a signed number and of three messages.
+// The bytes of a signed number and of a message.
 fn sent(rt: &impl Print) -> io::Result<()> {
     bytes(rt, signed_of(-5))?;
     let echo = message::Body::SecondEcho(16);
@@ -117,15 +106,7 @@ fn sent(rt: &impl Print) -> io::Result<()> {
         level: 2,
         body: echo,
     };
-    let second = packet::Packet::Level(m);
-    bytes(rt, packet_of(second))?;
-    let closing = packet::Packet::Echo {
-        number: 7,
-        position: 44,
-    };
-    bytes(rt, packet_of(closing))?;
-    let ready = packet::Packet::Ready { number: 7 };
-    bytes(rt, packet_of(ready))
+    bytes(rt, message_of(m))
 }
 
 // A plan, and its settings: good ones, and ones that are refused.
@@ -166,6 +147,5 @@ fn main(rt: HostRuntime) -> io::Result<()> {
     settings(&rt)?;
     plans(&rt)?;
     table(&rt)?;
-    tellings(&rt)?;
-    closing_tellings(&rt)
+    tellings(&rt)
 }

@@ -8,9 +8,9 @@ use mir.ValLaws.{to_z-of_z}
 use Rattle.base.specs.declared.Verdict.{Verdict}
 use Rattle.base.proofs.Bools.{true→T}
 use Rattle.rounding.specs.Rounding.{size_passes, nearest_step}
-use Rattle.member.specs.Member.{Member}
-use Rattle.member.specs.Tie.{as_member}
-use Rattle.member.specs.Valid.{member_valid}
+use Rattle.party.specs.Party.{Party}
+use Rattle.party.specs.Tie.{as_party}
+use Rattle.party.specs.Valid.{party_valid}
 use Rattle.board_calls.specs.declared.Answer.{Answer}
 use Rattle.board_calls.specs.declared.Answered.{Answered}
 use Rattle.board_calls.specs.Answers.{position_of}
@@ -27,7 +27,7 @@ returns-in-Refused c =
     let a = c in
     let s = a in
     c.refuse.ensures
-    ∙ ap count_gives (sym (count_19 (as_member s.args.m) s.args.size s.args.count a.read_answer-a.ensures c.in-Refused.is))
+    ∙ ap count_gives (sym (count_19 (as_party s.args.p) s.args.size s.args.count a.read_answer-a.ensures c.in-Refused.is))
 
 -- question 19 passed
 module _ (c : In_default) where
@@ -40,13 +40,13 @@ module _ (c : In_default) where
   abbrev s : Start
   s = a.before.before
 
-  abbrev p : Member
-  p = as_member s.args.m
+  abbrev p : Party
+  p = as_party s.args.p
 
   told : a.read_answer-a.result.verdict ≡ Verdict.Accepted
   told = c.in_default.is
 
-  valid : T (member_valid p)
+  valid : T (party_valid p)
   valid = valid_read p a.read_answer-a.ensures told
 
 pub returns-then-not-passes : goal.returns-then-not-passes
@@ -66,7 +66,7 @@ returns-then-kind-ne-RANGE c =
     let t = (goal.at.returns-then-kind-ne-RANGE c).In_default in
     c.refuse-then-kind-ne-RANGE.ensures
     ∙ ap count_gives
-    (sym (count_12 (p t) (s t).args.size (s t).args.count (a t).read_answer-a.ensures (told t) (passes e) (no_position (p t).party.plan (s t).args.size (s t).args.count c.if-kind-ne-RANGE.true)))
+    (sym (count_12 (p t) (s t).args.size (s t).args.count (a t).read_answer-a.ensures (told t) (passes e) (no_position (p t).plan (s t).args.size (s t).args.count c.if-kind-ne-RANGE.true)))
 
 pub round-r-requires : goal.round-r-requires
 round-r-requires c = passes (goal.at.round-r-requires c).Else-not-passes
@@ -82,14 +82,14 @@ module _ (c : After-position_of) where
   abbrev t : In_default
   t = e.before
 
-  at : c.position_of.result ≡ count_position (p t).party.plan (s t).args.size (s t).args.count
+  at : c.position_of.result ≡ count_position (p t).plan (s t).args.size (s t).args.count
   at =
       c.position_of.ensures
-      ∙ ap (position_of (p t).party.plan)
+      ∙ ap (position_of (p t).plan)
       (to_z-of_z w64 r.round-r.result.step (record { sfits = c.struct_told.given.0.1 })
       ∙ r.round-r.ensures.0
       ∙ ap (nearest_step (s t).args.size) (to_z-of_z w64 (s t).args.count (s t).fits.count))
-      ∙ sym (count_on_range (p t).party.plan (s t).args.size (s t).args.count r.if-kind-ne-RANGE.left)
+      ∙ sym (count_on_range (p t).plan (s t).args.size (s t).args.count r.if-kind-ne-RANGE.left)
 
 pub returns-then-position_of-eq-NO_OUTPUT : goal.returns-then-position_of-eq-NO_OUTPUT
 returns-then-position_of-eq-NO_OUTPUT c =

@@ -10,8 +10,8 @@ use mir.ValLaws.{to_z-of_z}
 use Rattle.base.specs.Pick.{pick}
 use Rattle.base.proofs.Bools.{true→T}
 use Rattle.rounding.specs.Rounding.{size_passes, nearest_step, remainder}
-use Rattle.member.specs.Member.{Member}
-use Rattle.member.specs.Tie.{as_member}
+use Rattle.party.specs.Party.{Party}
+use Rattle.party.specs.Tie.{as_party}
 use Rattle.board_calls.specs.Answers.{position_of}
 use Rattle.board_calls.specs.Calls.{start_questions}
 use Rattle.board_calls.specs.Counts.{count_position, start_count_questions}
@@ -24,7 +24,7 @@ pub returns-then-not-size_passes : goal.returns-then-not-size_passes
 returns-then-not-size_passes c =
     let z = c in
     let s = z in
-    refused_starts (as_member s.args.m) s.args.size s.args.count s.args.used (length s.args.journal.now) (length s.args.out.now)
+    refused_starts (as_party s.args.p) s.args.size s.args.count s.args.used (length s.args.journal.now) (length s.args.out.now)
     (sym z.size_passes.ensures ∙ not-true _ c.if-not-size_passes.true) c.size_refusal-number.ensures
 
 -- the size passes
@@ -45,16 +45,16 @@ module _ (b : After-start-c) where
   abbrev s : Start
   s = r.before.before.before.before.before
 
-  abbrev p : Member
-  p = as_member s.args.m
+  abbrev p : Party
+  p = as_party s.args.p
 
   abbrev input : ℤ
   input = to_z w64 (of_z w64 i.step_input-input.result)
 
-  at : position_of p.party.plan input ≡ count_position p.party.plan s.args.size s.args.count
+  at : position_of p.plan input ≡ count_position p.plan s.args.size s.args.count
   at =
-      ap (position_of p.party.plan) (to_z-of_z w64 i.step_input-input.result (record { sfits = i.step_input-input.ok }))
-      ∙ at_count p.party.plan s.args.size s.args.count i.step_input-input.result (to_z w64 (of_z w64 r.round-r.result.step)) i.step_input-input.ensures
+      ap (position_of p.plan) (to_z-of_z w64 i.step_input-input.result (record { sfits = i.step_input-input.ok }))
+      ∙ at_count p.plan s.args.size s.args.count i.step_input-input.result (to_z w64 (of_z w64 r.round-r.result.step)) i.step_input-input.ensures
       (to_z-of_z w64 r.round-r.result.step (record { sfits = i.struct_told.given.0.1 })
       ∙ r.round-r.ensures.0
       ∙ ap (nearest_step s.args.size) (to_z-of_z w64 s.args.count s.fits.count))

@@ -26,18 +26,10 @@ passes c = subst (Gave c.before.before) c.in_default.is c.ask-a.ensures
 
 pub replay_all-g-requires : goal.replay_all-g-requires
 replay_all-g-requires c =
-    let d = c in
-    let new = d in
-    let told = (goal.at.replay_all-g-requires c).In_default-1 in
-    restore_asks (vote told.before.before.before.before.before.before) new.shape-shape.ensures new.new-new.result new.new-new.ensures
-    d.none-none.result d.none-none.ensures (passes told).0
+    restore_asks (vote c.before.before.before.before.before.before.before.before.before.before.before.before.before.before.before.before) c.shape-shape.ensures c.new-new.result c.new-new.ensures (passes (goal.at.replay_all-g-requires c).In_default-1).0
 
 pub returns : goal.returns
 returns c =
-    let g = c in
-    let d = g in
-    let new = d in
-    let told = (goal.at.returns c).In_default-1 in
-    let s = told.before.before.before.before.before.before in
-    restore_gives (vote s) new.shape-shape.ensures new.new-new.result new.new-new.ensures d.none-none.result d.none-none.ensures
-    s.args.journal.now g.replay_all-g.new.sets g.replay_all-g.result (passes told).1 g.replay_all-g.ensures c.accept.ensures
+    let s = c.before.before.before.before.before.before.before.before.before.before.before.before.before.before.before.before.before.before.before.before.before in
+    let g = c.replay_all-g in
+    restore_gives (vote s) c.shape-shape.ensures c.new-new.result c.new-new.ensures s.args.journal.now g.new.sets g.result (passes (goal.at.returns c).In_default-1).1 g.ensures c.accept.ensures
