@@ -1,79 +1,57 @@
--- What a sound board answers, says of closing, has started with, has taken and has made, by the state that its log gives. That state keeps the levels of a closed
--- board; what the board has is `dropped` of it.
+-- What a sound board answers, has started with, has taken and has made, by the state that its log gives.
 use mathlib.Core.Path.{◌≡◌, refl, sym, ap, ◌∙◌, subst, subst₂}
 use mathlib.Core.Logic.{◌↔◌}
-use mathlib.Core.Bool.{false}
-use mathlib.Core.List.{List, Memᴰ}
+use mathlib.Core.List.{List, [], Memᴰ}
 use Prim.Native.Nat.{ℕ, ◌<◌}
 use native.Mathlib.Omega.{arith}
 use lib.Dec.{T}
 use lib.IntN.{ℤ}
 use borrow.Author.Tests.{ne_eqb}
 use Rattle.base.specs.Sets.{Set}
-use Rattle.base.specs.Limits.{member_bytes}
-use Rattle.base.specs.declared.Verdict.{Verdict}
-use Rattle.base.specs.Found.{Found}
+use Rattle.base.specs.Limits.{outgoing_size}
 use Rattle.base.proofs.Bools.{T→true}
+use Rattle.base.specs.Found.{Found}
 use Rattle.plan.specs.Plan.{Plan}
 use Rattle.plan.specs.Positions.{reading_of}
-use Rattle.packet.specs.declared.Packet.{Packet}
-use Rattle.packet.specs.declared.Exactly.{Exactly}
-use Rattle.packet.specs.Packet.{packet_bytes}
-use Rattle.packet.specs.Reading.{exact_packet}
+use Rattle.message.specs.declared.Message.{Message}
+use Rattle.message.specs.declared.Exactly.{Exactly}
+use Rattle.message.specs.Message.{message_bytes}
+use Rattle.message.specs.Reading.{exact_message}
 use Rattle.level.specs.Level.{Level, no_output}
 use Rattle.journal.specs.declared.Record.{Record}
-use Rattle.journal.specs.declared.Record.TheVariants.{Start}
+use Rattle.journal.specs.declared.Record.TheVariants.{Start, Taken}
 use Rattle.journal.proofs.Records.{holds_records}
-use Rattle.party.specs.Party.{level_at, started}
+use Rattle.party.specs.Party.{Party, new_party, level_at, started, output_of}
 use Rattle.party.specs.Valid.{party_valid}
+use Rattle.party_laws.proofs.Laws.{SameBoard, Formed}
 use Rattle.party_laws.proofs.Calls.{new_level}
-use Rattle.member.specs.Member.{Member, new_member, answer_position, dropped}
-use Rattle.member.specs.Valid.{member_valid}
-use Rattle.member_life.specs.Life.{lived, made_along}
-use Rattle.member_laws.proofs.Laws.{Sized, sized_valid}
-use Rattle.member_bounds.proofs.Laws.{sized_lived}
+use Rattle.party_life.specs.Life.{lived, made_along}
 use Rattle.board_calls.specs.declared.Answer.{Answer}
-use Rattle.board_calls.specs.declared.ClosingRead.{ClosingRead}
 use Rattle.board_calls.specs.Answers.{answer_of}
-use Rattle.board_calls.specs.Calls.{answered_of, closing_read_of, no_member}
+use Rattle.board_calls.specs.Calls.{answered_of, no_party}
 use Rattle.board_calls.specs.Restore.{Replay, restored_of}
 use Rattle.board_laws.proofs.Counts.{answered_valid}
-use Rattle.execution.specs.Machine.{Event, Machine}
+use Rattle.execution.specs.Machine.{Machine}
 use Rattle.execution.specs.History as logs
 use Rattle.execution.specs.History.{log, held}
-use Rattle.vote_machine.proofs.Laws.{Passes}
-use Rattle.log_agreement.proofs.Joint.{Seated}
-use Rattle.closing_machine.specs.Machine.{closing_machine, Sent}
-use Rattle.closing_machine.specs.Inner.{Inv}
-use Rattle.closing_machine.proofs.Laws.{dropped_answer}
-use Rattle.closing_agreement.specs.Logs as closing
-use Rattle.closing_agreement.proofs.States.{invariant, settings}
-use Rattle.closing_agreement.proofs.Logs.{made_sent, sent_made}
-use Rattle.closing_agreement.proofs.Lives.{lived_seated, start_placed, start_entered}
+use Rattle.vote_machine.specs.Machine.{Heard, Sent, vote_machine}
+use Rattle.vote_machine.specs.Inner.{Inv}
+use Rattle.vote_machine.proofs.Laws.{inv_new, inv_lived, le_lived, made_sent, taken_heard, start_entered, start_lived}
 use Rattle.agreement.specs.History.{Instance, History, Stage, waiting, running, down, board_after}
 use Rattle.agreement.specs.Allowed.{Allowed}
-use Rattle.agreement.specs.Demand.{member_by, member_now, answer_now, closing_now, Shared}
-use Rattle.agreement.specs.Inner.{records_of, StartRecorded, RecordsMade}
+use Rattle.agreement.specs.Demand.{party_by, answer_now, Shared}
+use Rattle.agreement.specs.Inner.{records_of, StartRecorded, TakeRecorded, RecordsMade}
 use Rattle.agreement.proofs.Restored.{holds_begins, restored_cut}
 use Rattle.agreement.proofs.Told.{machine_of, told}
-use Rattle.agreement.proofs.Tied.{new_board, Running, AtStage, Tied, board_sized, shared_passes}
+use Rattle.agreement.proofs.Tied.{new_board, Running, AtStage, Tied, plan_valid_lem, settings_pass_lem, board_regular}
 use Rattle.agreement.proofs.Keeps.{tied_read}
-use Rattle.agreement.proofs.Histories.{state_lived, messages_lived, tied}
+use Rattle.agreement.proofs.Histories.{state_lived, tied}
 
--- ---- what a reading gives
+-- ---- answers
 
-pub answered_none : (answered_of no_member).answer ≡ Answer.None
-unfolding answered_of member_valid party_valid
+pub answered_none : (answered_of no_party).answer ≡ Answer.None
+unfolding answered_of party_valid
 answered_none = refl
-
-closing_none : ((closing_read_of no_member).closed ≡ false) × ((closing_read_of no_member).value ≡ Answer.None)
-unfolding closing_read_of member_valid party_valid
-closing_none = (refl, refl)
-
-pub closing_valid_lem : (m : Member) → T (member_valid m)
-    → closing_read_of m ≡ record { verdict = Verdict.Accepted; closed = m.closing.closed; value = answer_of m.party.plan m.closing.value }
-unfolding closing_read_of
-closing_valid_lem m v = rw (T→true (member_valid m) v)
 
 pub answer_none : (plan : Plan) (x : ℕ) → x ≡ no_output → answer_of plan x ≡ Answer.None
 unfolding answer_of
@@ -83,7 +61,7 @@ pub answer_at : (plan : Plan) (x : ℕ) → (x ≡ no_output → ⊥) → answer
 unfolding answer_of
 answer_at plan x d = rw (ne_eqb x no_output d)
 
--- an answer is a position's reading
+-- an answer is an output's reading
 pub answer_reading : (plan : Plan) (x : ℕ) (z : ℤ) → answer_of plan x ≡ Answer.At z → (x ≡ no_output → ⊥) × (reading_of plan x ≡ z)
 answer_reading plan x z e = (there, same)
   where
@@ -93,117 +71,76 @@ answer_reading plan x z e = (there, same)
     same : reading_of plan x ≡ z
     same = let f : Answer.At (reading_of plan x) ≡ Answer.At z = sym (answer_at plan x there) ∙ e in cc
 
--- a board that is set up has no answer
-new_answer : (n t own a : ℕ) (plan : Plan) → answer_position (new_member n t own a plan) ≡ no_output
-new_answer n t own a plan = ap (λ (l : Level). l.output) (new_level n t own a plan 0 (omega arith))
+-- a party that has not started has none
+new_output : (n t own a : ℕ) (plan : Plan) → output_of (lived (new_party n t own a plan) []).party ≡ no_output
+unfolding lived
+new_output n t own a plan = ap (λ (l : Level). l.output) (new_level n t own a plan 0 (omega arith))
 
 -- ---- the state that a board's log gives
 
-abbrev pub state_of : Instance → Plan → History → ℕ → Member
+abbrev pub state_of : Instance → Plan → History → ℕ → Party
 state_of v plan h i = logs.after (machine_of v plan) i (log (machine_of v plan) i (told v plan h))
 
 module _ (v : Instance) (plan : Plan) (bad : Set) (f : Shared v plan) where
   abbrev M : Machine
-  M = closing_machine v.n v.t v.agreement plan
-
-  abbrev passes : Passes v.n v.t plan
-  passes = shared_passes v plan f
+  M = vote_machine v.n v.t v.agreement plan
 
   module _ (h : History) (a : Allowed v bad h) (i : ℕ) (k : i < v.n) where
     abbrev w : Tied v plan i (board_after h i) (log (machine_of v plan) i (told v plan h)) (held (machine_of v plan) i (told v plan h))
     w = tied v plan bad f h a i k
 
-    abbrev new : Member
-    new = new_board v plan i
+    abbrev p : Party
+    p = new_board v plan i
 
-    abbrev left : Member
-    left = dropped (state_of v plan h i)
-
-    pub state_inv : Inv (state_of v plan h i)
-    state_inv = invariant v.n v.t v.agreement plan passes i (log M i (told v plan h))
-
-    -- its settings and plan are those of the vote
-    pub state_seated : Seated v.n v.t v.agreement plan (state_of v plan h i).party
-    state_seated = settings v.n v.t v.agreement plan passes i (log M i (told v plan h))
-
-    -- what is left of it is the board of the records
-    pub state_records : dropped (state_of v plan h i) ≡ (lived (new_board v plan i) (tied v plan bad f h a i k).records).member
+    -- it is the party of the board's records
+    pub state_records : state_of v plan h i ≡ (lived (new_board v plan i) (tied v plan bad f h a i k).records).party
     state_records = state_lived v plan bad f i k (board_after h i) (log M i (told v plan h)) (held M i (told v plan h)) w
 
-    pub left_seated : Seated v.n v.t v.agreement plan (dropped (state_of v plan h i)).party
-    left_seated = subst (λ (q : Member). Seated v.n v.t v.agreement plan q.party) (sym state_records) (lived_seated v.n v.t v.agreement plan passes i k w.records w.life)
-
-    -- which passes question 19
-    pub left_sized : Sized (dropped (state_of v plan h i))
-    left_sized = subst Sized (sym state_records) (sized_lived new (board_sized v plan f i k) w.records w.life)
-
-    pub left_valid : T (member_valid (dropped (state_of v plan h i)))
-    left_valid = sized_valid left left_sized
-
-    -- ---- the record that a reading is asked of
-
-    -- a running board's record is what is left
-    pub running_state : (board_after h i).stage ≡ running → (board_after h i).member ≡ dropped (state_of v plan h i)
+    -- a running board's party is it
+    pub running_state : (board_after h i).stage ≡ running → (board_after h i).party ≡ state_of v plan h i
     running_state up =
         let u : Running v plan i (board_after h i) w.records = subst (AtStage v plan i (board_after h i) w.records) up w.stage in
-        u.member ∙ sym state_records
+        u.party ∙ sym state_records
 
-    -- and a cut board's, once restored
-    pub down_state : member_by v i (board_after h i) down ≡ dropped (state_of v plan h i)
+    pub state_inv : Inv (state_of v plan h i)
+    state_inv =
+        subst Inv (sym state_records)
+        (inv_lived p (inv_new v.n v.t i v.agreement plan (settings_pass_lem v plan f i k) (plan_valid_lem v plan f i k)) w.records w.life)
+
+    pub state_formed : Formed (state_of v plan h i)
+    state_formed = state_inv.regular.formed
+
+    -- its settings and plan are those of the vote
+    pub state_board : SameBoard (new_board v plan i) (state_of v plan h i)
+    state_board = subst (SameBoard p) (sym state_records) (le_lived p (board_regular v plan f i k) w.records w.life).board
+
+    pub state_plan : (state_of v plan h i).plan ≡ plan
+    state_plan = state_board.plan
+
+    -- a party that it is
+    pub state_answer : (q : Party) → q ≡ state_of v plan h i → (answered_of q).answer ≡ answer_of plan (output_of (state_of v plan h i))
+    state_answer q e =
+        ap (λ (y : Party). (answered_of y).answer) e
+        ∙ answered_valid (state_of v plan h i) state_formed.valid
+        ∙ ap (λ (y : Plan). answer_of y (output_of (state_of v plan h i))) state_plan
+
+    -- a cut board's party, once restored, is it
+    pub down_state : party_by v i (board_after h i) down ≡ state_of v plan h i
     down_state =
-        ap (λ (q : Found Replay). (restored_of q).member) (restored_cut v.n v.t i v.agreement v.plan plan f.boards f.faults k f.reads w.records w.life (board_after h i).journal (holds_begins w.holds) member_bytes (omega arith))
+        ap (λ (q : Found Replay). (restored_of q).party) (restored_cut v.n v.t i v.agreement v.plan plan f.boards f.faults k f.reads w.records w.life (board_after h i).journal (holds_begins w.holds) outgoing_size (omega arith))
         ∙ sym state_records
 
-    -- once it is set up
-    pub member_now_lem : ((board_after h i).stage ≡ waiting → ⊥) → member_now v h i ≡ dropped (state_of v plan h i)
-    member_now_lem there = go (board_after h i).stage there w.stage
+    -- the party that reading is asked of is that of the board's log; a board not set up has no answer, as its log has none
+    pub answer_now_lem : answer_now v h i ≡ answer_of plan (output_of (state_of v plan h i))
+    answer_now_lem = go (board_after h i).stage w.stage
       where
-        go : (s : Stage) → (s ≡ waiting → ⊥) → AtStage v plan i (board_after h i) w.records s → member_by v i (board_after h i) s ≡ left
-        go waiting d e = absurd (d refl)
-        go running d u = u.member ∙ sym state_records
-        go down d _ = down_state
-
-    -- what is read is what it gives of what is left, if a board that is not set up gives what one that is does
-    read_now : {A : Type 0} (get : Member → A) → get no_member ≡ get (new_board v plan i) → get (member_now v h i) ≡ get (dropped (state_of v plan h i))
-    unfolding lived
-    read_now get e = go (board_after h i).stage w.stage
-      where
-        go : (s : Stage) → AtStage v plan i (board_after h i) w.records s → get (member_by v i (board_after h i) s) ≡ get left
-        go waiting d = e ∙ ap get (sym (state_records ∙ ap (λ (rs : List Record). (lived new rs).member) d))
-        go running u = ap get (u.member ∙ sym state_records)
-        go down _ = ap get down_state
-
-    new_valid : T (member_valid (new_board v plan i))
-    new_valid = sized_valid new (board_sized v plan f i k)
-
-    -- ---- answers and closing values
-
-    -- of a record that is left
-    pub state_answer : (q : Member) → q ≡ dropped (state_of v plan h i) → (answered_of q).answer ≡ answer_of plan (answer_position (state_of v plan h i))
-    state_answer q e =
-        ap (λ (y : Member). (answered_of y).answer) e
-        ∙ answered_valid left left_valid
-        ∙ (λ z. answer_of (left_seated.on z) (dropped_answer (state_of v plan h i) z))
-
-    pub answer_now_lem : answer_now v h i ≡ answer_of plan (answer_position (state_of v plan h i))
-    answer_now_lem =
-        read_now (λ q. (answered_of q).answer)
-        (answered_none ∙ sym (answered_valid new new_valid ∙ answer_none plan (answer_position new) (new_answer v.n v.t i v.agreement plan)))
-        ∙ state_answer left refl
-
-    pub closed_now : (closing_now v h i).closed ≡ (state_of v plan h i).closing.closed
-    unfolding dropped
-    closed_now =
-        read_now (λ q. (closing_read_of q).closed) (closing_none.0 ∙ sym (ap (λ (r : ClosingRead). r.closed) (closing_valid_lem new new_valid)))
-        ∙ ap (λ (r : ClosingRead). r.closed) (closing_valid_lem left left_valid)
-
-    pub value_now : (closing_now v h i).value ≡ answer_of plan (state_of v plan h i).closing.value
-    unfolding dropped
-    value_now =
-        read_now (λ q. (closing_read_of q).value)
-        (closing_none.1 ∙ sym (ap (λ (r : ClosingRead). r.value) (closing_valid_lem new new_valid) ∙ answer_none plan no_output refl))
-        ∙ ap (λ (r : ClosingRead). r.value) (closing_valid_lem left left_valid)
-        ∙ ap (λ (y : Plan). answer_of y (state_of v plan h i).closing.value) left_seated.on
+        go : (s : Stage) → AtStage v plan i (board_after h i) w.records s → (answered_of (party_by v i (board_after h i) s)).answer ≡ answer_of plan (output_of (state_of v plan h i))
+        go waiting e =
+            answered_none
+            ∙ sym (answer_none plan (output_of (state_of v plan h i))
+            (ap output_of (state_records ∙ ap (λ (rs : List Record). (lived p rs).party) e) ∙ new_output v.n v.t i v.agreement plan))
+        go running r = state_answer (board_after h i).party (r.party ∙ sym state_records)
+        go down _ = state_answer (party_by v i (board_after h i) down) down_state
 
     -- ---- what its records tell
 
@@ -211,31 +148,29 @@ module _ (v : Instance) (plan : Plan) (bad : Set) (f : Shared v plan) where
     records_of_lem = holds_records w.holds
 
     -- it started at x: it has entered level 0 there
-    pub started_state : (x : ℕ) → StartRecorded h i x ↔ (T (started (state_of v plan h i).party) × ((level_at (state_of v plan h i).party 0).position ≡ x))
+    pub started_state : (x : ℕ) → StartRecorded h i x ↔ (T (started (state_of v plan h i)) × ((level_at (state_of v plan h i) 0).position ≡ x))
     started_state x =
-        subst₂ (λ (l : List (Event Packet ℕ)) (rs : List Record).
-        ((b : ℕ) × Memᴰ (Start b x) rs) ↔ (T (started (logs.after M i l).party) × ((level_at (logs.after M i l).party 0).position ≡ x))) (sym w.events) (sym records_of_lem)
-        (start_entered v.n v.t v.agreement plan passes i k w.records w.life x)
+        subst₂ (λ (q : Party) (rs : List Record). ((b : ℕ) × Memᴰ (Start b x) rs) ↔ (T (started q) × ((level_at q 0).position ≡ x))) (sym state_records) (sym records_of_lem)
+        (start_entered v.n v.t i v.agreement plan (settings_pass_lem v plan f i k) (plan_valid_lem v plan f i k) w.records w.life x)
 
     -- which is a position of the plan
     pub started_position : (x : ℕ) → StartRecorded h i x → x < plan.count
     started_position x (b, m) =
-        (start_placed v.n v.t v.agreement plan passes i k w.records w.life b x (subst (λ (rs : List Record). Memᴰ (Start b x) rs) records_of_lem m)).1
+        (start_lived p (board_regular v plan f i k) w.records w.life b x (subst (λ (rs : List Record). Memᴰ (Start b x) rs) records_of_lem m)).1
 
-    -- its calls made p
-    pub makes_log : made_along (new_board v plan i) (records_of h i) ≡ closing.messages_by v.n v.t v.agreement plan i (log (machine_of v plan) i (told v plan h))
-    makes_log =
-        ap (made_along new) records_of_lem
-        ∙ sym (messages_lived v plan bad f i k (board_after h i) (log M i (told v plan h)) (held M i (told v plan h)) w)
+    -- it took m from board j: it has heard it
+    pub took_state : (j : ℕ) (m : Message) → TakeRecorded h i j m ↔ Heard (state_of v plan h i) j m
+    took_state j m =
+        subst₂ (λ (q : Party) (rs : List Record). Memᴰ (Taken j m) rs ↔ Heard q j m) (sym state_records) (sym records_of_lem)
+        (taken_heard v.n v.t i v.agreement plan (settings_pass_lem v plan f i k) (plan_valid_lem v plan f i k) w.records w.life j m)
 
-    pub makes_state : (p : Packet) → RecordsMade v plan h i p ↔ Sent (state_of v plan h i) p
-    makes_state p =
-        let l : List (Event Packet ℕ) = log M i (told v plan h) in
-        subst (λ (ps : List Packet). Memᴰ p ps ↔ Sent (state_of v plan h i) p) (sym makes_log)
-        (made_sent v.n v.t v.agreement plan passes i l p, sent_made v.n v.t v.agreement plan passes i l p)
+    -- its calls made m
+    pub makes_state : (m : Message) → RecordsMade v plan h i m ↔ Sent (state_of v plan h i) m
+    makes_state m =
+        subst₂ (λ (q : Party) (rs : List Record). Memᴰ m (made_along (new_board v plan i) rs) ↔ Sent q m) (sym state_records) (sym records_of_lem)
+        (made_sent v.n v.t i v.agreement plan (settings_pass_lem v plan f i k) (plan_valid_lem v plan f i k) w.records w.life m)
 
     -- reading a made message's bytes gives it
-    pub made_read : (p : Packet) → RecordsMade v plan h i p → exact_packet (packet_bytes p) ≡ Exactly.One p
-    made_read p x =
-        tied_read v plan f i k (board_after h i) (log M i (told v plan h)) (held M i (told v plan h)) w p
-        (subst (λ (rs : List Record). Memᴰ p (made_along new rs)) records_of_lem x)
+    pub sent_read : (m : Message) → Sent (state_of v plan h i) m → exact_message (message_bytes m) ≡ Exactly.One m
+    sent_read m s =
+        tied_read v plan f i k (board_after h i) (log M i (told v plan h)) (held M i (told v plan h)) w m (subst (λ (q : Party). Sent q m) state_records s)

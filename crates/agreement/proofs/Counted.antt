@@ -1,5 +1,5 @@
--- The calls that count, beside the records of the board's journal: each wrote one of them, or took a message that needed none.
-use mathlib.Core.Path.{◌≡◌, refl, sym, ap, ◌∙◌, subst, subst₂}
+-- The calls that count, beside the records of the board's journal: each wrote one of them, or took a message that one of them has.
+use mathlib.Core.Path.{◌≡◌, refl, sym, ap, ◌∙◌, subst}
 use mathlib.Core.Logic.{◌⊎◌, inl, inr}
 use mathlib.Core.Bool.{Bool, true, false, not}
 use mathlib.Core.List.Memᴰ
@@ -11,50 +11,44 @@ use lib.Dec.{T, leb}
 use lib.ListN.{length, drop}
 use Rattle.base.specs.Pick.{pick}
 use Rattle.plan.specs.Plan.{Plan}
-use Rattle.packet.specs.declared.Packet.{Packet}
-use Rattle.packet.specs.declared.Exactly.{Exactly}
+use Rattle.message.specs.declared.Message.{Message}
+use Rattle.message.specs.declared.Exactly.{Exactly}
 use Rattle.level.specs.Level.{no_output}
 use Rattle.journal.specs.declared.Record.{Record}
 use Rattle.journal.specs.declared.Record.TheVariants.{Start, Taken}
 use Rattle.journal.specs.Records.{journal_bytes}
 use Rattle.journal.proofs.Records.{journal_length}
-use Rattle.member.specs.Member.{Member, idle}
-use Rattle.member_life.specs.Life.{replayed, lived, made_along}
+use Rattle.party.specs.Party.{Party}
+use Rattle.party_life.specs.Life.{replayed, lived, made_along}
 use Rattle.board_calls.specs.Answers.{position_of}
 use Rattle.agreement.specs.History.{StartInput, voted_input, Act, a_start, a_take, Counted, kept_calls}
 
--- a call of this kind writes this record
-abbrev pub Writes : Plan → Act → Record → Type 0
-Writes plan (a_start x input) r = (a : ℕ) × (Start a x ≡ r) × (position_of plan (voted_input input) ≡ x) × (x ≡ no_output → ⊥)
-Writes plan (a_take s e) r = (m : Packet) × (e ≡ Exactly.One m) × (Taken s m ≡ r)
+-- the record of a call
+abbrev pub Says : Plan → Act → Record → Type 0
+Says plan (a_start x input) r = (a : ℕ) × (Start a x ≡ r) × (position_of plan (voted_input input) ≡ x) × (x ≡ no_output → ⊥)
+Says plan (a_take s e) r = (m : Message) × (e ≡ Exactly.One m) × (Taken s m ≡ r)
 
--- the call wrote the newest of the records rs, where `older` were there before, from the member p on
-pub record Wrote (plan : Plan) (p : Member) (c : Counted) (rs older : List Record) : Type 0 where
+-- the call wrote the newest of the records rs, where `older` were there before, from the party p on
+pub record Wrote (plan : Plan) (p : Party) (c : Counted) (rs older : List Record) : Type 0 where
   pub newest : Record
   pub records : rs ≡ newest ∷ older
-  pub writes : Writes plan c.act newest
-  pub made : c.made ≡ (replayed (lived p older).member newest).made
+  pub says : Says plan c.act newest
+  pub made : c.made ≡ (replayed (lived p older).party newest).made
   pub used : c.used ≡ length (journal_bytes rs)
 
--- the call wrote none: it took a message that, after the records rs, needs none
-pub record WroteNone (p : Member) (c : Counted) (rs : List Record) : Type 0 where
+-- the call wrote none: it took a message that one of the records has
+pub record Repeats (c : Counted) (rs : List Record) : Type 0 where
   pub sender : ℕ
-  pub message : Packet
+  pub message : Message
   pub act : c.act ≡ a_take sender (Exactly.One message)
-  pub spare : T (idle (lived p rs).member sender message)
+  pub held : Memᴰ (Taken sender message) rs
   pub made : c.made ≡ []
   pub used : c.used ≡ length (journal_bytes rs)
 
 -- the calls beside the records, the latest first in both
-abbrev pub Follows : Plan → Member → List Counted → List Record → Type 0
+abbrev pub Follows : Plan → Party → List Counted → List Record → Type 0
 Follows plan p [] rs = rs ≡ []
-Follows plan p (c ∷ cs) rs = (WroteNone p c rs × Follows plan p cs rs) ⊎ ((older : List Record) × Wrote plan p c rs older × Follows plan p cs older)
-
--- what is among the oldest is there
-pub of_drop : {A : Type 0} (y : A) (d : ℕ) (l : List A) → Memᴰ y (drop d l) → Memᴰ y l
-of_drop y zero l h = h
-of_drop y (suc d) [] h = h
-of_drop y (suc d) (z ∷ l) h = Memᴰ.tail (of_drop y d l h)
+Follows plan p (c ∷ cs) rs = (Repeats c rs × Follows plan p cs rs) ⊎ ((older : List Record) × Wrote plan p c rs older × Follows plan p cs older)
 
 -- ---- a cut
 
@@ -63,7 +57,7 @@ drop_none rs zero e = e
 drop_none rs (suc d) e = ap (drop (suc d)) e
 
 -- the records that a cut leaves are those of the calls that still count
-pub cut_follows : (plan : Plan) (p : Member) (k : ℕ) (cs : List Counted) (rs : List Record) → Follows plan p cs rs → (d : ℕ) → length (journal_bytes (drop d rs)) ≤ k
+pub cut_follows : (plan : Plan) (p : Party) (k : ℕ) (cs : List Counted) (rs : List Record) → Follows plan p cs rs → (d : ℕ) → length (journal_bytes (drop d rs)) ≤ k
     → ((e : ℕ) → length (journal_bytes (drop e rs)) ≤ k → d ≤ e) → Follows plan p (kept_calls k cs) (drop d rs)
 unfolding kept_calls
 cut_follows plan p k [] rs w d l m = drop_none rs d w
@@ -96,97 +90,62 @@ cut_follows plan p k (c ∷ cs) rs (inr (older, x, w)) d l m = go (leb c.used k)
 
 -- ---- what the calls and the records tell of each other
 
-module _ (plan : Plan) (p : Member) where
-  -- what a call that counts was, by the records of its moment, which are the oldest of rs
-  pub record Moment (c : Counted) (rs : List Record) : Type 0 where
-    pub newer : ℕ
-    pub was : WroteNone p c (drop newer rs) ⊎ ((older : List Record) × Wrote plan p c (drop newer rs) older)
-
-  pub moment_of : (cs : List Counted) (rs : List Record) → Follows plan p cs rs → (c : Counted) → Memᴰ c cs → Moment c rs
-  moment_of [] rs w c m = absurd (Memᴰ.not-nil m)
-  moment_of (d ∷ cs) rs (inl (x, w)) c m = go (moment_of cs rs w c) (Memᴰ.cases_cons m)
+module _ (plan : Plan) (p : Party) where
+  -- a call that counts has its record
+  pub record_of : (cs : List Counted) (rs : List Record) → Follows plan p cs rs → (c : Counted) → Memᴰ c cs → (r : Record) × Memᴰ r rs × Says plan c.act r
+  record_of [] rs w c m = absurd (Memᴰ.not-nil m)
+  record_of (d ∷ cs) rs (inl (x, w)) c m = go (record_of cs rs w c) (Memᴰ.cases_cons m)
     where
-      go : (Memᴰ c cs → Moment c rs) → (c ≡ d) ⊎ Memᴰ c cs → Moment c rs
-      go ih (inl e) = record { newer = 0; was = inl (subst (λ (y : Counted). WroteNone p y rs) (sym e) x) }
+      go : (Memᴰ c cs → (r : Record) × Memᴰ r rs × Says plan c.act r) → (c ≡ d) ⊎ Memᴰ c cs → (r : Record) × Memᴰ r rs × Says plan c.act r
+      go ih (inl e) = (
+        Taken x.sender x.message,
+        x.held,
+        subst (λ (y : Act). Says plan y (Taken x.sender x.message)) (sym x.act ∙ ap (λ (y : Counted). y.act) (sym e)) (x.message, refl, refl),
+      )
       go ih (inr n) = ih n
-  moment_of (d ∷ cs) rs (inr (older, x, w)) c m = go (moment_of cs older w c) (Memᴰ.cases_cons m)
+  record_of (d ∷ cs) rs (inr (older, x, w)) c m = go (record_of cs older w c) (Memᴰ.cases_cons m)
     where
-      go : (Memᴰ c cs → Moment c older) → (c ≡ d) ⊎ Memᴰ c cs → Moment c rs
-      go ih (inl e) = record { newer = 0; was = inr (older, subst (λ (y : Counted). Wrote plan p y rs older) (sym e) x) }
-      go ih (inr n) = let y = ih n in subst (Moment c) (sym x.records) (record { newer = suc y.newer; was = y.was })
-
-  newest_in : {c : Counted} {rs : List Record} (y : Moment c rs) (older : List Record) (z : Wrote plan p c (drop y.newer rs) older) → Memᴰ z.newest rs
-  newest_in {rs = rs} y older z =
-      of_drop z.newest y.newer rs (subst (λ (ts : List Record). Memᴰ z.newest ts) (sym z.records) (Memᴰ.head refl))
-
-  -- a start that counts has its record
-  pub start_record_lem : (cs : List Counted) (rs : List Record) → Follows plan p cs rs → (c : Counted) → Memᴰ c cs → (x : ℕ) (input : StartInput) → c.act ≡ a_start x input
-      → (r : Record) × Memᴰ r rs × Writes plan (a_start x input) r
-  start_record_lem cs rs w c m x input e = go y.was
-    where
-      y : Moment c rs
-      y = moment_of cs rs w c m
-
-      go : WroteNone p c (drop y.newer rs) ⊎ ((older : List Record) × Wrote plan p c (drop y.newer rs) older) → (r : Record) × Memᴰ r rs × Writes plan (a_start x input) r
-      go (inl z) =
-          let i : a_take z.sender (Exactly.One z.message) ≡ a_start x input = sym z.act ∙ e in
-          let o : ◌≡◌ {A = ℕ} 0 1 = cc in absurd (omega arith)
-      go (inr (older, z)) = (z.newest, newest_in y older z, subst (λ (k : Act). Writes plan k z.newest) e z.writes)
-
-  -- a take that counts has its record, or after the oldest records its message needed none
-  pub take_record : (cs : List Counted) (rs : List Record) → Follows plan p cs rs → (c : Counted) → Memᴰ c cs → (s : ℕ) (m : Packet) → c.act ≡ a_take s (Exactly.One m)
-      → Memᴰ (Taken s m) rs ⊎ ((d : ℕ) × T (idle (lived p (drop d rs)).member s m))
-  take_record cs rs w c k s m e = go y.was
-    where
-      y : Moment c rs
-      y = moment_of cs rs w c k
-
-      go : WroteNone p c (drop y.newer rs) ⊎ ((older : List Record) × Wrote plan p c (drop y.newer rs) older)
-          → Memᴰ (Taken s m) rs ⊎ ((d : ℕ) × T (idle (lived p (drop d rs)).member s m))
-      go (inl z) =
-          let i : a_take z.sender (Exactly.One z.message) ≡ a_take s (Exactly.One m) = sym z.act ∙ e in
-          let j : z.sender ≡ s = cc in
-          let n : z.message ≡ m = cc in
-          inr (y.newer, subst₂ (λ (u : ℕ) (q : Packet). T (idle (lived p (drop y.newer rs)).member u q)) j n z.spare)
-      go (inr (older, z)) =
-          let t : Writes plan (a_take s (Exactly.One m)) z.newest = subst (λ (q : Act). Writes plan q z.newest) e z.writes in
-          let i : Exactly.One m ≡ Exactly.One t.0 = t.1 in
-          let n : m ≡ t.0 = cc in
-          inl (subst (λ (r : Record). Memᴰ r rs) (sym (ap (Taken s) n ∙ t.2)) (newest_in y older z))
+      go : (Memᴰ c cs → (r : Record) × Memᴰ r older × Says plan c.act r) → (c ≡ d) ⊎ Memᴰ c cs → (r : Record) × Memᴰ r rs × Says plan c.act r
+      go ih (inl e) = (
+        x.newest,
+        subst (λ (ts : List Record). Memᴰ x.newest ts) (sym x.records) (Memᴰ.head refl),
+        subst (λ (y : Counted). Says plan y.act x.newest) (sym e) x.says,
+      )
+      go ih (inr n) = let y = ih n in (y.0, subst (λ (ts : List Record). Memᴰ y.0 ts) (sym x.records) (Memᴰ.tail y.1), y.2)
 
   -- a record was written by a call that counts
-  pub call_of : (cs : List Counted) (rs : List Record) → Follows plan p cs rs → (r : Record) → Memᴰ r rs → (c : Counted) × Memᴰ c cs × Writes plan c.act r
+  pub call_of : (cs : List Counted) (rs : List Record) → Follows plan p cs rs → (r : Record) → Memᴰ r rs → (c : Counted) × Memᴰ c cs × Says plan c.act r
   call_of [] rs w r m = absurd (Memᴰ.not-nil (subst (λ (ts : List Record). Memᴰ r ts) w m))
   call_of (d ∷ cs) rs (inl (x, w)) r m = let y = call_of cs rs w r m in (y.0, Memᴰ.tail y.1, y.2)
   call_of (d ∷ cs) rs (inr (older, x, w)) r m =
       go (call_of cs older w r) (Memᴰ.cases_cons (subst (λ (ts : List Record). Memᴰ r ts) x.records m))
     where
-      go : (Memᴰ r older → (c : Counted) × Memᴰ c cs × Writes plan c.act r) → (r ≡ x.newest) ⊎ Memᴰ r older
-          → (c : Counted) × Memᴰ c (d ∷ cs) × Writes plan c.act r
-      go ih (inl e) = (d, Memᴰ.head refl, subst (Writes plan d.act) (sym e) x.writes)
+      go : (Memᴰ r older → (c : Counted) × Memᴰ c cs × Says plan c.act r) → (r ≡ x.newest) ⊎ Memᴰ r older
+          → (c : Counted) × Memᴰ c (d ∷ cs) × Says plan c.act r
+      go ih (inl e) = (d, Memᴰ.head refl, subst (Says plan d.act) (sym e) x.says)
       go ih (inr n) = let y = ih n in (y.0, Memᴰ.tail y.1, y.2)
 
   -- what the calls made is what the records' calls make
-  pub made_along_lem : (cs : List Counted) (rs : List Record) → Follows plan p cs rs → (c : Counted) → Memᴰ c cs → (m : Packet) → Memᴰ m c.made
+  pub made_along_lem : (cs : List Counted) (rs : List Record) → Follows plan p cs rs → (c : Counted) → Memᴰ c cs → (m : Message) → Memᴰ m c.made
       → Memᴰ m (made_along p rs)
   unfolding lived
   made_along_lem [] rs w c k m n = absurd (Memᴰ.not-nil k)
   made_along_lem (d ∷ cs) rs (inl (x, w)) c k m n = go (made_along_lem cs rs w c) (Memᴰ.cases_cons k)
     where
-      go : (Memᴰ c cs → (m : Packet) → Memᴰ m c.made → Memᴰ m (made_along p rs)) → (c ≡ d) ⊎ Memᴰ c cs → Memᴰ m (made_along p rs)
-      go ih (inl e) = absurd (Memᴰ.not-nil (subst (λ (l : List Packet). Memᴰ m l) (ap (λ (y : Counted). y.made) e ∙ x.made) n))
+      go : (Memᴰ c cs → (m : Message) → Memᴰ m c.made → Memᴰ m (made_along p rs)) → (c ≡ d) ⊎ Memᴰ c cs → Memᴰ m (made_along p rs)
+      go ih (inl e) = absurd (Memᴰ.not-nil (subst (λ (l : List Message). Memᴰ m l) (ap (λ (y : Counted). y.made) e ∙ x.made) n))
       go ih (inr y) = ih y m n
   made_along_lem (d ∷ cs) rs (inr (older, x, w)) c k m n = go (made_along_lem cs older w c) (Memᴰ.cases_cons k)
     where
-      go : (Memᴰ c cs → (m : Packet) → Memᴰ m c.made → Memᴰ m (made_along p older)) → (c ≡ d) ⊎ Memᴰ c cs → Memᴰ m (made_along p rs)
+      go : (Memᴰ c cs → (m : Message) → Memᴰ m c.made → Memᴰ m (made_along p older)) → (c ≡ d) ⊎ Memᴰ c cs → Memᴰ m (made_along p rs)
       go ih (inl e) =
           subst (λ (ts : List Record). Memᴰ m (made_along p ts)) (sym x.records)
-          (Memᴰ.append_right (made_along p older) (subst (λ (l : List Packet). Memᴰ m l) (ap (λ (y : Counted). y.made) e ∙ x.made) n))
+          (Memᴰ.append_right (made_along p older) (subst (λ (l : List Message). Memᴰ m l) (ap (λ (y : Counted). y.made) e ∙ x.made) n))
       go ih (inr y) =
           subst (λ (ts : List Record). Memᴰ m (made_along p ts)) (sym x.records)
-          (Memᴰ.append_left (replayed (lived p older).member x.newest).made (ih y m n))
+          (Memᴰ.append_left (replayed (lived p older).party x.newest).made (ih y m n))
 
-  pub made_by : (cs : List Counted) (rs : List Record) → Follows plan p cs rs → (m : Packet) → Memᴰ m (made_along p rs)
+  pub made_by : (cs : List Counted) (rs : List Record) → Follows plan p cs rs → (m : Message) → Memᴰ m (made_along p rs)
       → (c : Counted) × Memᴰ c cs × Memᴰ m c.made
   unfolding lived
   made_by [] rs w m k = absurd (Memᴰ.not-nil (subst (λ (ts : List Record). Memᴰ m (made_along p ts)) w k))
@@ -195,10 +154,10 @@ module _ (plan : Plan) (p : Member) where
       go (made_by cs older w m) (Memᴰ.append_cases (made_along p older) (subst (λ (ts : List Record). Memᴰ m (made_along p ts)) x.records k))
     where
       go : (Memᴰ m (made_along p older) → (c : Counted) × Memᴰ c cs × Memᴰ m c.made)
-          → Memᴰ m (made_along p older) ⊎ Memᴰ m (replayed (lived p older).member x.newest).made
+          → Memᴰ m (made_along p older) ⊎ Memᴰ m (replayed (lived p older).party x.newest).made
           → (c : Counted) × Memᴰ c (d ∷ cs) × Memᴰ m c.made
       go ih (inl n) = let y = ih n in (y.0, Memᴰ.tail y.1, y.2)
-      go ih (inr n) = (d, Memᴰ.head refl, subst (λ (l : List Packet). Memᴰ m l) (sym x.made) n)
+      go ih (inr n) = (d, Memᴰ.head refl, subst (λ (l : List Message). Memᴰ m l) (sym x.made) n)
 
   -- ---- by what they were
 
@@ -207,16 +166,16 @@ module _ (plan : Plan) (p : Member) where
   is_start (Taken s m) = false
 
   -- a record of a start is a start's
-  pub writes_start : (a : Act) (b x : ℕ) → Writes plan a (Start b x) → (input : StartInput) × (a ≡ a_start x input) × (position_of plan (voted_input input) ≡ x) × (x ≡ no_output → ⊥)
-  writes_start (a_start y input) b x (c, e, at, on) =
+  pub says_start : (a : Act) (b x : ℕ) → Says plan a (Start b x) → (input : StartInput) × (a ≡ a_start x input) × (position_of plan (voted_input input) ≡ x) × (x ≡ no_output → ⊥)
+  says_start (a_start y input) b x (c, e, at, on) =
       let i : y ≡ x = cc in
       (input, ap (λ (k : ℕ). a_start k input) i, at ∙ i, λ n. on (i ∙ n))
-  writes_start (a_take s e) b x (m, i, j) = absurd (subst (λ (r : Record). T (not (is_start r))) j tt)
+  says_start (a_take s e) b x (m, i, j) = absurd (subst (λ (r : Record). T (not (is_start r))) j tt)
 
   -- a record of a message taken is that take's
-  pub writes_take : (a : Act) (s : ℕ) (m : Packet) → Writes plan a (Taken s m) → a ≡ a_take s (Exactly.One m)
-  writes_take (a_start y input) s m (c, e, at, on) = absurd (subst (λ (r : Record). T (is_start r)) e tt)
-  writes_take (a_take t e) s m (n, i, j) =
+  pub says_take : (a : Act) (s : ℕ) (m : Message) → Says plan a (Taken s m) → a ≡ a_take s (Exactly.One m)
+  says_take (a_start y input) s m (c, e, at, on) = absurd (subst (λ (r : Record). T (is_start r)) e tt)
+  says_take (a_take t e) s m (n, i, j) =
       let k : t ≡ s = cc in
       let l : n ≡ m = cc in
-      (λ z. a_take (k z) (i z)) ∙ ap (λ (y : Packet). a_take s (Exactly.One y)) l
+      (λ z. a_take (k z) (i z)) ∙ ap (λ (y : Message). a_take s (Exactly.One y)) l

@@ -10,61 +10,63 @@ use lib.IntN.{ℤ}
 use lib.ListN.{length}
 use Rattle.base.specs.Pick.{pick}
 use Rattle.base.specs.Sets.{Set}
-use Rattle.base.proofs.Bools.{true→T}
+use Rattle.base.specs.Limits.{last_level}
+use Rattle.base.proofs.Bools.{T-right, T_and, true→T}
 use Rattle.base.specs.declared.Verdict.{Verdict}
 use Rattle.base.specs.Found.{Found, found, refused, ask}
 use Rattle.plan.specs.Plan.{Plan}
 use Rattle.plan.proofs.Listed.{asked}
-use Rattle.packet.specs.declared.Packet.{Packet}
-use Rattle.packet.specs.declared.Exactly.{Exactly}
-use Rattle.packet.specs.Reading.{exact_packet}
-use Rattle.packet.specs.Packet.{number_of}
-use Rattle.level.specs.Level.{no_output}
+use Rattle.message.specs.declared.Message.{Message}
+use Rattle.message.specs.declared.Exactly.{Exactly}
+use Rattle.message.specs.Message.{body_in_table}
+use Rattle.message.specs.Reading.{exact_message}
+use Rattle.senders.specs.Senders.{is_in}
+use Rattle.level.specs.Level.{no_output, senders, held}
 use Rattle.journal.specs.declared.Record.{Record}
 use Rattle.journal.specs.declared.Record.TheVariants.{Start, Taken}
 use Rattle.journal.specs.Journal.{record_bytes}
 use Rattle.journal.specs.Records.{journal_bytes}
 use Rattle.journal.specs.Reading.{records_from}
 use Rattle.journal.proofs.Records.{journal_length}
-use Rattle.member.specs.Member.{Member, started, idle}
-use Rattle.member.specs.Run.{MemberRan, starting, taking}
-use Rattle.member_life.specs.Life.{replayed}
+use Rattle.party.specs.Party.{Party, level_at, started, held_by}
+use Rattle.party.specs.Run.{Ran, starting, taking}
+use Rattle.party_life.specs.Life.{replayed}
 use Rattle.board_calls.specs.declared.Answer.{Answer}
 use Rattle.board_calls.specs.Answers.{position_of}
-use Rattle.board_calls.specs.Calls.{Entry, again, fresh, fitting, set_up_of, start_questions, take_packet, take_questions, answered_of}
+use Rattle.board_calls.specs.Calls.{Entry, again, fresh, fitting, set_up_of, start_questions, take_message, take_questions, answered_of}
 use Rattle.board_calls.specs.Restore.{Replay}
-use Rattle.agreement.specs.History.{Instance, Lent, StartInput, voted_input, Call, set_up, start, take_message, read_answer, read_count, restore, start_finds, take_finds, restore_finds, read_as_count, Step, calls, hands, cut, whose, History, Stage, waiting, running, down, a_start, a_take, Counted, Board, after_set_up, after_answer, after_restore, cut_off, after_cut, board_after}
+use Rattle.vote_machine.specs.Machine.{Heard}
+use Rattle.agreement.specs.History.{Instance, Lent, StartInput, voted_input, Call, set_up, start, take_message_lem, read_answer, read_count, restore, start_finds, take_finds, restore_finds, read_as_count, Step, calls, hands, cut, whose, History, Stage, waiting, running, down, a_start, a_take, Counted, Board, after_set_up, after_answer, after_restore, cut_off, after_cut, board_after}
 use Rattle.agreement.specs.Allowed.{Refuses, Continues, Accepts, Allowed}
 use Rattle.agreement.specs.Demand.{Shared}
 use Rattle.agreement.specs.Inner.{records_of}
-use Rattle.agreement.proofs.Entries.{past_door, Recorded, voted_start, start_recorded, take_recorded}
+use Rattle.agreement.proofs.Entries.{past_door, Recorded, voted_start, start_recorded, take_recorded, exact_table}
 use Rattle.agreement.proofs.Lent.{entered}
 use Rattle.agreement.proofs.Tied.{new_board, Running, AtStage}
 use Rattle.agreement.proofs.Histories.{TiedAfter, tied}
-use Rattle.agreement.proofs.Boards.{records_of_lem}
-use Rattle.agreement.proofs.Members.{member_lived, member_seated}
-use Rattle.agreement.proofs.Steps.{held_records, own, other, refused_nothing, start_board, start_newest, take_board, take_newest, cut_left, restore_records}
-use Rattle.agreement.proofs.Counted.{Writes, Follows, cut_follows}
+use Rattle.agreement.proofs.Boards.{running_state, state_plan, records_of_lem, took_state}
+use Rattle.agreement.proofs.Steps.{held_records, own, other, refused_nothing, party_lived, start_board, start_newest, take_board, take_newest, cut_left, restore_records}
+use Rattle.agreement.proofs.Counted.{Says, Follows, cut_follows}
 
 -- ---- calls without a record
 
 -- what fits the journal has a record
-fitting_fresh : (room used : ℕ) (r : Record) (ran : MemberRan) → fitting room used r ran ≡ found again → ⊥
+fitting_fresh : (room used : ℕ) (r : Record) (ran : Ran) → fitting room used r ran ≡ found again → ⊥
 fitting_fresh room used r ran e =
     let y = asked (leb (used + length (record_bytes r)) room) 17 0 (found (fresh r ran)) again e in
     let z : found (fresh r ran) ≡ found again = y.1 in
     let o : ◌≡◌ {A = ℕ} 0 1 = cc in omega arith
 
 -- an accepted start has one
-position_fresh : (p : Member) (z : ℤ) (room used out : ℕ) → start_questions p z room used out ≡ found again → ⊥
+position_fresh : (p : Party) (z : ℤ) (room used out : ℕ) → start_questions p z room used out ≡ found again → ⊥
 unfolding start_questions
-position_fresh p z room used out e = fitting_fresh room used (Start p.party.agreement x) (starting p x) twelve.1
+position_fresh p z room used out e = fitting_fresh room used (Start p.agreement x) (starting p x) twelve.1
   where
     x : ℕ
-    x = position_of p.party.plan z
+    x = position_of p.plan z
 
     last : Found Entry
-    last = fitting room used (Start p.party.agreement x) (starting p x)
+    last = fitting room used (Start p.agreement x) (starting p x)
 
     thirteen : T (not (started p)) × (ask (not (eqb x no_output)) 12 0 last ≡ found again)
     thirteen = asked (not (started p)) 13 0 (ask (not (eqb x no_output)) 12 0 last) again (past_door p room used out _ again e)
@@ -72,23 +74,31 @@ position_fresh p z room used out e = fitting_fresh room used (Start p.party.agre
     twelve : T (not (eqb x no_output)) × (last ≡ found again)
     twelve = asked (not (eqb x no_output)) 12 0 last again thirteen.1
 
-start_fresh : (p : Member) (input : StartInput) (lent : Lent) (used : ℕ) → start_finds p input lent used ≡ found again → ⊥
+start_fresh : (p : Party) (input : StartInput) (lent : Lent) (used : ℕ) → start_finds p input lent used ≡ found again → ⊥
 start_fresh p input lent used e = position_fresh p (voted_input input) (length lent.journal) used lent.out (voted_start p input lent used again e)
 
--- a take without one read a message that needs none
-take_spare : (p : Member) (s : ℕ) (bytes : List ℕ) (room used out : ℕ) → take_questions p s bytes room used out ≡ found again
-    → (m : Packet) × (exact_packet bytes ≡ Exactly.One m) × T (idle p s m)
-unfolding take_questions
-take_spare p s bytes room used out e = go (exact_packet bytes) (asked (ltb s p.party.n) 14 0 (take_packet p s room used (exact_packet bytes)) again (past_door p room used out _ again e)).1
+-- a take without one read a message that was heard before
+held_heard : (p : Party) (s : ℕ) (bytes : List ℕ) (room used out : ℕ) → take_questions p s bytes room used out ≡ found again
+    → (m : Message) × (exact_message bytes ≡ Exactly.One m) × Heard p s m
+unfolding take_questions held_by held
+held_heard p s bytes room used out e = go (exact_message bytes) refl (asked (ltb s p.n) 14 0 (take_message p s room used (exact_message bytes)) again (past_door p room used out _ again e)).1
   where
-    before : (m : Packet) (b : Bool) → pick b (found again) (fitting room used (Taken s m) (taking p s m)) ≡ found again → T b
+    before : (m : Message) (b : Bool) → pick b (found again) (fitting room used (Taken s m) (taking p s m)) ≡ found again → T b
     before m true x = tt
     before m false x = absurd (fitting_fresh room used (Taken s m) (taking p s m) x)
 
-    go : (x : Exactly) → take_packet p s room used x ≡ found again → (m : Packet) × (x ≡ Exactly.One m) × T (idle p s m)
-    go (Exactly.One m) k =
-        (m, refl, before m (idle p s m) (asked (eqb (number_of m) p.party.agreement) 16 0 (pick (idle p s m) (found again) (fitting room used (Taken s m) (taking p s m))) again k).1)
-    go (Exactly.Broken fault at) k = let o : ◌≡◌ {A = ℕ} 0 1 = cc in absurd (omega arith)
+    go : (x : Exactly) → exact_message bytes ≡ x → take_message p s room used x ≡ found again → (m : Message) × (x ≡ Exactly.One m) × Heard p s m
+    go (Exactly.One m) g k =
+        let sixteen = asked (eqb m.number p.agreement) 16 0 (pick (held_by p s m) (found again) (fitting room used (Taken s m) (taking p s m))) again k in (
+          m,
+          refl,
+          record {
+            number = eqb→eq m.number p.agreement sixteen.0;
+            body = T_and (body_in_table m.body) (is_in (senders (level_at p m.level) m.body) s) (T-right (leb m.level last_level) (body_in_table m.body) (true→T (exact_table bytes m g)))
+                (before m (held_by p s m) sixteen.1);
+          },
+        )
+    go (Exactly.Broken fault at) g k = let o : ◌≡◌ {A = ℕ} 0 1 = cc in absurd (omega arith)
 
 module _ (v : Instance) (plan : Plan) (bad : Set) (f : Shared v plan) where
   -- a board's calls beside its records
@@ -106,24 +116,27 @@ module _ (v : Instance) (plan : Plan) (bad : Set) (f : Shared v plan) where
         let u : Running v plan i (board_after h i) w.records = subst (AtStage v plan i (board_after h i) w.records) up w.stage in
         ap length u.journal ∙ ap (λ (rs : List Record). length (journal_bytes rs)) (sym (records_of_lem v plan bad f h a i k))
 
-    module _ (p : Member) (lent : Lent) (used : ℕ) (c : Continues (board_after h i) p lent used) where
+    module _ (p : Party) (lent : Lent) (used : ℕ) (c : Continues (board_after h i) p lent used) where
+      same_plan : p.plan ≡ plan
+      same_plan = ap (λ (q : Party). q.plan) (c.same ∙ running_state v plan bad f h a i k c.up) ∙ state_plan v plan bad f h a i k
+
       -- a call that wrote a record
-      by_fresh : (d : Counted) (r : Record) (ran : MemberRan) → Recorded p (length lent.journal) used r ran → Writes plan d.act r → d.made ≡ ran.made
+      by_fresh : (d : Counted) (r : Record) (ran : Ran) → Recorded p (length lent.journal) used r ran → Says plan d.act r → d.made ≡ ran.made
           → d.used ≡ length (board_after h i).journal + length (record_bytes r) → (rs : List Record) → rs ≡ r ∷ records_of h i
           → Follows plan (new_board v plan i) (d ∷ (board_after h i).counted) rs
-      by_fresh d r ran x writes made long rs e = inr (
+      by_fresh d r ran x says made long rs e = inr (
         records_of h i,
         record {
           newest = r;
           records = e;
-          writes = writes;
-          made = made ∙ ap (λ (y : MemberRan). y.made) (sym x.does ∙ ap (λ (q : Member). replayed q r) (member_lived v plan bad f h a i k p lent used c));
+          says = says;
+          made = made ∙ ap (λ (y : Ran). y.made) (sym x.does ∙ ap (λ (q : Party). replayed q r) (party_lived v plan bad f h i p lent used a k c));
           used = omega (arith, long, used_records c.up, journal_length r (records_of h i), ap (λ (ts : List Record). length (journal_bytes ts)) e);
         },
         ih,
       )
 
-    by_set_up : (x : Verdict) (p : Member) → FollowsIn i (after_set_up (board_after h i) x p)
+    by_set_up : (x : Verdict) (p : Party) → FollowsIn i (after_set_up (board_after h i) x p)
     unfolding records_from
     by_set_up Verdict.Accepted p = refl
     by_set_up (Verdict.Refused number place) p = ih
@@ -150,37 +163,39 @@ module _ (v : Instance) (plan : Plan) (bad : Set) (f : Shared v plan) where
 
     by_call : (c : Call) → Allowed v bad (calls i c ∷ h) → Accepts v bad i h (board_after h i) c → FollowsIn i (board_after (calls i c ∷ h) i)
     by_call (set_up n t o g bytes) al x =
-        subst (FollowsIn i) (sym (own (calls i (set_up n t o g bytes)) h)) (by_set_up (set_up_of n t o g bytes).verdict (set_up_of n t o g bytes).member)
+        subst (FollowsIn i) (sym (own (calls i (set_up n t o g bytes)) h)) (by_set_up (set_up_of n t o g bytes).verdict (set_up_of n t o g bytes).party)
     by_call (start p input lent used) al c = go (start_finds p input lent used) refl
       where
-        board : (q : Found Entry) → start_finds p input lent used ≡ q → board_after (calls i (start p input lent used) ∷ h) i ≡ entered (board_after h i) (a_start (position_of p.party.plan (voted_input input)) input) q
-        board q e = start_board v plan bad f h i p lent used input c ∙ ap (entered (board_after h i) (a_start (position_of p.party.plan (voted_input input)) input)) e
+        board : (q : Found Entry) → start_finds p input lent used ≡ q → board_after (calls i (start p input lent used) ∷ h) i ≡ entered (board_after h i) (a_start (position_of p.plan (voted_input input)) input) q
+        board q e = start_board v plan bad f h i p lent used input c ∙ ap (entered (board_after h i) (a_start (position_of p.plan (voted_input input)) input)) e
 
         go : (q : Found Entry) → start_finds p input lent used ≡ q → FollowsIn i (board_after (calls i (start p input lent used) ∷ h) i)
         go (found again) e = absurd (start_fresh p input lent used e)
         go (refused number place) e = subst (FollowsIn i) (sym (board (refused number place) e)) ih
         go (found (fresh r ran)) e =
             let g = start_recorded p input lent used r ran e in
-            let at : position_of plan (voted_input input) ≡ position_of p.party.plan (voted_input input) = ap (λ (y : Plan). position_of y (voted_input input)) (sym (member_seated v plan bad f h a i k p lent used c).on) in
+            let at : position_of plan (voted_input input) ≡ position_of p.plan (voted_input input) = ap (λ (y : Plan). position_of y (voted_input input)) (sym (same_plan p lent used c)) in
             subst (λ (cs : List Counted). Follows plan (new_board v plan i) cs (records_of (calls i (start p input lent used) ∷ h) i))
             (ap (λ (y : Board). y.counted) (sym (board (found (fresh r ran)) e)))
-            (by_fresh p lent used c (record { act = a_start (position_of p.party.plan (voted_input input)) input; made = ran.made; used = length b.journal + length (record_bytes r) }) r ran g.2
-            (p.party.agreement, g.0, at, g.1) refl refl (records_of (calls i (start p input lent used) ∷ h) i) (start_newest v plan bad f h i p lent used input al r ran e))
-    by_call (take_message p s bytes lent used) al (c, from) = go (take_finds p s bytes lent used) refl
+            (by_fresh p lent used c (record { act = a_start (position_of p.plan (voted_input input)) input; made = ran.made; used = length b.journal + length (record_bytes r) }) r ran g.2
+            (p.agreement, g.0, at, g.1) refl refl (records_of (calls i (start p input lent used) ∷ h) i) (start_newest v plan bad f h i p lent used input al r ran e))
+    by_call (take_message_lem p s bytes lent used) al (c, from) = go (take_finds p s bytes lent used) refl
       where
-        board : (q : Found Entry) → take_finds p s bytes lent used ≡ q → board_after (calls i (take_message p s bytes lent used) ∷ h) i ≡ entered (board_after h i) (a_take s (exact_packet bytes)) q
-        board q e = take_board v plan bad f h i p lent used s bytes c ∙ ap (entered (board_after h i) (a_take s (exact_packet bytes))) e
+        board : (q : Found Entry) → take_finds p s bytes lent used ≡ q → board_after (calls i (take_message_lem p s bytes lent used) ∷ h) i ≡ entered (board_after h i) (a_take s (exact_message bytes)) q
+        board q e = take_board v plan bad f h i p lent used s bytes c ∙ ap (entered (board_after h i) (a_take s (exact_message bytes))) e
 
-        go : (q : Found Entry) → take_finds p s bytes lent used ≡ q → FollowsIn i (board_after (calls i (take_message p s bytes lent used) ∷ h) i)
+        go : (q : Found Entry) → take_finds p s bytes lent used ≡ q → FollowsIn i (board_after (calls i (take_message_lem p s bytes lent used) ∷ h) i)
         go (found again) e =
-            let x = take_spare p s bytes (length lent.journal) used lent.out e in
+            let x = held_heard p s bytes (length lent.journal) used lent.out e in
             subst (FollowsIn i) (sym (board (found again) e))
             (inl (
               record {
                 sender = s;
                 message = x.0;
                 act = ap (a_take s) x.1;
-                spare = subst (λ (q : Member). T (idle q s x.0)) (member_lived v plan bad f h a i k p lent used c) x.2;
+                held =
+                    (took_state v plan bad f h a i k s x.0).1
+                    (subst (λ (q : Party). Heard q s x.0) (c.same ∙ running_state v plan bad f h a i k c.up) x.2);
                 made = refl;
                 used = used_records c.up;
               },
@@ -189,10 +204,10 @@ module _ (v : Instance) (plan : Plan) (bad : Set) (f : Shared v plan) where
         go (refused number place) e = subst (FollowsIn i) (sym (board (refused number place) e)) ih
         go (found (fresh r ran)) e =
             let g = take_recorded p s bytes (length lent.journal) used lent.out r ran e in
-            subst (λ (cs : List Counted). Follows plan (new_board v plan i) cs (records_of (calls i (take_message p s bytes lent used) ∷ h) i))
+            subst (λ (cs : List Counted). Follows plan (new_board v plan i) cs (records_of (calls i (take_message_lem p s bytes lent used) ∷ h) i))
             (ap (λ (y : Board). y.counted) (sym (board (found (fresh r ran)) e)))
-            (by_fresh p lent used c (record { act = a_take s (exact_packet bytes); made = ran.made; used = length b.journal + length (record_bytes r) }) r ran g.3
-            (g.0, g.1, g.2) refl refl (records_of (calls i (take_message p s bytes lent used) ∷ h) i) (take_newest v plan bad f h i p lent used s bytes al r ran e))
+            (by_fresh p lent used c (record { act = a_take s (exact_message bytes); made = ran.made; used = length b.journal + length (record_bytes r) }) r ran g.3
+            (g.0, g.1, g.2) refl refl (records_of (calls i (take_message_lem p s bytes lent used) ∷ h) i) (take_newest v plan bad f h i p lent used s bytes al r ran e))
     by_call (read_answer p) al x = subst (FollowsIn i) (sym (own (calls i (read_answer p)) h)) (by_answer (answered_of p).answer)
     by_call (read_count p g c) al x = subst (FollowsIn i) (sym (own (calls i (read_count p g c)) h)) (by_answer (read_as_count p g c).answer)
     by_call (restore n t o g bytes lent) al x =

@@ -2,7 +2,7 @@
 use mathlib.Core.Path.{◌≡◌, refl, sym, ap, ◌∙◌, subst, subst₂}
 use mathlib.Core.Logic.{◌⊎◌, inl, inr}
 use mathlib.Core.Bool.{Bool, true, false}
-use mathlib.Core.List.{List, [], ◌∷◌, Memᴰ}
+use mathlib.Core.List.{List, [], ◌∷◌}
 use Prim.Native.Nat.{ℕ, ◌≤◌, ◌<◌}
 use native.Mathlib.Omega.{arith}
 use lib.Dec.{eqb, eqb→eq}
@@ -13,15 +13,15 @@ use Rattle.base.specs.declared.Verdict.{Verdict}
 use Rattle.base.proofs.Bools.{true→T}
 use Rattle.base.specs.Found.{Found, found, refused}
 use Rattle.plan.specs.Plan.{Plan}
-use Rattle.packet.specs.declared.Packet.{Packet}
-use Rattle.packet.specs.declared.Exactly.{Exactly}
-use Rattle.packet.specs.Packet.{packet_bytes}
-use Rattle.packet.specs.Reading.{exact_packet}
+use Rattle.message.specs.declared.Message.{Message}
+use Rattle.message.specs.declared.Exactly.{Exactly}
+use Rattle.message.specs.Message.{message_bytes}
+use Rattle.message.specs.Reading.{exact_message}
 use Rattle.journal.specs.declared.Record.{Record}
-use Rattle.member.specs.Member.{Member, dropped, answer_position}
-use Rattle.member.specs.Run.{MemberRan}
-use Rattle.member.specs.Valid.{member_valid}
-use Rattle.member_life.specs.Life.{lived, made_along}
+use Rattle.party.specs.Party.{Party, output_of}
+use Rattle.party.specs.Run.{Ran}
+use Rattle.party.specs.Valid.{party_valid}
+use Rattle.party_life.specs.Life.{lived}
 use Rattle.board_calls.specs.declared.Answer.{Answer}
 use Rattle.board_calls.specs.declared.Answered.{Answered}
 use Rattle.board_calls.specs.Answers.{position_of, answer_of}
@@ -32,28 +32,25 @@ use Rattle.execution.specs.Machine.{Event, Machine}
 use Rattle.execution.specs.History as logs
 use Rattle.execution.specs.History.{HStep, log, held, FairH}
 use Rattle.execution.specs.Inner.{ValidH}
-use Rattle.closing_machine.specs.Machine.{closing_machine, event_of}
-use Rattle.closing_machine.proofs.Laws.{lived_after}
-use Rattle.closing_agreement.specs.Logs as closing
-use Rattle.closing_agreement.proofs.Logs.{allowed_valid}
-use Rattle.closing_agreement.proofs.Lives.{lived_made}
-use Rattle.agreement.specs.History.{Instance, Lent, voted_input, Call, set_up, start, take_message, read_answer, read_count, restore, start_finds, take_finds, restore_finds, read_as_count, Step, calls, hands, cut, whose, History, Stage, waiting, running, down, Act, a_start, a_take, Board, after_set_up, after_entry, after_answer, after_restore, after_call, after_cut, after_own, board_after}
+use Rattle.vote_machine.specs.Machine.{Sent, vote_machine, event_of}
+use Rattle.vote_machine.proofs.Laws.{after_lived}
+use Rattle.agreement.specs.History.{Instance, Lent, voted_input, Call, set_up, start, take_message_lem, read_answer, read_count, restore, start_finds, take_finds, restore_finds, read_as_count, Step, calls, hands, cut, whose, History, Stage, waiting, running, down, Act, a_start, a_take, Board, after_set_up, after_entry, after_answer, after_restore, after_call, after_cut, after_own, board_after}
 use Rattle.agreement.specs.Allowed.{Refuses, Accepts, May, Allowed}
 use Rattle.agreement.specs.Demand.{Shared}
 use Rattle.agreement.proofs.Restored.{Begins, lendable_begins, lived_replay, restored_found}
 use Rattle.agreement.proofs.Entries.{Recorded, start_recorded, take_recorded}
 use Rattle.agreement.proofs.Lent.{entered, start_entered, take_entered}
-use Rattle.agreement.proofs.Told.{machine_of, Tale, nothing, entry_tale, answer_tale, restore_tale, call_tale, hand_tale, cut_tale, whole_records, tale_of, log_after, held_after, told, log_added, held_added, handed_told, MayTell, allowed_added}
-use Rattle.agreement.proofs.Tied.{new_board, AtStage, Tied, tied_unborn, set_up_found, shared_passes}
+use Rattle.agreement.proofs.Told.{machine_of, Tale, nothing, entry_tale, answer_tale, restore_tale, call_tale, hand_tale, cut_tale, whole_records, tale_of, log_after, held_after, told, log_added, held_added, handed_told, MayTell, valid_added}
+use Rattle.agreement.proofs.Tied.{new_board, AtStage, Tied, tied_unborn, set_up_found}
 use Rattle.agreement.proofs.Keeps.{tied_set_up, tied_read, tied_fresh, tied_counting, tied_guarding, tied_restored, cut_may, tied_cut}
 
 -- a reading that is refused gives no answer
-pub refused_answer : (m : Member) (k at : ℕ) → (answered_of m).verdict ≡ Verdict.Refused k at → (answered_of m).answer ≡ Answer.None
+pub refused_answer : (p : Party) (k at : ℕ) → (answered_of p).verdict ≡ Verdict.Refused k at → (answered_of p).answer ≡ Answer.None
 unfolding answered_of
-refused_answer m k at e = go (member_valid m) e
+refused_answer p k at e = go (party_valid p) e
   where
     yes_answer : Answered
-    yes_answer = record { verdict = Verdict.Accepted; answer = answer_of m.party.plan (answer_position m) }
+    yes_answer = record { verdict = Verdict.Accepted; answer = answer_of p.plan (output_of p) }
 
     no_answer : Answered
     no_answer = record { verdict = Verdict.Refused 19 0; answer = Answer.None }
@@ -64,7 +61,7 @@ refused_answer m k at e = go (member_valid m) e
 
 module _ (v : Instance) (plan : Plan) (bad : Set) (f : Shared v plan) where
   abbrev M : Machine
-  M = closing_machine v.n v.t v.agreement plan
+  M = vote_machine v.n v.t v.agreement plan
 
   abbrev Log : Type 0
   Log = List (HStep (machine_of v plan))
@@ -74,32 +71,23 @@ module _ (v : Instance) (plan : Plan) (bad : Set) (f : Shared v plan) where
     tied : Tied v plan i b (log_after t (log (machine_of v plan) i H)) (held_after t (log (machine_of v plan) i H) (held (machine_of v plan) i H))
     may : MayTell v plan bad i t H
 
-  -- what is left of the state by the log is the board of the records
-  pub state_lived : (i : ℕ) → i < v.n → (b : Board) (l : List (Event Packet ℕ)) (x : ℕ) (w : Tied v plan i b l x)
-      → dropped (logs.after (machine_of v plan) i l) ≡ (lived (new_board v plan i) w.records).member
-  state_lived i k b l x w =
-      ap (λ (y : List (Event Packet ℕ)). dropped (logs.after M i y)) w.events
-      ∙ sym (lived_after v.n v.t v.agreement plan (shared_passes v plan f) i k w.records w.life)
-
-  -- the messages of the log are those that the records' calls made
-  pub messages_lived : (i : ℕ) → i < v.n → (b : Board) (l : List (Event Packet ℕ)) (x : ℕ) (w : Tied v plan i b l x)
-      → closing.messages_by v.n v.t v.agreement plan i l ≡ made_along (new_board v plan i) w.records
-  messages_lived i k b l x w =
-      ap (closing.messages_by v.n v.t v.agreement plan i) w.events
-      ∙ sym (lived_made v.n v.t v.agreement plan (shared_passes v plan f) i k w.records w.life)
+  -- the state by the log is the party of the records
+  pub state_lived : (i : ℕ) → i < v.n → (b : Board) (l : List (Event Message ℕ)) (x : ℕ) (w : Tied v plan i b l x)
+      → logs.after (machine_of v plan) i l ≡ (lived (new_board v plan i) w.records).party
+  state_lived i k b l x w = ap (logs.after M i) w.events ∙ after_lived v.n v.t v.agreement plan i k w.records w.life
 
   module _ (i : ℕ) (seat : i < v.n) (b : Board) (H : List (HStep (machine_of v plan)))
       (w : Tied v plan i b (log (machine_of v plan) i H) (held (machine_of v plan) i H)) where
     stays : Goes i b nothing H
     stays = record { tied = w; may = tt }
 
-    by_set_up : (s : SetUp) → b.stage ≡ waiting → s ≡ record { verdict = Verdict.Accepted; member = new_board v plan i } → Goes i (after_set_up b s.verdict s.member) nothing H
+    by_set_up : (s : SetUp) → b.stage ≡ waiting → s ≡ record { verdict = Verdict.Accepted; party = new_board v plan i } → Goes i (after_set_up b s.verdict s.party) nothing H
     by_set_up s e g =
-        subst (λ (y : SetUp). Goes i (after_set_up b y.verdict y.member) nothing H) (sym g)
+        subst (λ (y : SetUp). Goes i (after_set_up b y.verdict y.party) nothing H) (sym g)
         (record { tied = tied_set_up v plan f i seat b (log M i H) (held M i H) w e; may = tt })
 
     by_entry : (a : Act) (q : Found Entry) (room used : ℕ) → b.stage ≡ running
-        → ((r : Record) (ran : MemberRan) → q ≡ found (fresh r ran) → Recorded b.member room used r ran × FairH M v.n bad (event_of r) H)
+        → ((r : Record) (ran : Ran) → q ≡ found (fresh r ran) → Recorded b.party room used r ran × FairH M v.n bad (event_of r) H)
         → Goes i (entered b a q) (entry_tale q) H
     by_entry a (found again) room used e g = record { tied = tied_counting v plan f i seat b (log M i H) (held M i H) w (entered b a (found again)).counted; may = tt }
     by_entry a (found (fresh r ran)) room used e g =
@@ -126,14 +114,14 @@ module _ (v : Instance) (plan : Plan) (bad : Set) (f : Shared v plan) where
     by_cut down k g =
         record { tied = tied_cut v plan f i seat b (log M i H) (held M i H) w k g; may = cut_may v plan f i seat b (log M i H) (held M i H) w k g }
 
-    by_hand : (bytes : List ℕ) → b.stage ≡ running → (p : Packet) → bytes ≡ packet_bytes p → Memᴰ p (made_along (new_board v plan i) w.records)
-        → Goes i (after_own b (hands i bytes)) (hand_tale (exact_packet bytes)) H
-    by_hand bytes e p g o =
-        let x : exact_packet bytes ≡ Exactly.One p = ap exact_packet g ∙ tied_read v plan f i seat b (log M i H) (held M i H) w p o in
+    by_hand : (bytes : List ℕ) → b.stage ≡ running → (m : Message) → bytes ≡ message_bytes m → Sent (lived (new_board v plan i) w.records).party m
+        → Goes i (after_own b (hands i bytes)) (hand_tale (exact_message bytes)) H
+    by_hand bytes e m g o =
+        let x : exact_message bytes ≡ Exactly.One m = ap exact_message g ∙ tied_read v plan f i seat b (log M i H) (held M i H) w m o in
         subst (λ (y : Exactly). Goes i (after_own b (hands i bytes)) (hand_tale y) H) (sym x)
         (record {
           tied = tied_guarding v plan f i seat b (log M i H) (held M i H) w e (after_own b (hands i bytes)).guarded (omega arith);
-          may = subst (λ (y : List Packet). Memᴰ p y) (sym (messages_lived i seat b (log M i H) (held M i H) w)) o;
+          may = subst (λ (y : Party). Sent y m) (sym (state_lived i seat b (log M i H) (held M i H) w)) o;
         })
 
   -- ---- calls
@@ -150,20 +138,20 @@ module _ (v : Instance) (plan : Plan) (bad : Set) (f : Shared v plan) where
     by_call (set_up n t a g bytes) (e, o) =
         by_set_up i seat b H w (set_up_of n t a g bytes) e
         ((λ z. set_up_of (o.boards z) (o.faults z) (o.seat z) (o.number z) (o.bytes z)) ∙ set_up_found v plan f i seat)
-    by_call (start m input lent used) c =
-        subst (λ (y : Board). Goes i y (call_tale (start m input lent used)) H) (sym (start_entered b m lent used c input))
-        (by_entry i seat b H w (a_start (position_of m.party.plan (voted_input input)) input) (start_finds m input lent used) (length lent.journal) used c.up (λ r ran e.
-        let x = start_recorded m input lent used r ran e in
-        (subst (λ (q : Member). Recorded q (length lent.journal) used r ran) c.same x.2, subst (λ (y : Record). FairH M v.n bad (event_of y) H) x.0 tt)))
-    by_call (take_message m sender bytes lent used) (c, from) =
-        subst (λ (y : Board). Goes i y (call_tale (take_message m sender bytes lent used)) H) (sym (take_entered b m lent used c sender bytes))
-        (by_entry i seat b H w (a_take sender (exact_packet bytes)) (take_finds m sender bytes lent used) (length lent.journal) used c.up (λ r ran e.
-        let x = take_recorded m sender bytes (length lent.journal) used lent.out r ran e in (
-          subst (λ (q : Member). Recorded q (length lent.journal) used r ran) c.same x.3,
+    by_call (start p input lent used) c =
+        subst (λ (y : Board). Goes i y (call_tale (start p input lent used)) H) (sym (start_entered b p lent used c input))
+        (by_entry i seat b H w (a_start (position_of p.plan (voted_input input)) input) (start_finds p input lent used) (length lent.journal) used c.up (λ r ran e.
+        let x = start_recorded p input lent used r ran e in
+        (subst (λ (q : Party). Recorded q (length lent.journal) used r ran) c.same x.2, subst (λ (y : Record). FairH M v.n bad (event_of y) H) x.0 tt)))
+    by_call (take_message_lem p sender bytes lent used) (c, from) =
+        subst (λ (y : Board). Goes i y (call_tale (take_message_lem p sender bytes lent used)) H) (sym (take_entered b p lent used c sender bytes))
+        (by_entry i seat b H w (a_take sender (exact_message bytes)) (take_finds p sender bytes lent used) (length lent.journal) used c.up (λ r ran e.
+        let x = take_recorded p sender bytes (length lent.journal) used lent.out r ran e in (
+          subst (λ (q : Party). Recorded q (length lent.journal) used r ran) c.same x.3,
           subst (λ (y : Record). FairH M v.n bad (event_of y) H) x.2 (λ g. handed_told v plan h sender bytes x.0 (from g) x.1),
         )))
-    by_call (read_answer m) e = by_answer i seat b H w (answered_of m).answer e.0
-    by_call (read_count m g c) e = by_answer i seat b H w (read_as_count m g c).answer e.0
+    by_call (read_answer p) e = by_answer i seat b H w (answered_of p).answer e.0
+    by_call (read_count p g c) e = by_answer i seat b H w (read_as_count p g c).answer e.0
     by_call (restore n t a g bytes lent) (e, o, given) =
         let l : Begins lent.journal w.records = lendable_begins b.journal lent.journal w.records w.holds given in
         by_restore i seat b H w lent l (restore_finds n t a g bytes lent) (λ r x.
@@ -173,15 +161,15 @@ module _ (v : Instance) (plan : Plan) (bad : Set) (f : Shared v plan) where
     -- a refused call changes nothing
     by_refusal : (c : Call) → Refuses c → Goes i (after_call (board_after h i) c) (call_tale c) (told v plan h)
     by_refusal (set_up n t a g bytes) e =
-        subst (λ (y : Verdict). Goes i (after_set_up b y (set_up_of n t a g bytes).member) nothing H) (sym e.1.1) (stays i seat b H w)
-    by_refusal (start m input lent used) e =
-        subst (λ (y : Found Entry). Goes i (after_entry b (a_start (position_of m.party.plan (voted_input input)) input) m lent used y) (entry_tale y) H) (sym e.1.1) (stays i seat b H w)
-    by_refusal (take_message m sender bytes lent used) e =
-        subst (λ (y : Found Entry). Goes i (after_entry b (a_take sender (exact_packet bytes)) m lent used y) (entry_tale y) H) (sym e.1.1) (stays i seat b H w)
-    by_refusal (read_answer m) e =
-        subst (λ (y : Answer). Goes i (after_answer b y) (answer_tale y) H) (sym (refused_answer m e.0 e.1.0 e.1.1)) (stays i seat b H w)
-    by_refusal (read_count m g c) e =
-        subst (λ (y : Answer). Goes i (after_answer b y) (answer_tale y) H) (sym (count_refused m g c e.1.1)) (stays i seat b H w)
+        subst (λ (y : Verdict). Goes i (after_set_up b y (set_up_of n t a g bytes).party) nothing H) (sym e.1.1) (stays i seat b H w)
+    by_refusal (start p input lent used) e =
+        subst (λ (y : Found Entry). Goes i (after_entry b (a_start (position_of p.plan (voted_input input)) input) p lent used y) (entry_tale y) H) (sym e.1.1) (stays i seat b H w)
+    by_refusal (take_message_lem p sender bytes lent used) e =
+        subst (λ (y : Found Entry). Goes i (after_entry b (a_take sender (exact_message bytes)) p lent used y) (entry_tale y) H) (sym e.1.1) (stays i seat b H w)
+    by_refusal (read_answer p) e =
+        subst (λ (y : Answer). Goes i (after_answer b y) (answer_tale y) H) (sym (refused_answer p e.0 e.1.0 e.1.1)) (stays i seat b H w)
+    by_refusal (read_count p g c) e =
+        subst (λ (y : Answer). Goes i (after_answer b y) (answer_tale y) H) (sym (count_refused p g c e.1.1)) (stays i seat b H w)
     by_refusal (restore n t a g bytes lent) e = subst (λ (y : Found Replay). Goes i (after_restore b lent y) (restore_tale y) H) (sym e.1.1) (stays i seat b H w)
 
   -- ---- steps
@@ -224,7 +212,7 @@ module _ (v : Instance) (plan : Plan) (bad : Set) (f : Shared v plan) where
   unfolding told board_after
   after_step s h g i w =
       let t : Tale = tale_of (board_after h (whose s)) s in
-      subst₂ (λ (l : List (Event Packet ℕ)) (x : ℕ). Tied v plan i (pick (eqb (whose s) i) (after_own (board_after h i) s) (board_after h i)) l x)
+      subst₂ (λ (l : List (Event Message ℕ)) (x : ℕ). Tied v plan i (pick (eqb (whose s) i) (after_own (board_after h i) s) (board_after h i)) l x)
       (sym (log_added v plan (whose s) t (told v plan h) i)) (sym (held_added v plan (whose s) t (told v plan h) i))
       (pick_tied s h g i w (eqb (whose s) i) refl)
 
@@ -235,13 +223,10 @@ module _ (v : Instance) (plan : Plan) (bad : Set) (f : Shared v plan) where
   tied (s ∷ h) (m, a) i k =
       after_step s h (goes s h m (seated s h m) (tied h a (whose s) (seated s h m))) i (tied h a i k)
 
-  -- and the history over logs is one that is allowed there
-  pub told_allowed : (h : History) → Allowed v bad h → closing.Allowed v.n v.t v.agreement plan bad (told v plan h)
-  unfolding told
-  told_allowed [] a = tt
-  told_allowed (s ∷ h) (m, a) =
-      allowed_added v plan bad (whose s) (tale_of (board_after h (whose s)) s) (told v plan h) (told_allowed h a)
-      (goes s h m (seated s h m) (tied h a (whose s) (seated s h m))).may
-
+  -- and the history over logs is valid
   pub told_valid : (h : History) → Allowed v bad h → ValidH (machine_of v plan) v.n bad (told v plan h)
-  told_valid h a = allowed_valid v.n v.t v.agreement plan (shared_passes v plan f) bad (told v plan h) (told_allowed h a)
+  unfolding told
+  told_valid [] a = tt
+  told_valid (s ∷ h) (m, a) =
+      valid_added v plan bad (whose s) (tale_of (board_after h (whose s)) s) (told v plan h) (told_valid h a)
+      (goes s h m (seated s h m) (tied h a (whose s) (seated s h m))).may

@@ -6,14 +6,12 @@ pub mod Tied
 pub mod Keeps
 pub mod Histories
 pub mod Boards
-pub mod Members
 pub mod Answers
 pub mod Readings
 pub mod Inputs
 pub mod Steps
 pub mod Counted
 pub mod Follows
-pub mod Waiting
 pub mod Words
 pub mod Since
 pub mod Accepted

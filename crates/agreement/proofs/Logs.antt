@@ -1,29 +1,30 @@
 -- An allowed history, told over logs, meets what demand 3 asks there; and where all is started and what was made is taken, it is so there.
-use mathlib.Core.Path.{◌≡◌, sym, subst}
-use mathlib.Core.List.Memᴰ
+use mathlib.Core.Path.{◌≡◌, refl}
 use mathlib.Core.List.{List, Memᴰ}
 use Prim.Native.Nat.{ℕ}
-use lib.Dec.{T}
 use Rattle.base.specs.Sets.{Set}
 use Rattle.plan.specs.Plan.{Plan}
-use Rattle.packet.specs.declared.Packet.{Packet}
-use Rattle.packet.specs.declared.Exactly.{Exactly}
-use Rattle.packet.specs.Packet.{packet_bytes}
-use Rattle.packet.specs.Reading.{exact_packet}
-use Rattle.member.specs.Member.{Member, idle}
+use Rattle.message.specs.declared.Message.{Message}
+use Rattle.message.specs.declared.Exactly.{Exactly}
+use Rattle.message.specs.Message.{message_bytes}
+use Rattle.message.specs.Reading.{exact_message}
+use Rattle.party.specs.Party.{level_at}
+use Rattle.execution.specs.Machine.{Machine}
+use Rattle.execution.specs.History.{log}
+use Rattle.execution.specs.Inner.{ValidH}
+use Rattle.vote_machine.specs.Machine.{Sent, vote_machine}
 use Rattle.vote_machine.proofs.Laws.{Passes}
-use Rattle.closing_machine.proofs.Laws.{dropped_idle}
-use Rattle.closing_agreement.specs.Logs as logs
-use Rattle.agreement.specs.History.{Instance, History, waiting, Counted, board_after}
+use Rattle.log_agreement.specs.Logs as logs
+use Rattle.log_agreement.proofs.Logs.{heard_held, made_tells, valid_allowed}
+use Rattle.agreement.specs.History.{Instance, History}
 use Rattle.agreement.specs.Allowed.{Sound, Handed, Allowed}
-use Rattle.agreement.specs.Demand.{Made, HandedSince, NeedsNoRecord, Complete, Shared, Premises}
+use Rattle.agreement.specs.Demand.{Took, Made, HandedSince, Complete, Shared, Premises}
 use Rattle.agreement.specs.Ending.{Delivered, CompleteFromSetUp}
-use Rattle.agreement.proofs.Told.{told}
+use Rattle.agreement.proofs.Told.{machine_of, told}
 use Rattle.agreement.proofs.Tied.{shared_passes}
-use Rattle.agreement.proofs.Histories.{told_allowed}
-use Rattle.agreement.proofs.Boards.{state_of, member_now_lem, started_state, makes_log, made_read}
-use Rattle.agreement.proofs.Waiting.{waiting_none}
-use Rattle.agreement.proofs.Words.{started_records, made_records}
+use Rattle.agreement.proofs.Histories.{told_valid}
+use Rattle.agreement.proofs.Boards.{state_of, started_state, took_state, makes_state, sent_read}
+use Rattle.agreement.proofs.Words.{started_records, took_records, made_records}
 
 module _ (v : Instance) (plan : Plan) (bad : Set) (h : History) (given : Premises v plan bad h) where
   abbrev f : Shared v plan
@@ -32,8 +33,14 @@ module _ (v : Instance) (plan : Plan) (bad : Set) (h : History) (given : Premise
   abbrev a : Allowed v bad h
   a = given.allowed
 
+  abbrev M : Machine
+  M = vote_machine v.n v.t v.agreement plan
+
   abbrev passes : Passes v.n v.t plan
   passes = shared_passes v plan f
+
+  abbrev ok : ValidH (machine_of v plan) v.n bad (told v plan h)
+  ok = told_valid v plan bad f h a
 
   pub log_premises : logs.Premises v.n v.t v.agreement plan bad (told v plan h)
   log_premises = record {
@@ -41,15 +48,24 @@ module _ (v : Instance) (plan : Plan) (bad : Set) (h : History) (given : Premise
     faults = passes.faults;
     valid = passes.valid;
     few = given.few;
-    allowed = told_allowed v plan bad f h a;
+    allowed = valid_allowed v.n v.t v.agreement plan passes bad (told v plan h) ok;
   }
 
+  -- a message of the board's log, in the state that the log gives
+  sent : (i : ℕ) (m : Message) → Memᴰ m (logs.messages_by v.n v.t v.agreement plan i (log (machine_of v plan) i (told v plan h))) → Sent (state_of v plan h i) m
+  sent i m x = made_tells v.n v.t v.agreement plan passes i (log M i (told v plan h)) m x
+
+  -- what a board's state says it has sent, a call not lost made
+  made : (i : ℕ) (m : Message) → Sound v bad i → Sent (state_of v plan h i) m → Made h i m
+  made i m g s = (made_records v plan bad f h a i m).1 ((makes_state v plan bad f h a i g.0 m).1 s)
+
   -- a message that calls of sound boards made, by whichever way it counts as handed over
-  given_taken : (Given : ℕ → List ℕ → Type 0) → ((i : ℕ) (p : Packet) → Sound v bad i → Made h i p → Given i (packet_bytes p))
-      → ((i j : ℕ) (bytes : List ℕ) (p : Packet) → Sound v bad i → Sound v bad j → Given j bytes → exact_packet bytes ≡ Exactly.One p → NeedsNoRecord v h i j p)
-      → (i j : ℕ) (p : Packet) → Sound v bad i → Sound v bad j → Made h j p → NeedsNoRecord v h i j p
-  given_taken Given handed taken i j p g k x =
-      taken i j (packet_bytes p) p g k (handed j p k x) (made_read v plan bad f h a j k.0 p ((made_records v plan bad f h a j p).0 x))
+  given_taken : (Given : ℕ → List ℕ → Type 0) → ((i : ℕ) (m : Message) → Sound v bad i → Made h i m → Given i (message_bytes m))
+      → ((i j : ℕ) (bytes : List ℕ) (m : Message) → Sound v bad i → Sound v bad j → Given j bytes → exact_message bytes ≡ Exactly.One m → Took h i j m)
+      → (i j : ℕ) (m : Message) → Sound v bad i → Sound v bad j → Made h j m → Took h i j m
+  given_taken Given handed taken i j m g k x =
+      taken i j (message_bytes m) m g k (handed j m k x)
+      (sent_read v plan bad f h a j k.0 m ((makes_state v plan bad f h a j k.0 m).0 ((made_records v plan bad f h a j m).0 x)))
 
   pub complete_delivered : Complete v bad h → Delivered v bad h
   complete_delivered c = record { started = c.started; taken = given_taken (λ i bytes. HandedSince i bytes h) c.handed c.taken }
@@ -57,25 +73,13 @@ module _ (v : Instance) (plan : Plan) (bad : Set) (h : History) (given : Premise
   pub set_up_delivered : CompleteFromSetUp v bad h → Delivered v bad h
   set_up_delivered c = record { started = c.started; taken = given_taken (λ i bytes. Handed i bytes h) c.handed c.taken }
 
-  module _ (d : Delivered v bad h) where
-    -- a board that has started is set up
-    set_up : (i : ℕ) → Sound v bad i → (board_after h i).stage ≡ waiting → ⊥
-    set_up i g e =
-        let c = (d.started i g).2.1 in
-        Memᴰ.not-nil (subst (λ (cs : List Counted). Memᴰ c.0 cs) (waiting_none v bad h a i e) c.1)
-
-    -- what a log's calls made needs no record at the state of the board
-    spare : (i j : ℕ) (p : Packet) → Sound v bad i → Sound v bad j → Memᴰ p (logs.messages_by v.n v.t v.agreement plan j (logs.log_of v.n v.t v.agreement plan (told v plan h) j))
-        → T (idle (state_of v plan h i) j p)
-    spare i j p g k x =
-        let made = (made_records v plan bad f h a j p).1 (subst (λ (ps : List Packet). Memᴰ p ps) (sym (makes_log v plan bad f h a j k.0)) x) in
-        subst T (dropped_idle (state_of v plan h i) j p)
-        (subst (λ (m : Member). T (idle m j p)) (member_now_lem v plan bad f h a i g.0 (set_up i g)) (d.taken i j p g k made))
-
-    pub log_complete : logs.Complete v.n v.t v.agreement plan bad (told v plan h)
-    log_complete = record {
-      started = λ i g.
-          let x = d.started i g in
-          (x.0, (started_state v plan bad f h a i g.0 x.0).0 ((started_records v plan bad f h a i x.0).0 (x.1, x.2)));
-      taken = spare;
-    }
+  pub log_complete : Delivered v bad h → logs.Complete v.n v.t v.agreement plan bad (told v plan h)
+  log_complete d = record {
+    started = λ i g.
+        let x = d.started i g in
+        let s = (started_state v plan bad f h a i g.0 x.0).0 ((started_records v plan bad f h a i x.0).0 (x.1, x.2)) in
+        ((level_at (state_of v plan h i) 0).position, (s.0, refl));
+    taken = λ i j m g k x.
+        heard_held (state_of v plan h i) j m
+        ((took_state v plan bad f h a i g.0 j m).0 ((took_records v plan bad f h a i j m).0 (d.taken i j m g k (made j m k (sent j m x)))));
+  }

@@ -10,7 +10,7 @@ use Rattle.base.specs.Pick.{pick}
 use Rattle.base.specs.Found.{Found, found}
 use Rattle.base.proofs.Bools.{T-left, T→true, not-T→false, false→not-T}
 use Rattle.board_calls.specs.Restore.{Replay}
-use Rattle.agreement.specs.History.{Lent, Call, set_up, start, take_message, read_answer, read_count, restore, restore_finds, Step, calls, hands, cut, whose, History}
+use Rattle.agreement.specs.History.{Lent, Call, set_up, start, take_message_lem, read_answer, read_count, restore, restore_finds, Step, calls, hands, cut, whose, History}
 use Rattle.agreement.specs.Allowed.{Handed, Refuses}
 use Rattle.agreement.specs.Demand.{accepted, is_restore_of, since_restore, HandedSince}
 
@@ -20,7 +20,7 @@ use Rattle.agreement.specs.Demand.{accepted, is_restore_of, since_restore, Hande
 pub restore_own : (i : ℕ) (s : Step) → T (is_restore_of i s) → whose s ≡ i
 restore_own i (calls j (set_up n t own agreement plan)) k = absurd k
 restore_own i (calls j (start p input lent used)) k = absurd k
-restore_own i (calls j (take_message p sender bytes lent used)) k = absurd k
+restore_own i (calls j (take_message_lem p sender bytes lent used)) k = absurd k
 restore_own i (calls j (read_answer p)) k = absurd k
 restore_own i (calls j (read_count p g c)) k = absurd k
 restore_own i (calls j (restore n t own agreement plan lent)) k = eqb→eq j i (T-left (eqb j i) (accepted (restore_finds n t own agreement plan lent)) k)
@@ -35,7 +35,7 @@ restore_other i s d = not-T→false (is_restore_of i s) (λ k. false→not-T d (
 refused_none : (i j : ℕ) (c : Call) → Refuses c → is_restore_of i (calls j c) ≡ false
 refused_none i j (set_up n t own agreement plan) r = refl
 refused_none i j (start p input lent used) r = refl
-refused_none i j (take_message p sender bytes lent used) r = refl
+refused_none i j (take_message_lem p sender bytes lent used) r = refl
 refused_none i j (read_answer p) r = refl
 refused_none i j (read_count p g c) r = refl
 refused_none i j (restore n t own agreement plan lent) (k, (at, e)) = ap (λ (q : Found Replay). eqb j i && accepted q) e ∙ never (eqb j i)

@@ -1,4 +1,4 @@
--- What ties a sound board to its log: the records of the log are those of its journal, and while it runs its record is theirs.
+-- What ties a sound board to its log: the records of the log are those of its journal, and while it runs its party is theirs.
 use mathlib.Core.Path.{◌≡◌, refl, sym, ap}
 use mathlib.Core.List.{List, [], ◌∷◌, Memᴰ}
 use Prim.Native.Nat.{ℕ, zero, suc, ◌+◌, ◌*◌, ◌≤◌, ◌<◌}
@@ -9,19 +9,19 @@ use Rattle.base.specs.declared.Verdict.{Verdict}
 use Rattle.plan.specs.Plan.{Plan}
 use Rattle.plan.specs.Valid.{plan_valid}
 use Rattle.plan_laws.proofs.Given.{found_good}
-use Rattle.packet.specs.declared.Packet.{Packet}
+use Rattle.message.specs.declared.Message.{Message}
 use Rattle.journal.specs.declared.Record.{Record}
 use Rattle.journal.specs.Records.{journal_bytes}
 use Rattle.journal.proofs.Records.{Holds, holds_whole, journal_none}
+use Rattle.party.specs.Party.{Party, new_party}
 use Rattle.party.specs.Valid.{settings_pass}
 use Rattle.party_laws.proofs.Laws.{→settings}
-use Rattle.member.specs.Member.{Member, new_member}
-use Rattle.member_life.specs.Life.{lived, Life, made_along}
-use Rattle.member_laws.proofs.Laws.{Sized, sized_new}
+use Rattle.party_life.specs.Life.{lived, Life}
 use Rattle.board_calls.specs.Calls.{set_up_of, set_up_answer}
 use Rattle.execution.specs.Machine.{Event}
-use Rattle.vote_machine.proofs.Laws.{Passes}
-use Rattle.closing_machine.specs.Machine.{events_of}
+use Rattle.vote_machine.specs.Machine.{Sent, events_of}
+use Rattle.vote_machine.specs.Inner.{Regular}
+use Rattle.vote_machine.proofs.Laws.{Passes, regular_new}
 use Rattle.agreement.specs.History.{Instance, Stage, waiting, running, down, Board, unborn}
 use Rattle.agreement.specs.Demand.{Shared}
 use Rattle.agreement.proofs.Restored.{settled}
@@ -39,22 +39,22 @@ events_drop zero rs = refl
 events_drop (suc d) [] = refl
 events_drop (suc d) (r ∷ rs) = events_drop d rs
 
-pub life_drop : (m : Member) (d : ℕ) (rs : List Record) → Life m rs → Life m (drop d rs)
-life_drop m zero rs l = l
-life_drop m (suc d) [] l = l
-life_drop m (suc d) (r ∷ rs) l = life_drop m d rs l.1
+pub life_drop : (p : Party) (d : ℕ) (rs : List Record) → Life p rs → Life p (drop d rs)
+life_drop p zero rs l = l
+life_drop p (suc d) [] l = l
+life_drop p (suc d) (r ∷ rs) l = life_drop p d rs l.1
 
 -- ---- the tie
 
 -- board i as set up
-abbrev pub new_board : Instance → Plan → ℕ → Member
-new_board v plan i = new_member v.n v.t i v.agreement plan
+abbrev pub new_board : Instance → Plan → ℕ → Party
+new_board v plan i = new_party v.n v.t i v.agreement plan
 
--- a running board's record is what its records made of it, its journal holds them and nothing else, and its outbox only what they made
+-- a running board's record is the party of its records, its journal holds them and nothing else, and its outbox only what they made
 pub record Running (v : Instance) (plan : Plan) (i : ℕ) (b : Board) (rs : List Record) : Type 0 where
-  pub member : b.member ≡ (lived (new_board v plan i) rs).member
+  pub party : b.party ≡ (lived (new_board v plan i) rs).party
   pub journal : b.journal ≡ journal_bytes rs
-  pub outbox : (p : Packet) → Memᴰ p b.outbox → Memᴰ p (made_along (new_board v plan i) rs)
+  pub outbox : (m : Message) → Memᴰ m b.outbox → Sent (lived (new_board v plan i) rs).party m
 
 abbrev pub AtStage : Instance → Plan → ℕ → Board → List Record → Stage → Type 0
 AtStage v plan i b rs waiting = rs ≡ []
@@ -62,7 +62,7 @@ AtStage v plan i b rs running = Running v plan i b rs
 AtStage v plan i b rs down = Unit {0}
 
 -- board i is b, with the log l, whose oldest x records no cut may take
-pub record Tied (v : Instance) (plan : Plan) (i : ℕ) (b : Board) (l : List (Event Packet ℕ)) (x : ℕ) : Type 0 where
+pub record Tied (v : Instance) (plan : Plan) (i : ℕ) (b : Board) (l : List (Event Message ℕ)) (x : ℕ) : Type 0 where
   pub records : List Record
   pub events : l ≡ events_of records
   pub life : Life (new_board v plan i) records
@@ -75,14 +75,17 @@ pub record Tied (v : Instance) (plan : Plan) (i : ℕ) (b : Board) (l : List (Ev
   pub stage : AtStage v plan i b records b.stage
 
 module _ (v : Instance) (plan : Plan) (f : Shared v plan) (i : ℕ) (seat : i < v.n) where
+  abbrev p : Party
+  p = new_board v plan i
+
   pub plan_valid_lem : T (plan_valid plan)
   plan_valid_lem = (found_good v.plan plan f.reads).passes
 
-  pub settings_pass_lem : T (settings_pass (new_board v plan i).party)
-  settings_pass_lem = →settings (new_board v plan i).party (record { some = omega (arith, f.faults); most = f.boards; faults = f.faults; own = seat })
+  pub settings_pass_lem : T (settings_pass (new_board v plan i))
+  settings_pass_lem = →settings p (record { some = omega (arith, f.faults); most = f.boards; faults = f.faults; own = seat })
 
-  pub board_sized : Sized (new_board v plan i)
-  board_sized = sized_new v.n v.t i v.agreement plan settings_pass_lem plan_valid_lem
+  pub board_regular : Regular (new_board v plan i)
+  board_regular = regular_new v.n v.t i v.agreement plan settings_pass_lem plan_valid_lem
 
   -- ---- not set up
 
@@ -101,7 +104,7 @@ module _ (v : Instance) (plan : Plan) (f : Shared v plan) (i : ℕ) (seat : i < 
 
   -- ---- set-up
 
-  pub set_up_found : set_up_of v.n v.t i v.agreement v.plan ≡ record { verdict = Verdict.Accepted; member = new_board v plan i }
+  pub set_up_found : set_up_of v.n v.t i v.agreement v.plan ≡ record { verdict = Verdict.Accepted; party = new_board v plan i }
   unfolding set_up_of
   set_up_found = ap (set_up_answer v.n v.t i v.agreement) (settled v.n v.t i v.agreement v.plan plan f.boards f.faults seat f.reads)
 

@@ -1,42 +1,42 @@
 -- The history over logs that a history of calls, bytes and cuts amounts to.
-use mathlib.Core.Path.{◌≡◌, refl, sym, ap, subst}
+use mathlib.Core.Path.{◌≡◌, refl, sym, subst}
 use mathlib.Core.Logic.{◌⊎◌, inl, inr}
 use mathlib.Core.Bool.{Bool, true, false}
 use mathlib.Core.List.Memᴰ
-use mathlib.Core.List.{List, [], ◌∷◌, ◌++◌}
-use Prim.Native.Nat.{ℕ, ◌-◌}
+use mathlib.Core.List.{List, [], ◌∷◌}
+use Prim.Native.Nat.{ℕ, ◌-◌, ◌≤◌}
 use lib.Dec.{eqb}
 use lib.ListN.{length, take, drop}
 use Rattle.base.specs.Pick.{pick}
 use Rattle.base.specs.Sets.{Set}
 use Rattle.base.specs.Found.{Found, found, refused}
 use Rattle.plan.specs.Plan.{Plan}
-use Rattle.packet.specs.declared.Packet.{Packet}
-use Rattle.packet.specs.declared.Exactly.{Exactly}
-use Rattle.packet.specs.Reading.{exact_packet}
+use Rattle.message.specs.declared.Message.{Message}
+use Rattle.message.specs.declared.Exactly.{Exactly}
+use Rattle.message.specs.Reading.{exact_message}
 use Rattle.journal.specs.Reading.{records_from}
 use Rattle.board_calls.specs.declared.Answer.{Answer}
 use Rattle.board_calls.specs.Calls.{Entry, again, fresh, answered_of}
 use Rattle.board_calls.specs.Restore.{Replay}
 use Rattle.execution.specs.Machine.{Event, Machine}
 use Rattle.execution.specs.History as logs
-use Rattle.execution.specs.History.{HStep, act, hand, mark, log, held}
-use Rattle.closing_machine.specs.Machine.{closing_machine, event_of}
-use Rattle.closing_agreement.specs.Logs as closing
-use Rattle.agreement.specs.History.{Instance, Call, set_up, start, take_message, read_answer, read_count, restore, start_finds, take_finds, restore_finds, read_as_count, Step, calls, hands, cut, whose, History, Stage, waiting, running, down, Board, board_after}
+use Rattle.execution.specs.History.{HStep, act, hand, mark, log, held, FairH}
+use Rattle.execution.specs.Inner.{ValidH}
+use Rattle.vote_machine.specs.Machine.{vote_machine, event_of}
+use Rattle.agreement.specs.History.{Instance, Call, set_up, start, take_message_lem, read_answer, read_count, restore, start_finds, take_finds, restore_finds, read_as_count, Step, calls, hands, cut, whose, History, Stage, waiting, running, down, Board, board_after}
 use Rattle.agreement.specs.Allowed.{Handed}
 
 -- the vote as a machine
 abbrev pub machine_of : Instance → Plan → Machine
-machine_of v plan = closing_machine v.n v.t v.agreement plan
+machine_of v plan = vote_machine v.n v.t v.agreement plan
 
 -- ---- what a step is for its board's log
 
 -- nothing; a recorded call; a message handed over; a reading or restore that guards every record; a cut that leaves so many records
 pub data Tale : Type 0 where
   nothing : Tale
-  acts : Event Packet ℕ → Tale
-  gives : Packet → Tale
+  acts : Event Message ℕ → Tale
+  gives : Message → Tale
   marks : Tale
   cuts : ℕ → Tale
 
@@ -55,15 +55,15 @@ restore_tale (refused number place) = nothing
 
 abbrev pub call_tale : Call → Tale
 call_tale (set_up n t own agreement plan) = nothing
-call_tale (start m input lent used) = entry_tale (start_finds m input lent used)
-call_tale (take_message m sender bytes lent used) = entry_tale (take_finds m sender bytes lent used)
-call_tale (read_answer m) = answer_tale (answered_of m).answer
-call_tale (read_count m g c) = answer_tale (read_as_count m g c).answer
+call_tale (start p input lent used) = entry_tale (start_finds p input lent used)
+call_tale (take_message_lem p sender bytes lent used) = entry_tale (take_finds p sender bytes lent used)
+call_tale (read_answer p) = answer_tale (answered_of p).answer
+call_tale (read_count p g c) = answer_tale (read_as_count p g c).answer
 call_tale (restore n t own agreement plan lent) = restore_tale (restore_finds n t own agreement plan lent)
 
 -- the message that the bytes are
 abbrev pub hand_tale : Exactly → Tale
-hand_tale (Exactly.One p) = gives p
+hand_tale (Exactly.One m) = gives m
 hand_tale (Exactly.Broken fault at) = nothing
 
 -- how many whole records the bytes begin with
@@ -78,34 +78,34 @@ cut_tale down k = cuts k
 
 abbrev pub tale_of : Board → Step → Tale
 tale_of b (calls i c) = call_tale c
-tale_of b (hands i bytes) = hand_tale (exact_packet bytes)
+tale_of b (hands i bytes) = hand_tale (exact_message bytes)
 tale_of b (cut i left) = cut_tale b.stage (whole_records (take left b.journal))
 
 -- the log after it
-abbrev pub log_after : Tale → List (Event Packet ℕ) → List (Event Packet ℕ)
+abbrev pub log_after : Tale → List (Event Message ℕ) → List (Event Message ℕ)
 log_after nothing l = l
 log_after (acts e) l = e ∷ l
-log_after (gives p) l = l
+log_after (gives m) l = l
 log_after marks l = l
 log_after (cuts k) l = drop (length l - k) l
 
 -- and how many of its records no cut may take
-abbrev pub held_after : Tale → List (Event Packet ℕ) → ℕ → ℕ
+abbrev pub held_after : Tale → List (Event Message ℕ) → ℕ → ℕ
 held_after nothing l x = x
 held_after (acts e) l x = x
-held_after (gives p) l x = length l
+held_after (gives m) l x = length l
 held_after marks l x = length l
 held_after (cuts k) l x = x
 
 module _ (v : Instance) (plan : Plan) where
   abbrev M : Machine
-  M = closing_machine v.n v.t v.agreement plan
+  M = vote_machine v.n v.t v.agreement plan
 
   -- the history with it
   abbrev pub added : ℕ → Tale → List (HStep (machine_of v plan)) → List (HStep (machine_of v plan))
   added i nothing h = h
   added i (acts e) h = act i e ∷ h
-  added i (gives p) h = hand i p ∷ h
+  added i (gives m) h = hand i m ∷ h
   added i marks h = mark i ∷ h
   added i (cuts k) h = logs.cut i k ∷ h
 
@@ -113,22 +113,6 @@ module _ (v : Instance) (plan : Plan) where
   unfoldable pub told : History → List (HStep (machine_of v plan))
   told [] = []
   told (s ∷ h) = added (whose s) (tale_of (board_after h (whose s)) s) (told h)
-
-  -- it only grows
-  more_added : (i : ℕ) (t : Tale) (h old : List (HStep (machine_of v plan))) → ((later : List (HStep (machine_of v plan))) × (h ≡ later ++ old))
-      → (later : List (HStep (machine_of v plan))) × (added i t h ≡ later ++ old)
-  more_added i nothing h old r = r
-  more_added i (acts e) h old (l, q) = (act i e ∷ l, ap (λ y. act i e ∷ y) q)
-  more_added i (gives p) h old (l, q) = (hand i p ∷ l, ap (λ y. hand i p ∷ y) q)
-  more_added i marks h old (l, q) = (mark i ∷ l, ap (λ y. mark i ∷ y) q)
-  more_added i (cuts k) h old (l, q) = (logs.cut i k ∷ l, ap (λ y. logs.cut i k ∷ y) q)
-
-  pub told_later : (later before : History) → (more : List (HStep (machine_of v plan))) × (told (later ++ before) ≡ more ++ told before)
-  unfolding told
-  told_later [] before = ([], refl)
-  told_later (s ∷ later) before =
-      let h = later ++ before in
-      more_added (whose s) (tale_of (board_after h (whose s)) s) (told h) (told before) (told_later later before)
 
   same : {A : Type 0} (b : Bool) (x : A) → x ≡ pick b x x
   same true x = refl
@@ -139,7 +123,7 @@ module _ (v : Instance) (plan : Plan) where
   unfolding log
   log_added j nothing h i = same (eqb j i) (log M i h)
   log_added j (acts e) h i = refl
-  log_added j (gives p) h i = same (eqb j i) (log M i h)
+  log_added j (gives m) h i = same (eqb j i) (log M i h)
   log_added j marks h i = same (eqb j i) (log M i h)
   log_added j (cuts k) h i = refl
 
@@ -148,47 +132,47 @@ module _ (v : Instance) (plan : Plan) where
   unfolding held
   held_added j nothing h i = same (eqb j i) (held M i h)
   held_added j (acts e) h i = same (eqb j i) (held M i h)
-  held_added j (gives p) h i = refl
+  held_added j (gives m) h i = refl
   held_added j marks h i = refl
   held_added j (cuts k) h i = same (eqb j i) (held M i h)
 
   -- ---- what was handed over
 
-  later_handed : (i : ℕ) (t : Tale) (h : List (HStep (machine_of v plan))) (j : ℕ) (p : Packet) → logs.Handed M j p h → logs.Handed M j p (added i t h)
-  later_handed i nothing h j p x = x
-  later_handed i (acts e) h j p x = x
-  later_handed i (gives k) h j p x = inr x
-  later_handed i marks h j p x = x
-  later_handed i (cuts k) h j p x = x
+  later_handed : (i : ℕ) (t : Tale) (h : List (HStep (machine_of v plan))) (j : ℕ) (m : Message) → logs.Handed M j m h → logs.Handed M j m (added i t h)
+  later_handed i nothing h j m x = x
+  later_handed i (acts e) h j m x = x
+  later_handed i (gives k) h j m x = inr x
+  later_handed i marks h j m x = x
+  later_handed i (cuts k) h j m x = x
 
   -- the bytes of a message handed over are that message handed over
-  pub handed_told : (h : History) (j : ℕ) (bytes : List ℕ) (p : Packet) → Handed j bytes h → exact_packet bytes ≡ Exactly.One p
-      → logs.Handed (machine_of v plan) j p (told h)
+  pub handed_told : (h : History) (j : ℕ) (bytes : List ℕ) (m : Message) → Handed j bytes h → exact_message bytes ≡ Exactly.One m
+      → logs.Handed (machine_of v plan) j m (told h)
   unfolding told
-  handed_told [] j bytes p x e = absurd (Memᴰ.not-nil x)
-  handed_told (s ∷ h) j bytes p x e = go (Memᴰ.cases_cons x) (λ y. handed_told h j bytes p y e)
+  handed_told [] j bytes m x e = absurd (Memᴰ.not-nil x)
+  handed_told (s ∷ h) j bytes m x e = go (Memᴰ.cases_cons x) (λ y. handed_told h j bytes m y e)
     where
-      go : (hands j bytes ≡ s) ⊎ Handed j bytes h → (Handed j bytes h → logs.Handed M j p (told h))
-          → logs.Handed M j p (added (whose s) (tale_of (board_after h (whose s)) s) (told h))
+      go : (hands j bytes ≡ s) ⊎ Handed j bytes h → (Handed j bytes h → logs.Handed M j m (told h))
+          → logs.Handed M j m (added (whose s) (tale_of (board_after h (whose s)) s) (told h))
       go (inl i) ih =
-          subst (λ (y : Step). logs.Handed M j p (added (whose y) (tale_of (board_after h (whose y)) y) (told h))) i
-          (subst (λ (z : Exactly). logs.Handed M j p (added j (hand_tale z) (told h))) (sym e) (inl (refl, refl)))
-      go (inr y) ih = later_handed (whose s) (tale_of (board_after h (whose s)) s) (told h) j p (ih y)
+          subst (λ (y : Step). logs.Handed M j m (added (whose y) (tale_of (board_after h (whose y)) y) (told h))) i
+          (subst (λ (z : Exactly). logs.Handed M j m (added j (hand_tale z) (told h))) (sym e) (inl (refl, refl)))
+      go (inr y) ih = later_handed (whose s) (tale_of (board_after h (whose s)) s) (told h) j m (ih y)
 
   -- ---- what may be told next
 
   module _ (bad : Set) where
     abbrev pub MayTell : ℕ → Tale → List (HStep (machine_of v plan)) → Type 0
     MayTell i nothing h = Unit {0}
-    MayTell i (acts e) h = closing.May v.n v.t v.agreement plan bad (act i e) h
-    MayTell i (gives p) h = closing.May v.n v.t v.agreement plan bad (hand i p) h
-    MayTell i marks h = closing.May v.n v.t v.agreement plan bad (mark i) h
-    MayTell i (cuts k) h = closing.May v.n v.t v.agreement plan bad (logs.cut i k) h
+    MayTell i (acts e) h = FairH (machine_of v plan) v.n bad e h
+    MayTell i (gives m) h = (machine_of v plan).Sent (logs.after (machine_of v plan) i (log (machine_of v plan) i h)) m
+    MayTell i marks h = Unit {0}
+    MayTell i (cuts k) h = (held (machine_of v plan) i h ≤ k) × (k ≤ length (log (machine_of v plan) i h))
 
-    pub allowed_added : (i : ℕ) (t : Tale) (h : List (HStep (machine_of v plan))) → closing.Allowed v.n v.t v.agreement plan bad h → MayTell i t h
-        → closing.Allowed v.n v.t v.agreement plan bad (added i t h)
-    allowed_added i nothing h w m = w
-    allowed_added i (acts e) h w m = (w, m)
-    allowed_added i (gives p) h w m = (w, m)
-    allowed_added i marks h w m = (w, m)
-    allowed_added i (cuts k) h w m = (w, m)
+    pub valid_added : (i : ℕ) (t : Tale) (h : List (HStep (machine_of v plan))) → ValidH (machine_of v plan) v.n bad h → MayTell i t h
+        → ValidH (machine_of v plan) v.n bad (added i t h)
+    valid_added i nothing h w m = w
+    valid_added i (acts e) h w m = (w, m)
+    valid_added i (gives x) h w m = (w, m)
+    valid_added i marks h w m = (w, m)
+    valid_added i (cuts k) h w m = (w, m)

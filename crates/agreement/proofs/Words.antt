@@ -1,47 +1,40 @@
 -- Demand 3 says "started", "taken", "made" and "handed over" by a board's accepted calls that are not lost. Here is what that comes to: the same is told by
--- the records in its journal, where a message taken has one or needs none; and right after an accepted call it has started, or taken the message.
+-- the records in its journal, and right after an accepted call it has started, or taken the message.
 use mathlib.Core.Path.{◌≡◌, refl, sym, ap, ◌∙◌, subst}
 use mathlib.Core.Logic.{◌⊎◌, inl, inr, ◌↔◌}
 use mathlib.Core.List.Memᴰ
 use mathlib.Core.List.{List, [], ◌∷◌, Memᴰ}
-use Prim.Native.Nat.{ℕ, zero, suc, ◌<◌}
-use lib.Dec.{T}
+use Prim.Native.Nat.{ℕ, ◌<◌}
 use lib.IntN.{ℤ}
-use lib.ListN.{drop}
 use Rattle.base.specs.Sets.{Set}
 use Rattle.base.specs.Found.{found}
 use Rattle.plan.specs.Plan.{Plan}
 use Rattle.plan.specs.Positions.{reading_of}
-use Rattle.packet.specs.declared.Packet.{Packet}
-use Rattle.packet.specs.declared.Exactly.{Exactly}
-use Rattle.packet.specs.Packet.{packet_bytes}
-use Rattle.packet.specs.Reading.{exact_packet}
+use Rattle.message.specs.declared.Message.{Message}
+use Rattle.message.specs.declared.Exactly.{Exactly}
+use Rattle.message.specs.Message.{message_bytes}
+use Rattle.message.specs.Reading.{exact_message}
 use Rattle.journal.specs.declared.Record.{Record}
 use Rattle.journal.specs.declared.Record.TheVariants.{Start, Taken}
-use Rattle.member.specs.Member.{Member, idle}
-use Rattle.member_life.specs.Life.{lived, Life}
+use Rattle.party.specs.Party.{Party}
 use Rattle.board_calls.specs.Answers.{position_of}
 use Rattle.board_calls.specs.Calls.{Entry, called_of}
 use Rattle.execution.proofs.Logs.{handed_sent}
-use Rattle.vote_machine.proofs.Laws.{Passes}
-use Rattle.closing_machine.proofs.Laws.{closing_lawful}
-use Rattle.closing_agreement.proofs.Lives.{taken_lived, idle_lived, idle_record}
-use Rattle.agreement.specs.History.{Instance, Lent, StartInput, voted_input, start, take_message, start_finds, take_finds, Step, calls, hands, History, waiting, a_start, a_take, Counted, Board, made_in, after_entry, board_after}
+use Rattle.vote_machine.proofs.Laws.{vote_lawful}
+use Rattle.agreement.specs.History.{Instance, Lent, StartInput, voted_input, start, take_message_lem, start_finds, take_finds, Step, calls, hands, History, Act, a_start, a_take, Counted, Board, made_in, after_entry, board_after}
 use Rattle.agreement.specs.Allowed.{Handed, Refuses, Accepts, May, Allowed}
-use Rattle.agreement.specs.Demand.{Started, Took, Made, member_now, StartedWith, NeedsNoRecord, Shared}
+use Rattle.agreement.specs.Demand.{Started, Took, Made, StartedWith, Shared}
 use Rattle.agreement.specs.Inner.{records_of, StartRecorded, TakeRecorded, RecordsMade, StartedRecorded}
 use Rattle.agreement.proofs.Readings.{position_reading}
 use Rattle.agreement.proofs.Told.{machine_of, told, handed_told}
 use Rattle.agreement.proofs.Tied.{new_board, AtStage, Running, shared_passes}
 use Rattle.agreement.proofs.Keeps.{tied_read}
 use Rattle.agreement.proofs.Histories.{TiedAfter, tied, told_valid}
-use Rattle.agreement.proofs.Boards.{member_now_lem, started_position, makes_state}
+use Rattle.agreement.proofs.Boards.{running_state, state_plan, started_position, makes_state}
 use Rattle.agreement.proofs.Inputs.{started_with}
-use Rattle.agreement.proofs.Members.{records_life, left_lived, member_seated}
 use Rattle.agreement.proofs.Steps.{own, not_refused}
-use Rattle.agreement.proofs.Counted.{Writes, start_record_lem, take_record, call_of, made_along_lem, made_by, writes_start, writes_take}
+use Rattle.agreement.proofs.Counted.{Says, record_of, call_of, made_along_lem, made_by, says_start, says_take}
 use Rattle.agreement.proofs.Follows.{follows}
-use Rattle.agreement.proofs.Waiting.{waiting_none}
 
 module _ (v : Instance) (plan : Plan) (bad : Set) (f : Shared v plan) where
   -- ---- by the records in the journal
@@ -50,8 +43,8 @@ module _ (v : Instance) (plan : Plan) (bad : Set) (f : Shared v plan) where
     -- a start that counts is at its input's position
     pub started_at_lem : (x : ℕ) (z : ℤ) → Started h i x z → StartRecorded h i x × (position_of plan z ≡ x) × (reading_of plan x ≡ z)
     started_at_lem x z (input, (c, m, e), voted) =
-        let y = start_record_lem plan (new_board v plan i) (board_after h i).counted (records_of h i) (follows v plan bad f h a i) c m x input e in
-        let s : Writes plan (a_start x input) y.0 = y.2 in
+        let y = record_of plan (new_board v plan i) (board_after h i).counted (records_of h i) (follows v plan bad f h a i) c m in
+        let s : Says plan (a_start x input) y.0 = subst (λ (k : Act). Says plan k y.0) e y.2 in
         let at : position_of plan z ≡ x = ap (position_of plan) (sym voted) ∙ s.2 in (
           (s.0, subst (λ (r : Record). Memᴰ r (records_of h i)) (sym s.1) y.1),
           at,
@@ -65,49 +58,28 @@ module _ (v : Instance) (plan : Plan) (bad : Set) (f : Shared v plan) where
         from : StartRecorded h i x → (z : ℤ) × Started h i x z
         from (b, m) =
             let c = call_of plan (new_board v plan i) (board_after h i).counted (records_of h i) (follows v plan bad f h a i) (Start b x) m in
-            let s = writes_start plan (new_board v plan i) c.0.act b x c.2 in
+            let s = says_start plan (new_board v plan i) c.0.act b x c.2 in
             (voted_input s.0, (s.0, (c.0, c.1, s.1), refl))
 
-    -- a record of a message taken is of a take that counts
-    pub took_records : (s : ℕ) (m : Packet) → TakeRecorded h i s m → Took h i s m
-    took_records s m k =
-        let c = call_of plan (new_board v plan i) (board_after h i).counted (records_of h i) (follows v plan bad f h a i) (Taken s m) k in
-        (c.0, c.1, writes_take plan (new_board v plan i) c.0.act s m c.2)
-
-    -- what it took needs no record any more, whether the take had one or not
-    pub took_idle : i < v.n → (s : ℕ) (m : Packet) → Took h i s m → NeedsNoRecord v h i s m
-    took_idle k s m (c, n, e) =
-        subst (λ (q : Member). T (idle q s m)) (sym now)
-        (go (take_record plan (new_board v plan i) (board_after h i).counted (records_of h i) (follows v plan bad f h a i) c n s m e))
+    -- it took m from board s: its journal has that record, wherever the take was of a message held already
+    pub took_records : (s : ℕ) (m : Message) → Took h i s m ↔ TakeRecorded h i s m
+    took_records s m = (to, from)
       where
-        passes : Passes v.n v.t plan
-        passes = shared_passes v plan f
+        to : Took h i s m → TakeRecorded h i s m
+        to (c, k, e) =
+            let y = record_of plan (new_board v plan i) (board_after h i).counted (records_of h i) (follows v plan bad f h a i) c k in
+            let t : Says plan (a_take s (Exactly.One m)) y.0 = subst (λ (q : Act). Says plan q y.0) e y.2 in
+            let o : Exactly.One m ≡ Exactly.One t.0 = t.1 in
+            let g : m ≡ t.0 = cc in
+            subst (λ (r : Record). Memᴰ r (records_of h i)) (sym (ap (Taken s) g ∙ t.2)) y.1
 
-        life : Life (new_board v plan i) (records_of h i)
-        life = records_life v plan bad f h a i k
-
-        -- what needed none since
-        since : (d : ℕ) (rs : List Record) → Life (new_board v plan i) rs → T (idle (lived (new_board v plan i) (drop d rs)).member s m)
-            → T (idle (lived (new_board v plan i) rs).member s m)
-        since zero rs l z = z
-        since (suc d) [] l z = z
-        since (suc d) (r ∷ rs) l z = idle_record v.n v.t v.agreement plan passes i k r rs l s m (since d rs l.1 z)
-
-        go : Memᴰ (Taken s m) (records_of h i) ⊎ ((d : ℕ) × T (idle (lived (new_board v plan i) (drop d (records_of h i))).member s m))
-            → T (idle (lived (new_board v plan i) (records_of h i)).member s m)
-        go (inl g) =
-            subst T (sym (idle_lived v.n v.t v.agreement plan passes i k (records_of h i) life s m))
-            (taken_lived v.n v.t v.agreement plan passes i k (records_of h i) life s m g)
-        go (inr (d, z)) = since d (records_of h i) life z
-
-        there : (board_after h i).stage ≡ waiting → ⊥
-        there g = Memᴰ.not-nil (subst (λ (cs : List Counted). Memᴰ c cs) (waiting_none v bad h a i g) n)
-
-        now : member_now v h i ≡ (lived (new_board v plan i) (records_of h i)).member
-        now = member_now_lem v plan bad f h a i k there ∙ left_lived v plan bad f h a i k
+        from : TakeRecorded h i s m → Took h i s m
+        from k =
+            let c = call_of plan (new_board v plan i) (board_after h i).counted (records_of h i) (follows v plan bad f h a i) (Taken s m) k in
+            (c.0, c.1, says_take plan (new_board v plan i) c.0.act s m c.2)
 
     -- its calls made m: those of its journal's records do
-    pub made_records : (m : Packet) → Made h i m ↔ RecordsMade v plan h i m
+    pub made_records : (m : Message) → Made h i m ↔ RecordsMade v plan h i m
     made_records m = (
       λ y. made_along_lem plan (new_board v plan i) (board_after h i).counted (records_of h i) (follows v plan bad f h a i) y.0 y.1 m y.2,
       λ y. made_by plan (new_board v plan i) (board_after h i).counted (records_of h i) (follows v plan bad f h a i) m y,
@@ -138,7 +110,7 @@ module _ (v : Instance) (plan : Plan) (bad : Set) (f : Shared v plan) where
 
   -- ---- right after an accepted call
 
-  module _ (h : History) (i : ℕ) (p : Member) (lent : Lent) (used : ℕ) where
+  module _ (h : History) (i : ℕ) (p : Party) (lent : Lent) (used : ℕ) where
     -- "Started and taken mean in an accepted call": right after an accepted start the board has started with what its input votes on
     pub start_counts : (input : StartInput) → Allowed v bad (calls i (start p input lent used) ∷ h) → (e : Entry) → start_finds p input lent used ≡ found e
         → StartedWith plan (calls i (start p input lent used) ∷ h) i (position_of plan (voted_input input)) (voted_input input)
@@ -151,25 +123,25 @@ module _ (v : Instance) (plan : Plan) (bad : Set) (f : Shared v plan) where
         s : Step
         s = calls i (start p input lent used)
 
-        same : Refuses (start p input lent used) ⊎ Accepts v bad i h (board_after h i) (start p input lent used) → p.party.plan ≡ plan
+        same : Refuses (start p input lent used) ⊎ Accepts v bad i h (board_after h i) (start p input lent used) → p.plan ≡ plan
         same (inl x) = absurd (not_refused x.0 x.1.0 x.1.1 g)
-        same (inr c) = (member_seated v plan bad f h a i m.0.0 p lent used c).on
+        same (inr c) = ap (λ (q : Party). q.plan) (c.same ∙ running_state v plan bad f h a i m.0.0 c.up) ∙ state_plan v plan bad f h a i m.0.0
 
         head : Counted
-        head = record { act = a_start (position_of p.party.plan z) input; made = made_in e; used = (called_of p used (found e)).used }
+        head = record { act = a_start (position_of p.plan z) input; made = made_in e; used = (called_of p used (found e)).used }
 
         there : Memᴰ head (board_after (s ∷ h) i).counted
         there =
             subst (λ (b : Board). Memᴰ head b.counted)
-            (sym (own s h ∙ ap (after_entry (board_after h i) (a_start (position_of p.party.plan z) input) p lent used) g)) (Memᴰ.head refl)
+            (sym (own s h ∙ ap (after_entry (board_after h i) (a_start (position_of p.plan z) input) p lent used) g)) (Memᴰ.head refl)
 
     -- right after an accepted take of the bytes of m, fresh or already held, the board has taken m
-    pub take_counts : (s : ℕ) (bytes : List ℕ) (m : Packet) → exact_packet bytes ≡ Exactly.One m → (e : Entry) → take_finds p s bytes lent used ≡ found e
-        → Took (calls i (take_message p s bytes lent used) ∷ h) i s m
+    pub take_counts : (s : ℕ) (bytes : List ℕ) (m : Message) → exact_message bytes ≡ Exactly.One m → (e : Entry) → take_finds p s bytes lent used ≡ found e
+        → Took (calls i (take_message_lem p s bytes lent used) ∷ h) i s m
     take_counts s bytes m o e g = (
-      record { act = a_take s (exact_packet bytes); made = made_in e; used = (called_of p used (found e)).used },
-      subst (λ (b : Board). Memᴰ (record { act = a_take s (exact_packet bytes); made = made_in e; used = (called_of p used (found e)).used }) b.counted)
-          (sym (own (calls i (take_message p s bytes lent used)) h ∙ ap (after_entry (board_after h i) (a_take s (exact_packet bytes)) p lent used) g)) (Memᴰ.head refl),
+      record { act = a_take s (exact_message bytes); made = made_in e; used = (called_of p used (found e)).used },
+      subst (λ (b : Board). Memᴰ (record { act = a_take s (exact_message bytes); made = made_in e; used = (called_of p used (found e)).used }) b.counted)
+          (sym (own (calls i (take_message_lem p s bytes lent used)) h ∙ ap (after_entry (board_after h i) (a_take s (exact_message bytes)) p lent used) g)) (Memᴰ.head refl),
       ap (a_take s) o,
     )
 
@@ -177,39 +149,39 @@ module _ (v : Instance) (plan : Plan) (bad : Set) (f : Shared v plan) where
 
   -- what was handed over are the bytes of a message, which they read as
   pub handed_one : (h : History) → Allowed v bad h → (i : ℕ) (bytes : List ℕ) → Handed i bytes h
-      → (i < v.n) × ((m : Packet) × (bytes ≡ packet_bytes m) × (exact_packet bytes ≡ Exactly.One m))
+      → (i < v.n) × ((m : Message) × (bytes ≡ message_bytes m) × (exact_message bytes ≡ Exactly.One m))
   handed_one [] a i bytes x = absurd (Memᴰ.not-nil x)
   handed_one (s ∷ h) (m, a) i bytes x = go (Memᴰ.cases_cons x) (handed_one h a i bytes)
     where
       Reads : Type 0
-      Reads = (i < v.n) × ((m : Packet) × (bytes ≡ packet_bytes m) × (exact_packet bytes ≡ Exactly.One m))
+      Reads = (i < v.n) × ((m : Message) × (bytes ≡ message_bytes m) × (exact_message bytes ≡ Exactly.One m))
 
       now : May v bad (hands i bytes) h → Reads
       now (o, up, (y, e, k)) =
           let w : TiedAfter v plan bad f h i = tied v plan bad f h a i o.0 in
           let u : Running v plan i (board_after h i) w.records = subst (AtStage v plan i (board_after h i) w.records) up w.stage in
-          (o.0, (y, e, ap exact_packet e ∙ tied_read v plan f i o.0 (board_after h i) _ _ w y (u.outbox y k)))
+          (o.0, (y, e, ap exact_message e ∙ tied_read v plan f i o.0 (board_after h i) _ _ w y (u.outbox y k)))
 
       go : (hands i bytes ≡ s) ⊎ Handed i bytes h → (Handed i bytes h → Reads) → Reads
       go (inl e) ih = now (subst (λ (y : Step). May v bad y h) (sym e) m)
       go (inr y) ih = ih y
 
-  -- "has taken every message that sound boards handed over": whatever message the bytes read as needs no record, which is that they read as one that needs none
+  -- "has taken every message that sound boards handed over": whatever message the bytes read as was taken, which is that they read as one and it was taken
   pub taken_one : (h : History) → Allowed v bad h → (i j : ℕ) (bytes : List ℕ) → Handed j bytes h
-      → ((m : Packet) → exact_packet bytes ≡ Exactly.One m → NeedsNoRecord v h i j m) ↔ ((m : Packet) × (exact_packet bytes ≡ Exactly.One m) × NeedsNoRecord v h i j m)
+      → ((m : Message) → exact_message bytes ≡ Exactly.One m → Took h i j m) ↔ ((m : Message) × (exact_message bytes ≡ Exactly.One m) × Took h i j m)
   taken_one h a i j bytes x = (
     λ t. let y = (handed_one h a j bytes x).1 in (y.0, y.2, t y.0 y.2),
-    λ t m e. let f : Exactly.One t.0 ≡ Exactly.One m = sym t.1 ∙ e in let g : t.0 ≡ m = cc in subst (NeedsNoRecord v h i j) g t.2,
+    λ t m e. let f : Exactly.One t.0 ≡ Exactly.One m = sym t.1 ∙ e in let g : t.0 ≡ m = cc in subst (Took h i j) g t.2,
   )
 
   -- "a lost call has handed nothing over": what a board handed over, a call of it that is not lost made
-  pub handed_made : (h : History) → Allowed v bad h → (i : ℕ) (bytes : List ℕ) → Handed i bytes h → (m : Packet) × (bytes ≡ packet_bytes m) × Made h i m
+  pub handed_made : (h : History) → Allowed v bad h → (i : ℕ) (bytes : List ℕ) → Handed i bytes h → (m : Message) × (bytes ≡ message_bytes m) × Made h i m
   handed_made h a i bytes x =
       let y = handed_one h a i bytes x in
-      let m : Packet = y.1.0 in (
+      let m : Message = y.1.0 in (
         m,
         y.1.1,
         (made_records h a i m).1 ((makes_state v plan bad f h a i y.0 m).1
-            (handed_sent (machine_of v plan) v.n bad (closing_lawful v.n v.t v.agreement plan (shared_passes v plan f)) (told v plan h) (told_valid v plan bad f h a) i m
+            (handed_sent (machine_of v plan) v.n bad (vote_lawful v.n v.t v.agreement plan (shared_passes v plan f)) (told v plan h) (told_valid v plan bad f h a) i m
             (handed_told v plan h i bytes m x y.1.2))),
       )

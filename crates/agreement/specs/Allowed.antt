@@ -4,14 +4,14 @@ use mathlib.Core.List.{List, [], ◌∷◌, Memᴰ}
 use Rattle.base.specs.Sets.{Set, Sound as SoundOf}
 use Rattle.base.specs.declared.Verdict.{Verdict}
 use Rattle.base.specs.Found.{refused}
-use Rattle.packet.specs.declared.Packet.{Packet}
-use Rattle.packet.specs.Packet.{packet_bytes}
+use Rattle.message.specs.declared.Message.{Message}
+use Rattle.message.specs.Message.{message_bytes}
 use Rattle.journal.specs.declared.RecordRead.{RecordRead}
 use Rattle.journal.specs.Reading.{record_at, records_in}
 use Rattle.journal.specs.Records.{journal_bytes}
-use Rattle.member.specs.Member.{Member}
+use Rattle.party.specs.Party.{Party}
 use Rattle.board_calls.specs.Calls.{set_up_of, answered_of}
-use Rattle.agreement.specs.History.{Instance, Lent, Call, set_up, start, take_message, read_answer, read_count, restore, start_finds, take_finds, restore_finds, read_as_count, Step, calls, hands, cut, History, waiting, running, Board, board_after}
+use Rattle.agreement.specs.History.{Instance, Lent, Call, set_up, start, take_message_lem, read_answer, read_count, restore, start_finds, take_finds, restore_finds, read_as_count, Step, calls, hands, cut, History, waiting, running, Board, board_after}
 
 -- board i is sound: it "follows these rules for its whole life"; bad are the faulty ones
 abbrev pub Sound : Instance → Set → ℕ → Type 0
@@ -24,10 +24,10 @@ Handed i bytes h = Memᴰ (hands i bytes) h
 -- the question with this number refuses the call
 abbrev pub RefusedBy : ℕ → Call → Type 0
 RefusedBy k (set_up n t own agreement plan) = (at : ℕ) × ((set_up_of n t own agreement plan).verdict ≡ Verdict.Refused k at)
-RefusedBy k (start m input lent used) = (at : ℕ) × (start_finds m input lent used ≡ refused k at)
-RefusedBy k (take_message m sender bytes lent used) = (at : ℕ) × (take_finds m sender bytes lent used ≡ refused k at)
-RefusedBy k (read_answer m) = (at : ℕ) × ((answered_of m).verdict ≡ Verdict.Refused k at)
-RefusedBy k (read_count m g c) = (at : ℕ) × ((read_as_count m g c).verdict ≡ Verdict.Refused k at)
+RefusedBy k (start p input lent used) = (at : ℕ) × (start_finds p input lent used ≡ refused k at)
+RefusedBy k (take_message_lem p sender bytes lent used) = (at : ℕ) × (take_finds p sender bytes lent used ≡ refused k at)
+RefusedBy k (read_answer p) = (at : ℕ) × ((answered_of p).verdict ≡ Verdict.Refused k at)
+RefusedBy k (read_count p g c) = (at : ℕ) × ((read_as_count p g c).verdict ≡ Verdict.Refused k at)
 RefusedBy k (restore n t own agreement plan lent) = (at : ℕ) × (restore_finds n t own agreement plan lent ≡ refused k at)
 
 -- the call is refused: then it may be given anything, since it changes nothing
@@ -35,9 +35,9 @@ abbrev pub Refuses : Call → Type 0
 Refuses c = (k : ℕ) × RefusedBy k c
 
 -- "each later call gets the record, journal and used length as the call before left them": the lent journal begins with the used bytes
-pub record Continues (b : Board) (m : Member) (lent : Lent) (used : ℕ) : Type 0 where
+pub record Continues (b : Board) (p : Party) (lent : Lent) (used : ℕ) : Type 0 where
   pub up : b.stage ≡ running
-  pub same : m ≡ b.member
+  pub same : p ≡ b.party
   pub at : used ≡ length b.journal
   pub kept : take used lent.journal ≡ b.journal
 
@@ -63,11 +63,11 @@ Lendable used journal = (journal ≡ used) ⊎ TornAfter used journal
 abbrev pub Accepts : Instance → Set → ℕ → History → Board → Call → Type 0
 -- "A sound board's first call of a vote is its one set-up"
 Accepts v bad i h b (set_up n t own agreement plan) = (b.stage ≡ waiting) × Ours v i n t own agreement plan
-Accepts v bad i h b (start m input lent used) = Continues b m lent used
+Accepts v bad i h b (start p input lent used) = Continues b p lent used
 -- "a message taken as a sound board's was handed over earlier by it for that vote"
-Accepts v bad i h b (take_message m sender bytes lent used) = Continues b m lent used × (Sound v bad sender → Handed sender bytes h)
-Accepts v bad i h b (read_answer m) = (b.stage ≡ running) × (m ≡ b.member)
-Accepts v bad i h b (read_count m g c) = (b.stage ≡ running) × (m ≡ b.member)
+Accepts v bad i h b (take_message_lem p sender bytes lent used) = Continues b p lent used × (Sound v bad sender → Handed sender bytes h)
+Accepts v bad i h b (read_answer p) = (b.stage ≡ running) × (p ≡ b.party)
+Accepts v bad i h b (read_count p g c) = (b.stage ≡ running) × (p ≡ b.party)
 -- "each restore has the same settings, and after a cut later than the set-up only a restore goes on, from what the cut left"
 Accepts v bad i h b (restore n t own agreement plan lent) = (b.stage ≡ waiting → ⊥) × Ours v i n t own agreement plan × Lendable b.journal lent.journal
 
@@ -77,7 +77,7 @@ May v bad (calls i c) h = Sound v bad i × (Refuses c ⊎ Accepts v bad i h (boa
 -- a message that a call since the set-up or the last restore made, or that this restore gave again (every message of its records' calls): at any time
 -- before a cut, in any order, also twice or never; "all messages of one call before the next call" is not asked
 May v bad (hands i bytes) h =
-    Sound v bad i × ((board_after h i).stage ≡ running) × ((p : Packet) × (bytes ≡ packet_bytes p) × Memᴰ p (board_after h i).outbox)
+    Sound v bad i × ((board_after h i).stage ≡ running) × ((m : Message) × (bytes ≡ message_bytes m) × Memᴰ m (board_after h i).outbox)
 -- "A cut leaves a beginning of the journal's used bytes that holds every record in them written before the last handing over of a message or
 -- reading of an answer, and every record that a restore gave back"
 May v bad (cut i left) h = Sound v bad i × ((board_after h i).guarded ≤ left)

@@ -1,25 +1,24 @@
--- Demand 3, sentence by sentence, with what document 02, Q-1 makes of it: closing values beside answers, and closed boards in the place of answers at the end.
-use Rattle.std.specs.Prelude.{◌≡◌, ◌⊎◌, Bool, true, false, ◌&&◌, ℕ, ◌*◌, ◌≤◌, ◌<◌, T, eqb, ℤ}
-use mathlib.Core.List.{List, [], ◌∷◌, ◌++◌, Memᴰ}
+-- Demand 3, sentence by sentence.
+use Rattle.std.specs.Prelude.{◌≡◌, ◌⊎◌, Bool, true, false, ◌&&◌, ℕ, ◌*◌, ◌≤◌, ◌<◌, eqb, ℤ}
+use mathlib.Core.List.{List, [], ◌∷◌, Memᴰ}
 use Rattle.base.specs.Pick.{pick}
 use Rattle.base.specs.Sets.{Set, count}
-use Rattle.base.specs.Limits.{max_boards, max_number, member_bytes}
+use Rattle.base.specs.Limits.{max_boards, max_number, outgoing_size}
 use Rattle.base.specs.Found.{Found, found, refused}
 use Rattle.tree.specs.Walk.{Walk, OnPath}
 use Rattle.tree.specs.Edges.{Adjacent}
 use Rattle.plan.specs.Plan.{Plan}
 use Rattle.plan.specs.Positions.{edges_of, reading_of}
 use Rattle.plan.specs.Reading.{plan_of}
-use Rattle.packet.specs.declared.Packet.{Packet}
-use Rattle.packet.specs.declared.Exactly.{Exactly}
-use Rattle.packet.specs.Packet.{packet_bytes}
-use Rattle.packet.specs.Reading.{exact_packet}
-use Rattle.member.specs.Member.{Member, idle}
+use Rattle.message.specs.declared.Message.{Message}
+use Rattle.message.specs.declared.Exactly.{Exactly}
+use Rattle.message.specs.Message.{message_bytes}
+use Rattle.message.specs.Reading.{exact_message}
+use Rattle.party.specs.Party.{Party}
 use Rattle.board_calls.specs.declared.Answer.{Answer}
-use Rattle.board_calls.specs.declared.ClosingRead.{ClosingRead}
-use Rattle.board_calls.specs.Calls.{answered_of, closing_read_of, no_member}
+use Rattle.board_calls.specs.Calls.{answered_of, no_party}
 use Rattle.board_calls.specs.Restore.{Replay, restored_of}
-use Rattle.agreement.specs.History.{Instance, StartInput, voted_input, set_up, start, take_message, read_answer, read_count, restore, restore_finds, read_as_count, Step, calls, hands, cut, History, Stage, waiting, running, down, a_start, a_take, Counted, Board, board_after}
+use Rattle.agreement.specs.History.{Instance, StartInput, voted_input, set_up, start, take_message_lem, read_answer, read_count, restore, restore_finds, read_as_count, Step, calls, hands, cut, History, Stage, waiting, running, down, a_start, a_take, Counted, Board, board_after}
 use Rattle.agreement.specs.Allowed.{Sound, Handed, Allowed}
 
 -- ---- started, taken, made
@@ -32,13 +31,13 @@ StartedBy h i x input = (c : Counted) × Memᴰ c (board_after h i).counted × (
 abbrev pub Started : History → ℕ → ℕ → ℤ → Type 0
 Started h i x z = (input : StartInput) × StartedBy h i x input × (voted_input input ≡ z)
 
--- it took message p from board s, with or without a record
-abbrev pub Took : History → ℕ → ℕ → Packet → Type 0
-Took h i s p = (c : Counted) × Memᴰ c (board_after h i).counted × (c.act ≡ a_take s (Exactly.One p))
+-- it took message m from board s, held already or not
+abbrev pub Took : History → ℕ → ℕ → Message → Type 0
+Took h i s m = (c : Counted) × Memᴰ c (board_after h i).counted × (c.act ≡ a_take s (Exactly.One m))
 
--- a call of it made the message p: "what a board's calls made leaves lost calls out"
-abbrev pub Made : History → ℕ → Packet → Type 0
-Made h i p = (c : Counted) × Memᴰ c (board_after h i).counted × Memᴰ p c.made
+-- a call of it made the message m: "what a board's calls made leaves lost calls out"
+abbrev pub Made : History → ℕ → Message → Type 0
+Made h i m = (c : Counted) × Memᴰ c (board_after h i).counted × Memᴰ m c.made
 
 -- ---- handing over
 
@@ -50,10 +49,10 @@ accepted (refused number place) = false
 -- the step is an accepted restore of board i, after a cut or without one; a refused one is none
 abbrev pub is_restore_of : ℕ → Step → Bool
 is_restore_of i (calls j (set_up n t own agreement plan)) = false
-is_restore_of i (calls j (start m input lent used)) = false
-is_restore_of i (calls j (take_message m sender bytes lent used)) = false
-is_restore_of i (calls j (read_answer m)) = false
-is_restore_of i (calls j (read_count m g c)) = false
+is_restore_of i (calls j (start p input lent used)) = false
+is_restore_of i (calls j (take_message_lem p sender bytes lent used)) = false
+is_restore_of i (calls j (read_answer p)) = false
+is_restore_of i (calls j (read_count p g c)) = false
 is_restore_of i (calls j (restore n t own agreement plan lent)) = eqb j i && accepted (restore_finds n t own agreement plan lent)
 is_restore_of i (hands j bytes) = false
 is_restore_of i (cut j left) = false
@@ -63,56 +62,36 @@ unfoldable pub since_restore : ℕ → History → History
 since_restore i [] = []
 since_restore i (s ∷ h) = pick (is_restore_of i s) [] (s ∷ since_restore i h)
 
--- document 02, Q-5: "for answering and closing, handing over counts only from the last restore", of the board that hands over. Only the ending asks this: what is
+-- document 02, Q-5: "for answering .., handing over counts only from the last restore", of the board that hands over. Only the ending asks this: what is
 -- taken as a sound board's message is anything that it ever handed over (`Accepts`), also before a cut
 abbrev pub HandedSince : ℕ → List ℕ → History → Type 0
 HandedSince i bytes h = Handed i bytes (since_restore i h)
 
--- ---- answers and closing values
+-- ---- answers
 
--- the record of a board by its stage: none before the set-up; after a cut, the one that a restore would give
-abbrev pub member_by : Instance → ℕ → Board → Stage → Member
-member_by v i b waiting = no_member
-member_by v i b running = b.member
-member_by v i b down = (restored_of (restore_finds v.n v.t i v.agreement v.plan (record { journal = b.journal; out = member_bytes }))).member
+-- the party of a board by its stage: none before the set-up; after a cut, the one that a restore would give
+abbrev pub party_by : Instance → ℕ → Board → Stage → Party
+party_by v i b waiting = no_party
+party_by v i b running = b.party
+party_by v i b down = (restored_of (restore_finds v.n v.t i v.agreement v.plan (record { journal = b.journal; out = outgoing_size }))).party
 
--- the record that a reading of board i would be asked of: after a cut, the one restored
-abbrev pub member_now : Instance → History → ℕ → Member
-member_now v h i = member_by v i (board_after h i) (board_after h i).stage
+-- the party that a reading of board i would be asked of: after a cut, the one restored
+abbrev pub party_now : Instance → History → ℕ → Party
+party_now v h i = party_by v i (board_after h i) (board_after h i).stage
 
 -- "A board's answer is what reading gives or, after a cut, would give once restored."
 abbrev pub answer_now : Instance → History → ℕ → Answer
-answer_now v h i = (answered_of (member_now v h i)).answer
+answer_now v h i = (answered_of (party_now v h i)).answer
 
--- board i's answer was "read earlier", from the record m: as it is, or by a reading that gave it as a count
-abbrev pub WasRead : History → ℕ → Member → Type 0
-WasRead h i m =
-    Memᴰ (calls i (read_answer m)) h
-    ⊎ ((g : ℕ) × (c : ℤ) × (a : ℤ) × Memᴰ (calls i (read_count m g c)) h × ((read_as_count m g c).answer ≡ Answer.At a))
+-- board i's answer was "read earlier", from the party p: as it is, or by a reading that gave it as a count
+abbrev pub WasRead : History → ℕ → Party → Type 0
+WasRead h i p =
+    Memᴰ (calls i (read_answer p)) h
+    ⊎ ((g : ℕ) × (c : ℤ) × (a : ℤ) × Memᴰ (calls i (read_count p g c)) h × ((read_as_count p g c).answer ≡ Answer.At a))
 
 -- "held then or read earlier"
 abbrev pub Answers : Instance → History → ℕ → ℤ → Type 0
-Answers v h i z = (answer_now v h i ≡ Answer.At z) ⊎ ((m : Member) × WasRead h i m × ((answered_of m).answer ≡ Answer.At z))
-
--- what a reading of the closing gives of board i or, after a cut, would give once restored
-abbrev pub closing_now : Instance → History → ℕ → ClosingRead
-closing_now v h i = closing_read_of (member_now v h i)
-
--- "it takes the smallest such as its closing value": board i has the closing value z
-abbrev pub ClosingValueNow : Instance → History → ℕ → ℤ → Type 0
-ClosingValueNow v h i z = (closing_now v h i).value ≡ Answer.At z
-
--- a closing value held then or earlier, read or not: also one that a cut lost
-abbrev pub ClosingValue : Instance → History → ℕ → ℤ → Type 0
-ClosingValue v h i z = (later : History) × (before : History) × (h ≡ later ++ before) × ClosingValueNow v before i z
-
--- "With a closing value and 2t+1 ready it is closed"
-abbrev pub Closed : Instance → History → ℕ → Type 0
-Closed v h i = T (closing_now v h i).closed
-
--- an answer or a closing value: "Closing values are then as near and as well placed as answers", all together
-abbrev pub Says : Instance → History → ℕ → ℤ → Type 0
-Says v h i z = Answers v h i z ⊎ ClosingValue v h i z
+Answers v h i z = (answer_now v h i ≡ Answer.At z) ⊎ ((p : Party) × WasRead h i p × ((answered_of p).answer ≡ Answer.At z))
 
 -- ---- the demand
 
@@ -135,31 +114,23 @@ BetweenInputs v plan bad h y =
     (i : ℕ) × (j : ℕ) × (a : ℕ) × (b : ℕ) × (p : ℤ) × (q : ℤ) × Sound v bad i × Sound v bad j × StartedWith plan h i a p × StartedWith plan h j b q
     × Walk (Adjacent (edges_of plan)) (λ _. Unit {0}) a b × OnPath (Adjacent (edges_of plan)) a b y
 
--- A take of message p from board s would need no record at board i any more. A closed board "takes level messages without effect or record", so this is what
--- taken means of every board: an accepted take not lost makes it so, and it stays so (Ending, `Ends.took`).
-abbrev pub NeedsNoRecord : Instance → History → ℕ → ℕ → Packet → Type 0
-NeedsNoRecord v h i s p = T (idle (member_now v h i) s p)
-
 -- "If every sound board has started, has handed over all that its calls made, and has taken every message that sound boards handed over", where handing
 -- over counts from the last restore on. What was handed over are bytes, and they read as one message (Words, `handed_one`).
 pub record Complete (v : Instance) (bad : Set) (h : History) : Type 0 where
   pub started : (i : ℕ) → Sound v bad i → (x : ℕ) × (z : ℤ) × Started h i x z
-  pub handed : (i : ℕ) (p : Packet) → Sound v bad i → Made h i p → HandedSince i (packet_bytes p) h
-  pub taken : (i j : ℕ) (bytes : List ℕ) (p : Packet) → Sound v bad i → Sound v bad j → HandedSince j bytes h → exact_packet bytes ≡ Exactly.One p
-      → NeedsNoRecord v h i j p
+  pub handed : (i : ℕ) (m : Message) → Sound v bad i → Made h i m → HandedSince i (message_bytes m) h
+  pub taken : (i j : ℕ) (bytes : List ℕ) (m : Message) → Sound v bad i → Sound v bad j → HandedSince j bytes h → exact_message bytes ≡ Exactly.One m
+      → Took h i j m
 
 -- what holds after a list of steps
 pub record Holds (v : Instance) (plan : Plan) (bad : Set) (h : History) : Type 0 where
-  -- "Any two answers of sound boards, held then or read earlier, are at most one edge apart", and their closing values, held then or
-  -- earlier, as well
-  pub near : (i j : ℕ) (y z : ℤ) → Sound v bad i → Sound v bad j → Says v h i y → Says v h j z
+  -- "Any two answers of sound boards, held then or read earlier, are at most one edge apart"
+  pub near : (i j : ℕ) (y z : ℤ) → Sound v bad i → Sound v bad j → Answers v h i y → Answers v h j z
       → (x : ℕ) × (w : ℕ) × Stands plan x y × Stands plan w z × Near plan x w
   -- "and each lies on the path between two started inputs of sound boards"
-  pub validity : (i : ℕ) (y : ℤ) → Sound v bad i → Says v h i y → (x : ℕ) × Stands plan x y × BetweenInputs v plan bad h x
-  -- "all sound boards close once everything handed over is taken; that replaces having an answer"
-  pub ending : Complete v bad h → (i : ℕ) → Sound v bad i → Closed v h i
-  -- a closed board has an answer: "each has an answer"
-  pub answered : (i : ℕ) → Sound v bad i → Closed v h i → (z : ℤ) × (answer_now v h i ≡ Answer.At z)
+  pub validity : (i : ℕ) (y : ℤ) → Sound v bad i → Answers v h i y → (x : ℕ) × Stands plan x y × BetweenInputs v plan bad h x
+  -- "each has an answer"
+  pub ending : Complete v bad h → (i : ℕ) → Sound v bad i → (z : ℤ) × (answer_now v h i ≡ Answer.At z)
 
 -- ---- what the demand asks first
 

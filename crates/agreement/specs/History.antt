@@ -4,14 +4,14 @@ use Rattle.base.specs.Pick.{pick}
 use Rattle.base.specs.declared.Verdict.{Verdict}
 use Rattle.base.specs.Found.{Found, found, refused}
 use Rattle.rounding.specs.Rounding.{nearest_step}
-use Rattle.packet.specs.declared.Packet.{Packet}
-use Rattle.packet.specs.declared.Exactly.{Exactly}
-use Rattle.packet.specs.Reading.{exact_packet}
-use Rattle.member.specs.Member.{Member}
+use Rattle.message.specs.declared.Message.{Message}
+use Rattle.message.specs.declared.Exactly.{Exactly}
+use Rattle.message.specs.Reading.{exact_message}
+use Rattle.party.specs.Party.{Party}
 use Rattle.board_calls.specs.declared.Answer.{Answer}
 use Rattle.board_calls.specs.declared.Answered.{Answered}
 use Rattle.board_calls.specs.Answers.{position_of}
-use Rattle.board_calls.specs.Calls.{Entry, again, fresh, set_up_of, start_questions, take_questions, called_of, journal_after, answered_of, no_member}
+use Rattle.board_calls.specs.Calls.{Entry, again, fresh, set_up_of, start_questions, take_questions, called_of, journal_after, answered_of, no_party}
 use Rattle.board_calls.specs.Counts.{start_count_questions, count_questions, count_gives}
 use Rattle.board_calls.specs.Restore.{Replay, restore_questions, restored_of}
 
@@ -37,29 +37,29 @@ abbrev pub voted_input : StartInput → ℤ
 voted_input (plain z) = z
 voted_input (by_count g c) = nearest_step g c
 
--- a call with all that it is given; m is what the caller's record stands for, `used` the journal's used length
+-- a call with all that it is given; p is the party that the caller's record stands for, `used` the journal's used length
 pub data Call : Type 0 where
   set_up : (n t own agreement : ℕ) (plan : List ℕ) → Call
-  start : (m : Member) (input : StartInput) (lent : Lent) (used : ℕ) → Call
-  take_message : (m : Member) (sender : ℕ) (bytes : List ℕ) (lent : Lent) (used : ℕ) → Call
-  read_answer : (m : Member) → Call
-  read_count : (m : Member) (g : ℕ) (c : ℤ) → Call
+  start : (p : Party) (input : StartInput) (lent : Lent) (used : ℕ) → Call
+  take_message_lem : (p : Party) (sender : ℕ) (bytes : List ℕ) (lent : Lent) (used : ℕ) → Call
+  read_answer : (p : Party) → Call
+  read_count : (p : Party) (g : ℕ) (c : ℤ) → Call
   restore : (n t own agreement : ℕ) (plan : List ℕ) (lent : Lent) → Call
 
 -- what the questions at the door find
-abbrev pub start_finds : Member → StartInput → Lent → ℕ → Found Entry
-start_finds m (plain z) lent used = start_questions m z (length lent.journal) used lent.out
-start_finds m (by_count g c) lent used = start_count_questions m g c (length lent.journal) used lent.out
+abbrev pub start_finds : Party → StartInput → Lent → ℕ → Found Entry
+start_finds p (plain z) lent used = start_questions p z (length lent.journal) used lent.out
+start_finds p (by_count g c) lent used = start_count_questions p g c (length lent.journal) used lent.out
 
-abbrev pub take_finds : Member → ℕ → List ℕ → Lent → ℕ → Found Entry
-take_finds m sender bytes lent used = take_questions m sender bytes (length lent.journal) used lent.out
+abbrev pub take_finds : Party → ℕ → List ℕ → Lent → ℕ → Found Entry
+take_finds p sender bytes lent used = take_questions p sender bytes (length lent.journal) used lent.out
 
 abbrev pub restore_finds : ℕ → ℕ → ℕ → ℕ → List ℕ → Lent → Found Replay
 restore_finds n t own agreement plan lent = restore_questions n t own agreement plan lent.journal lent.out
 
 -- what reading the answer as a count gives
-abbrev pub read_as_count : Member → ℕ → ℤ → Answered
-read_as_count m g c = count_gives (count_questions m g c)
+abbrev pub read_as_count : Party → ℕ → ℤ → Answered
+read_as_count p g c = count_gives (count_questions p g c)
 
 -- board i's steps: a call, handing a message's bytes over to all boards, a power cut that leaves so many journal bytes.
 -- "A cut inside a start or take leaves what one right after it may": it is that call with the cut after it.
@@ -92,7 +92,7 @@ pub data Act : Type 0 where
 -- an accepted start or take: what it was, the messages that it made, and the journal's used length after it
 pub record Counted : Type 0 where
   pub act : Act
-  pub made : List Packet
+  pub made : List Message
   pub used : ℕ
 
 -- what a board has: its record, the journal's used bytes, how many of them a cut must leave, the messages that it may hand over, and its accepted
@@ -101,45 +101,45 @@ pub record Counted : Type 0 where
 -- histories.
 pub record Board : Type 0 where
   pub stage : Stage
-  pub member : Member
+  pub party : Party
   pub journal : List ℕ
   pub guarded : ℕ
-  pub outbox : List Packet
+  pub outbox : List Message
   pub counted : List Counted
 
 abbrev pub unborn : Board
-unborn = record { stage = waiting; member = no_member; journal = []; guarded = 0; outbox = []; counted = [] }
+unborn = record { stage = waiting; party = no_party; journal = []; guarded = 0; outbox = []; counted = [] }
 
 -- ---- what each step makes of the board whose step it is
 
 -- an accepted set-up: "its journal then empty with used length 0"
-abbrev pub after_set_up : Board → Verdict → Member → Board
-after_set_up b Verdict.Accepted m = record { stage = running; member = m; journal = []; guarded = 0; outbox = []; counted = [] }
-after_set_up b (Verdict.Refused number place) m = b
+abbrev pub after_set_up : Board → Verdict → Party → Board
+after_set_up b Verdict.Accepted p = record { stage = running; party = p; journal = []; guarded = 0; outbox = []; counted = [] }
+after_set_up b (Verdict.Refused number place) p = b
 
 -- the messages whose bytes the call wrote
-abbrev pub made_in : Entry → List Packet
+abbrev pub made_in : Entry → List Message
 made_in again = []
 made_in (fresh r ran) = ran.made
 
--- an accepted start or take: the board's record and the journal's used bytes as the call left them, and its messages wait to be handed over. It counts, also
--- if the message needed no record
-abbrev pub after_entry : Board → Act → Member → Lent → ℕ → Found Entry → Board
-after_entry b a m lent used (found e) = record {
+-- an accepted start or take: the party and the journal's used bytes as the call left them, and its messages wait to be handed over. It counts, also if
+-- the message was held already and the call wrote no record
+abbrev pub after_entry : Board → Act → Party → Lent → ℕ → Found Entry → Board
+after_entry b a p lent used (found e) = record {
   stage = b.stage;
-  member = (called_of m used (found e)).member;
-  journal = take (called_of m used (found e)).used (journal_after lent.journal used (found e));
+  party = (called_of p used (found e)).party;
+  journal = take (called_of p used (found e)).used (journal_after lent.journal used (found e));
   guarded = b.guarded;
   outbox = b.outbox ++ made_in e;
-  counted = record { act = a; made = made_in e; used = (called_of m used (found e)).used } ∷ b.counted;
+  counted = record { act = a; made = made_in e; used = (called_of p used (found e)).used } ∷ b.counted;
 }
-after_entry b a m lent used (refused number place) = b
+after_entry b a p lent used (refused number place) = b
 
 -- a cut must leave every record written so far
 abbrev pub guarding : Board → Board
 guarding b = record {
   stage = b.stage;
-  member = b.member;
+  party = b.party;
   journal = b.journal;
   guarded = length b.journal;
   outbox = b.outbox;
@@ -151,11 +151,11 @@ abbrev pub after_answer : Board → Answer → Board
 after_answer b Answer.None = b
 after_answer b (Answer.At z) = guarding b
 
--- an accepted restore: the record and used length that the call gives, whose records all stay from now on, and all their messages to be handed over again
+-- an accepted restore: the party and used length that the call gives, whose records all stay from now on, and all their messages to be handed over again
 abbrev pub after_restore : Board → Lent → Found Replay → Board
 after_restore b lent (found r) = record {
   stage = running;
-  member = (restored_of (found r)).member;
+  party = (restored_of (found r)).party;
   journal = take (restored_of (found r)).used lent.journal;
   guarded = (restored_of (found r)).used;
   outbox = r.ran.made;
@@ -164,11 +164,11 @@ after_restore b lent (found r) = record {
 after_restore b lent (refused number place) = b
 
 abbrev pub after_call : Board → Call → Board
-after_call b (set_up n t own agreement plan) = after_set_up b (set_up_of n t own agreement plan).verdict (set_up_of n t own agreement plan).member
-after_call b (start m input lent used) = after_entry b (a_start (position_of m.party.plan (voted_input input)) input) m lent used (start_finds m input lent used)
-after_call b (take_message m sender bytes lent used) = after_entry b (a_take sender (exact_packet bytes)) m lent used (take_finds m sender bytes lent used)
-after_call b (read_answer m) = after_answer b (answered_of m).answer
-after_call b (read_count m g c) = after_answer b (read_as_count m g c).answer
+after_call b (set_up n t own agreement plan) = after_set_up b (set_up_of n t own agreement plan).verdict (set_up_of n t own agreement plan).party
+after_call b (start p input lent used) = after_entry b (a_start (position_of p.plan (voted_input input)) input) p lent used (start_finds p input lent used)
+after_call b (take_message_lem p sender bytes lent used) = after_entry b (a_take sender (exact_message bytes)) p lent used (take_finds p sender bytes lent used)
+after_call b (read_answer p) = after_answer b (answered_of p).answer
+after_call b (read_count p g c) = after_answer b (read_as_count p g c).answer
 after_call b (restore n t own agreement plan lent) = after_restore b lent (restore_finds n t own agreement plan lent)
 
 -- "a start or message whose record is lost counts as not made or taken, and each later call of that board before the cut is lost with it": of some calls,
@@ -181,7 +181,7 @@ kept_calls left (c ∷ cs) = pick (leb c.used left) (c ∷ kept_calls left cs) (
 abbrev pub cut_off : Board → ℕ → Board
 cut_off b left = record {
   stage = down;
-  member = no_member;
+  party = no_party;
   journal = take left b.journal;
   guarded = b.guarded;
   outbox = [];

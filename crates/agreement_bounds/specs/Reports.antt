@@ -1,28 +1,28 @@
--- "The call reports how many rules it applied; over all starts and takes from set-up, lost ones left out, that is at most 430, and restore reports the
--- sum for its records" (430 by document 02, Q-1). What a board's starts and takes reported, by a history's steps.
+-- "The call reports how many rules it applied; over all starts and takes from set-up, lost ones left out, that is at most 390, and restore reports the
+-- sum for its records." What a board's starts and takes reported, by a history's steps.
 use Rattle.std.specs.Prelude.{List, [], ◌∷◌, ℕ, ◌+◌, ◌-◌, eqb, length, drop}
 use Rattle.base.specs.Pick.{pick}
 use Rattle.base.specs.Found.{Found, found, refused}
 use Rattle.journal.specs.declared.Record.{Record}
 use Rattle.journal.specs.Reading.{records_in}
-use Rattle.member.specs.Member.{Member}
+use Rattle.party.specs.Party.{Party}
 use Rattle.board_calls.specs.Calls.{Entry, again, fresh, called_of}
-use Rattle.agreement.specs.History.{Call, set_up, start, take_message, read_answer, read_count, restore, start_finds, take_finds, Step, calls, hands, cut, whose, History, board_after}
+use Rattle.agreement.specs.History.{Call, set_up, start, take_message_lem, read_answer, read_count, restore, start_finds, take_finds, Step, calls, hands, cut, whose, History, board_after}
 
--- the reports after a start or take, the latest first, where they were l before: one for each record. A take of a message that needs no record reports 0
--- and is left out; so is a refused call
-abbrev pub entry_reports : Member → ℕ → Found Entry → List ℕ → List ℕ
-entry_reports m used (found again) l = l
-entry_reports m used (found (fresh r ran)) l = (called_of m used (found (fresh r ran))).rules ∷ l
-entry_reports m used (refused number place) l = l
+-- the reports after a start or take, the latest first, where they were l before: one for each record. A take of a message already held, which has no
+-- record, reports 0 and is left out; so is a refused call
+abbrev pub entry_reports : Party → ℕ → Found Entry → List ℕ → List ℕ
+entry_reports p used (found again) l = l
+entry_reports p used (found (fresh r ran)) l = (called_of p used (found (fresh r ran))).rules ∷ l
+entry_reports p used (refused number place) l = l
 
 -- "over all starts and takes"
 abbrev pub call_reports : Call → List ℕ → List ℕ
 call_reports (set_up n t own agreement plan) l = l
-call_reports (start m input lent used) l = entry_reports m used (start_finds m input lent used) l
-call_reports (take_message m sender bytes lent used) l = entry_reports m used (take_finds m sender bytes lent used) l
-call_reports (read_answer m) l = l
-call_reports (read_count m g c) l = l
+call_reports (start p input lent used) l = entry_reports p used (start_finds p input lent used) l
+call_reports (take_message_lem p sender bytes lent used) l = entry_reports p used (take_finds p sender bytes lent used) l
+call_reports (read_answer p) l = l
+call_reports (read_count p g c) l = l
 call_reports (restore n t own agreement plan lent) l = l
 
 -- the k oldest, where the latest come first

@@ -8,34 +8,33 @@ use Prim.Native.Nat.{ℕ, zero, suc, ◌+◌, ◌≤◌, ◌<◌}
 use native.Mathlib.Omega.{arith}
 use lib.ListN.{length, length-append, length-map}
 use Rattle.base.specs.Sets.{Set}
-use Rattle.base.specs.Limits.{member_rules}
 use Rattle.base.specs.Found.{found}
 use Rattle.plan.specs.Plan.{Plan}
-use Rattle.packet.specs.declared.Packet.{Packet}
-use Rattle.packet.specs.declared.Exactly.{Exactly}
-use Rattle.packet.specs.Packet.{packet_bytes}
-use Rattle.packet.specs.Reading.{exact_packet}
+use Rattle.message.specs.declared.Message.{Message}
+use Rattle.message.specs.declared.Exactly.{Exactly}
+use Rattle.message.specs.Message.{message_bytes}
+use Rattle.message.specs.Reading.{exact_message}
 use Rattle.board_calls.specs.Calls.{Entry}
-use Rattle.agreement.specs.History.{Instance, Lent, StartInput, Call, take_message, take_finds, calls, History, Board, board_after}
+use Rattle.agreement.specs.History.{Instance, Lent, StartInput, Call, take_message_lem, take_finds, calls, History, Board, board_after}
 use Rattle.agreement.specs.Allowed.{Sound, Handed, Continues, Allowed}
 use Rattle.agreement.specs.Demand.{Took, Shared}
-use Rattle.agreement.proofs.Boards.{made_read}
+use Rattle.agreement.proofs.Boards.{makes_state, sent_read}
 use Rattle.agreement.proofs.Accepted.{take_accepted, can_take}
 use Rattle.agreement.proofs.Since.{since_handed}
 use Rattle.agreement_completion.proofs.Boards.{either, below, sound_below, over_sound}
 use Rattle.agreement_completion.proofs.Kept.{Counts, kept_counts, took_later}
 use Rattle.agreement_completion.proofs.Ways.{Way, at}
-use Rattle.agreement_completion.proofs.Posted.{running_posted, posted_most}
+use Rattle.agreement_completion.proofs.Posted.{running_posted}
 use Rattle.agreement_completion.proofs.Calls.{Grown, lent_to, lent_room, lent_continues, take_grown}
 use Rattle.agreement_completion.proofs.Serving.{Up, Served, serve}
 use Rattle.agreement_completion.proofs.Open.{Letter, letter, Posted, Open, left_of, Changes, changes, still_counts, fewer_left, opened}
 
 module _ (v : Instance) (plan : Plan) (bad : Set) (f : Shared v plan) where
   -- what a board that is up may hand over reads as it is
-  pub posted_read : (h : History) → Allowed v bad h → (j : ℕ) → Sound v bad j → Up h j → (m : Packet) → Posted h j m
-      → exact_packet (packet_bytes m) ≡ Exactly.One m
+  pub posted_read : (h : History) → Allowed v bad h → (j : ℕ) → Sound v bad j → Up h j → (m : Message) → Posted h j m
+      → exact_message (message_bytes m) ≡ Exactly.One m
   posted_read h a j o u m x =
-      made_read v plan bad f h a j o.0 m (subst (Memᴰ m) (running_posted v plan bad f h a j u.stage) x)
+      sent_read v plan bad f h a j o.0 m ((makes_state v plan bad f h a j o.0 m).0 (subst (Memᴰ m) (running_posted v plan bad f h a j u.stage) x))
 
   module _ (h : History) (input : StartInput) where
     -- how many messages can still come
@@ -63,7 +62,7 @@ module _ (v : Instance) (plan : Plan) (bad : Set) (f : Shared v plan) where
         j = l.sender
 
         bytes : List ℕ
-        bytes = packet_bytes l.message
+        bytes = message_bytes l.message
 
         is : Sound v bad j × Posted now j l.message
         is = ready.given l (Memᴰ.head refl)
@@ -80,20 +79,20 @@ module _ (v : Instance) (plan : Plan) (bad : Set) (f : Shared v plan) where
         used : ℕ
         used = length b.journal
 
-        more : Continues b b.member lent used
+        more : Continues b b.party lent used
         more = lent_continues b (ready.up k o).stage
 
         c : Call
-        c = take_message b.member j bytes lent used
+        c = take_message_lem b.party j bytes lent used
 
-        ok : Allowed v bad (calls k c ∷ now) × ((m : Packet) × (exact_packet bytes ≡ Exactly.One m) × Took (calls k c ∷ now) k j m)
-        ok = can_take v plan bad f now w.allowed k o b.member lent used more (lent_room b) (omega arith) j bytes over
+        ok : Allowed v bad (calls k c ∷ now) × ((m : Message) × (exact_message bytes ≡ Exactly.One m) × Took (calls k c ∷ now) k j m)
+        ok = can_take v plan bad f now w.allowed k o b.party lent used more (lent_room b) (omega arith) j bytes over
 
-        finds : (e : Entry) × (take_finds b.member j bytes lent used ≡ found e)
-        finds = take_accepted v plan bad f now w.allowed k o.0 b.member lent used more (lent_room b) (omega arith) j bytes over
+        finds : (e : Entry) × (take_finds b.party j bytes lent used ≡ found e)
+        finds = take_accepted v plan bad f now w.allowed k o.0 b.party lent used more (lent_room b) (omega arith) j bytes over
 
         g : Grown now k (calls k c)
-        g = take_grown now k b.member lent used j bytes finds.0 finds.1
+        g = take_grown v plan bad f now w.allowed k o.0 b.party lent used more j bytes finds.0 finds.1
 
         same : ok.1.0 ≡ l.message
         same =
@@ -107,7 +106,7 @@ module _ (v : Instance) (plan : Plan) (bad : Set) (f : Shared v plan) where
           open_still = opened v bad now later k g.new x o l q ready;
           took = took_later k (calls k c ∷ now) later (kept_counts k (calls k c ∷ now) later r.own) j l.message (subst (Took (calls k c ∷ now) k j) same ok.1.2);
           counts = still_counts v bad now later k g.new x;
-          fewer = omega (arith, fewer_left v bad now later k g.new x v.n o.0 most, length-append (map (letter k) g.new) q, length-map g.new (letter k));
+          fewer = omega (arith, fewer_left v bad now later k g.new x v.n o.0, length-append (map (letter k) g.new) q, length-map g.new (letter k));
         }
           where
             later : History
@@ -115,9 +114,6 @@ module _ (v : Instance) (plan : Plan) (bad : Set) (f : Shared v plan) where
 
             x : Changes now later k g.new
             x = changes now later k c g r.up r.own r.others
-
-            most : length (board_after later k).outbox ≤ member_rules
-            most = posted_most v plan bad f later r.after.allowed k o.0 r.up.stage
 
     -- ---- one letter, all sound boards
 
@@ -164,11 +160,11 @@ module _ (v : Instance) (plan : Plan) (bad : Set) (f : Shared v plan) where
       given = λ n x. w.given n (Memᴰ.tail x);
     }
       where
-        first : (i j : ℕ) (m : Packet) → Sound v bad i → (letter j m ≡ l) ⊎ Memᴰ (letter j m) q → Took now i j m ⊎ Memᴰ (letter j m) q
+        first : (i j : ℕ) (m : Message) → Sound v bad i → (letter j m ≡ l) ⊎ Memᴰ (letter j m) q → Took now i j m ⊎ Memᴰ (letter j m) q
         first i j m o (inl e) = inl (subst (λ (y : Letter). Took now i y.sender y.message) (sym e) (all i o))
         first i j m o (inr x) = inr x
 
-        by : (i j : ℕ) (m : Packet) → Sound v bad i → Took now i j m ⊎ Memᴰ (letter j m) (l ∷ q) → Took now i j m ⊎ Memᴰ (letter j m) q
+        by : (i j : ℕ) (m : Message) → Sound v bad i → Took now i j m ⊎ Memᴰ (letter j m) (l ∷ q) → Took now i j m ⊎ Memᴰ (letter j m) q
         by i j m o (inl x) = inl x
         by i j m o (inr x) = first i j m o (Memᴰ.cases_cons x)
 

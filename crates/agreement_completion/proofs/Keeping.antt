@@ -9,14 +9,14 @@ use native.Mathlib.Omega.{arith}
 use lib.Dec.{eqb}
 use Rattle.base.specs.declared.Verdict.{Verdict}
 use Rattle.base.specs.Found.{Found, found, refused}
-use Rattle.packet.specs.declared.Exactly.{Exactly}
-use Rattle.packet.specs.Reading.{exact_packet}
-use Rattle.member.specs.Member.{Member}
+use Rattle.message.specs.declared.Exactly.{Exactly}
+use Rattle.message.specs.Reading.{exact_message}
+use Rattle.party.specs.Party.{Party}
 use Rattle.board_calls.specs.declared.Answer.{Answer}
 use Rattle.board_calls.specs.Answers.{position_of}
 use Rattle.board_calls.specs.Calls.{Entry, set_up_of, called_of, answered_of}
 use Rattle.board_calls.specs.Restore.{Replay}
-use Rattle.agreement.specs.History.{StartInput, voted_input, Lent, Call, set_up, start, take_message, read_answer, read_count, restore, start_finds, take_finds, restore_finds, read_as_count, Step, calls, hands, cut, whose, History, Act, a_start, a_take, Counted, Board, after_set_up, made_in, after_entry, after_answer, after_restore, after_call, after_own, board_after}
+use Rattle.agreement.specs.History.{StartInput, voted_input, Lent, Call, set_up, start, take_message_lem, read_answer, read_count, restore, start_finds, take_finds, restore_finds, read_as_count, Step, calls, hands, cut, whose, History, Act, a_start, a_take, Counted, Board, after_set_up, made_in, after_entry, after_answer, after_restore, after_call, after_own, board_after}
 use Rattle.agreement.specs.Demand.{StartedBy}
 use Rattle.agreement.proofs.Steps.{own, other}
 use Rattle.agreement_completion.proofs.Boards.{either}
@@ -24,7 +24,7 @@ use Rattle.agreement_completion.proofs.Boards.{either}
 abbrev keeping_call : StartInput → Call → Type 0
 keeping_call input (set_up n t seat agreement plan) = Unit {0}
 keeping_call input (start p given lent used) = given ≡ input
-keeping_call input (take_message p sender bytes lent used) = Unit {0}
+keeping_call input (take_message_lem p sender bytes lent used) = Unit {0}
 keeping_call input (read_answer p) = Unit {0}
 keeping_call input (read_count p g c) = Unit {0}
 keeping_call input (restore n t seat agreement plan lent) = Unit {0}
@@ -47,11 +47,11 @@ module _ (input : StartInput) where
   abbrev Known : Board → Counted → Type 0
   Known b c = Memᴰ c b.counted ⊎ NoOther c.act
 
-  by_set_up : (b : Board) (x : Verdict) (p : Member) (c : Counted) → Memᴰ c (after_set_up b x p).counted → Known b c
+  by_set_up : (b : Board) (x : Verdict) (p : Party) (c : Counted) → Memᴰ c (after_set_up b x p).counted → Known b c
   by_set_up b Verdict.Accepted p c m = absurd (Memᴰ.not-nil m)
   by_set_up b (Verdict.Refused number place) p c m = inl m
 
-  by_entry : (b : Board) (a : Act) → NoOther a → (p : Member) (lent : Lent) (used : ℕ) (q : Found Entry) (c : Counted)
+  by_entry : (b : Board) (a : Act) → NoOther a → (p : Party) (lent : Lent) (used : ℕ) (q : Found Entry) (c : Counted)
       → Memᴰ c (after_entry b a p lent used q).counted → Known b c
   by_entry b a k p lent used (found e) c m = go (Memᴰ.cases_cons m)
     where
@@ -75,11 +75,11 @@ module _ (input : StartInput) where
   taken s read x given e = let z : ◌≡◌ {A = ℕ} 0 1 = cc in absurd (omega arith)
 
   by_call : (b : Board) (d : Call) → keeping_call input d → (c : Counted) → Memᴰ c (after_call b d).counted → Known b c
-  by_call b (set_up n t seat agreement plan) k = by_set_up b (set_up_of n t seat agreement plan).verdict (set_up_of n t seat agreement plan).member
+  by_call b (set_up n t seat agreement plan) k = by_set_up b (set_up_of n t seat agreement plan).verdict (set_up_of n t seat agreement plan).party
   by_call b (start p given lent used) k =
-      by_entry b (a_start (position_of p.party.plan (voted_input given)) given) (started (position_of p.party.plan (voted_input given)) given k) p lent used (start_finds p given lent used)
-  by_call b (take_message p sender bytes lent used) k =
-      by_entry b (a_take sender (exact_packet bytes)) (taken sender (exact_packet bytes)) p lent used (take_finds p sender bytes lent used)
+      by_entry b (a_start (position_of p.plan (voted_input given)) given) (started (position_of p.plan (voted_input given)) given k) p lent used (start_finds p given lent used)
+  by_call b (take_message_lem p sender bytes lent used) k =
+      by_entry b (a_take sender (exact_message bytes)) (taken sender (exact_message bytes)) p lent used (take_finds p sender bytes lent used)
   by_call b (read_answer p) k = by_answer b (answered_of p).answer
   by_call b (read_count p g d) k = by_answer b (read_as_count p g d).answer
   by_call b (restore n t seat agreement plan lent) k = by_restore b lent (restore_finds n t seat agreement plan lent)

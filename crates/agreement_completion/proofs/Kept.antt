@@ -6,21 +6,25 @@ use Prim.Native.Nat.{ℕ}
 use lib.Dec.{eqb}
 use lib.IntN.{ℤ}
 use Rattle.base.specs.Pick.{pick}
-use Rattle.packet.specs.declared.Packet.{Packet}
+use Rattle.message.specs.declared.Message.{Message}
 use Rattle.agreement.specs.History.{Step, hands, whose, History, Counted, Board, guarding, board_after}
 use Rattle.agreement.specs.Demand.{Started, Took, HandedSince}
 use Rattle.agreement.proofs.Steps.{other}
 use Rattle.agreement.proofs.Since.{restore_other, since_later}
 
--- two boards alike in their stage, in what they may hand over, and in their calls that count
+-- two boards that differ only in how much a cut must leave
 pub record Alike (b c : Board) : Type 0 where
   pub stage : b.stage ≡ c.stage
+  pub party : b.party ≡ c.party
+  pub journal : b.journal ≡ c.journal
   pub outbox : b.outbox ≡ c.outbox
   pub counted : b.counted ≡ c.counted
 
 alike_path : (b c : Board) → b ≡ c → Alike b c
 alike_path b c e = record {
   stage = ap (λ (x : Board). x.stage) e;
+  party = ap (λ (x : Board). x.party) e;
+  journal = ap (λ (x : Board). x.journal) e;
   outbox = ap (λ (x : Board). x.outbox) e;
   counted = ap (λ (x : Board). x.counted) e;
 }
@@ -28,6 +32,8 @@ alike_path b c e = record {
 alike_trans : (b c d : Board) → Alike b c → Alike c d → Alike b d
 alike_trans b c d x y = record {
   stage = x.stage ∙ y.stage;
+  party = x.party ∙ y.party;
+  journal = x.journal ∙ y.journal;
   outbox = x.outbox ∙ y.outbox;
   counted = x.counted ∙ y.counted;
 }
@@ -57,8 +63,8 @@ kept_other s h i d = record {
 -- ---- a message handed over, by whichever board
 
 alike_guarding : (c : Bool) (b : Board) → Alike (pick c (guarding b) b) b
-alike_guarding true b = record { stage = refl; outbox = refl; counted = refl }
-alike_guarding false b = record { stage = refl; outbox = refl; counted = refl }
+alike_guarding true b = record { stage = refl; party = refl; journal = refl; outbox = refl; counted = refl }
+alike_guarding false b = record { stage = refl; party = refl; journal = refl; outbox = refl; counted = refl }
 
 pub kept_hand : (j : ℕ) (bytes : List ℕ) (h : History) (i : ℕ) → Kept i h (hands j bytes ∷ h)
 unfolding board_after
@@ -83,5 +89,5 @@ Begun h i = (x : ℕ) × (z : ℤ) × Started h i x z
 pub begun_later : (i : ℕ) (h later : History) → Counts i h later → Begun h i → Begun later i
 begun_later i h later k (x, z, (input, (c, m, e), voted)) = (x, z, (input, (c, k c m, e), voted))
 
-pub took_later : (i : ℕ) (h later : History) → Counts i h later → (j : ℕ) (m : Packet) → Took h i j m → Took later i j m
+pub took_later : (i : ℕ) (h later : History) → Counts i h later → (j : ℕ) (m : Message) → Took h i j m → Took later i j m
 took_later i h later k j m (c, x, e) = (c, k c x, e)

@@ -1,34 +1,29 @@
--- What a running board may hand over is exactly what its records made, in order: at most 430 messages.
+-- What a running board may hand over is exactly what its records made, in order.
 use mathlib.Core.Path.{◌≡◌, refl, sym, ap, ◌∙◌, subst}
 use mathlib.Core.Logic.{◌⊎◌, inl, inr}
 use mathlib.Core.List.{List, [], ◌∷◌, ◌++◌}
-use Prim.Native.Nat.{ℕ, ◌≤◌, ◌<◌}
-use lib.ListN.{length}
+use Prim.Native.Nat.{ℕ, ◌<◌}
 use Rattle.base.specs.Sets.{Set}
-use Rattle.base.specs.Limits.{member_rules}
 use Rattle.base.specs.Found.{Found, found, refused}
 use Rattle.plan.specs.Plan.{Plan}
-use Rattle.packet.specs.declared.Packet.{Packet}
-use Rattle.packet.specs.Reading.{exact_packet}
+use Rattle.message.specs.declared.Message.{Message}
+use Rattle.message.specs.Reading.{exact_message}
 use Rattle.journal.specs.declared.Record.{Record}
 use Rattle.journal.specs.Reading.{records_from}
-use Rattle.member.specs.Run.{MemberRan}
-use Rattle.member_life.specs.Life.{lived, made_along}
-use Rattle.member_bounds.proofs.Laws.{life_messages}
+use Rattle.party.specs.Run.{Ran}
+use Rattle.party_life.specs.Life.{lived, made_along}
 use Rattle.board_calls.specs.declared.Answer.{Answer}
 use Rattle.board_calls.specs.Answers.{position_of}
 use Rattle.board_calls.specs.Calls.{SetUp, Entry, again, fresh, set_up_of, answered_of}
 use Rattle.board_calls.specs.Restore.{Replay}
-use Rattle.agreement.specs.History.{Instance, Lent, voted_input, Call, set_up, start, take_message, read_answer, read_count, restore, start_finds, take_finds, restore_finds, read_as_count, Step, calls, hands, cut, whose, History, Stage, waiting, running, down, Act, a_start, a_take, Board, after_set_up, after_answer, after_restore, after_cut, board_after}
+use Rattle.agreement.specs.History.{Instance, Lent, voted_input, Call, set_up, start, take_message_lem, read_answer, read_count, restore, start_finds, take_finds, restore_finds, read_as_count, Step, calls, hands, cut, whose, History, Stage, waiting, running, down, Act, a_start, a_take, Board, after_set_up, after_answer, after_restore, after_cut, board_after}
 use Rattle.agreement.specs.Allowed.{Refuses, Ours, Lendable, Accepts, Allowed}
 use Rattle.agreement.specs.Demand.{Shared}
-use Rattle.agreement.specs.Inner.{records_of}
 use Rattle.agreement.proofs.Restored.{lendable_begins, lived_replay, restored_found}
 use Rattle.agreement.proofs.Lent.{entered}
-use Rattle.agreement.proofs.Tied.{new_board, board_sized, set_up_found}
+use Rattle.agreement.proofs.Tied.{new_board, set_up_found}
 use Rattle.agreement.proofs.Histories.{TiedAfter, tied}
 use Rattle.agreement.proofs.Boards.{records_of_lem}
-use Rattle.agreement.proofs.Members.{records_life}
 use Rattle.agreement.proofs.Steps.{held_records, own, other, refused_nothing, made_so_far, start_board, start_makes, take_board, take_makes, restore_records}
 use Rattle.agreement_completion.proofs.Boards.{down_running, either}
 
@@ -43,18 +38,18 @@ module _ (v : Instance) (plan : Plan) (bad : Set) (f : Shared v plan) where
   by_set_up h i k n t seat agreement bytes s =
       subst (Posts i)
       (sym (own (calls i (set_up n t seat agreement bytes)) h
-      ∙ ap (λ (x : SetUp). after_set_up (board_after h i) x.verdict x.member)
+      ∙ ap (λ (x : SetUp). after_set_up (board_after h i) x.verdict x.party)
       ((λ z. set_up_of (s.boards z) (s.faults z) (s.seat z) (s.number z) (s.bytes z)) ∙ set_up_found v plan f i k)))
       (λ up. refl)
 
   -- a start or take that found q
   by_entry : (s : Step) (h : History) (i : ℕ) (d : Act) (q : Found Entry) → board_after (s ∷ h) i ≡ entered (board_after h i) d q
-      → ((r : Record) (ran : MemberRan) → q ≡ found (fresh r ran) → made_so_far v plan bad f (s ∷ h) i ≡ made_so_far v plan bad f h i ++ ran.made)
+      → ((r : Record) (ran : Ran) → q ≡ found (fresh r ran) → made_so_far v plan bad f (s ∷ h) i ≡ made_so_far v plan bad f h i ++ ran.made)
       → Posts i (board_after h i) → Posts i (board_after (s ∷ h) i)
   by_entry s h i d (found again) e made x = subst (Posts i) (sym e) x
   by_entry s h i d (found (fresh r ran)) e made x = λ up.
       ap (λ (b : Board). b.outbox) e
-      ∙ ap (λ (ms : List Packet). ms ++ ran.made) (x (sym (ap (λ (b : Board). b.stage) e) ∙ up))
+      ∙ ap (λ (ms : List Message). ms ++ ran.made) (x (sym (ap (λ (b : Board). b.stage) e) ∙ up))
       ∙ sym (made r ran refl)
   by_entry s h i d (refused number place) e made x = subst (Posts i) (sym e) x
 
@@ -98,10 +93,10 @@ module _ (v : Instance) (plan : Plan) (bad : Set) (f : Shared v plan) where
       → Posts i (board_after (calls i c ∷ h) i)
   by_call h i (set_up n t seat agreement bytes) al (e, s) x = by_set_up h i al.0.0.0 n t seat agreement bytes s
   by_call h i (start p input lent used) al c x =
-      by_entry (calls i (start p input lent used)) h i (a_start (position_of p.party.plan (voted_input input)) input) (start_finds p input lent used)
+      by_entry (calls i (start p input lent used)) h i (a_start (position_of p.plan (voted_input input)) input) (start_finds p input lent used)
       (start_board v plan bad f h i p lent used input c) (start_makes v plan bad f h i p lent used input al) x
-  by_call h i (take_message p j bytes lent used) al (c, from) x =
-      by_entry (calls i (take_message p j bytes lent used)) h i (a_take j (exact_packet bytes)) (take_finds p j bytes lent used)
+  by_call h i (take_message_lem p j bytes lent used) al (c, from) x =
+      by_entry (calls i (take_message_lem p j bytes lent used)) h i (a_take j (exact_message bytes)) (take_finds p j bytes lent used)
       (take_board v plan bad f h i p lent used j bytes c) (take_makes v plan bad f h i p lent used j bytes al) x
   by_call h i (read_answer p) al c x =
       subst (Posts i) (sym (own (calls i (read_answer p)) h)) (by_answer i (board_after h i) (answered_of p).answer x)
@@ -124,8 +119,3 @@ module _ (v : Instance) (plan : Plan) (bad : Set) (f : Shared v plan) where
   running_posted (s ∷ h) a i =
       either (λ (k : ℕ). Posts k (board_after h k) → Posts k (board_after (s ∷ h) k)) (whose s) i (by_own s h a)
       (λ e x. subst (Posts i) (sym (other s h i e)) x) (running_posted h a.1 i)
-
-  pub posted_most : (h : History) → Allowed v bad h → (i : ℕ) → i < v.n → (board_after h i).stage ≡ running → length (board_after h i).outbox ≤ member_rules
-  posted_most h a i k up =
-      subst (λ (ps : List Packet). length ps ≤ member_rules) (sym (running_posted h a i up))
-      (life_messages (new_board v plan i) (board_sized v plan f i k) (records_of h i) (records_life v plan bad f h a i k))

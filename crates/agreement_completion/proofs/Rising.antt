@@ -12,18 +12,17 @@ use Rattle.base.specs.Sets.{Set}
 use Rattle.base.specs.Found.{found}
 use Rattle.base.proofs.Bools.{true→T, false→not-T}
 use Rattle.plan.specs.Plan.{Plan}
-use Rattle.packet.specs.declared.Packet.{Packet}
+use Rattle.message.specs.declared.Message.{Message}
 use Rattle.journal.specs.declared.Record.{Record}
-use Rattle.member.specs.Member.{Member, started}
-use Rattle.member.specs.Run.{MemberRan}
+use Rattle.party.specs.Party.{Party, level_at, started}
+use Rattle.party.specs.Run.{Ran}
 use Rattle.board_calls.specs.Answers.{position_of}
 use Rattle.board_calls.specs.Calls.{fresh}
 use Rattle.agreement.specs.History.{Instance, Lent, StartInput, voted_input, Call, start, start_finds, calls, History, Stage, waiting, running, down, Board, board_after}
 use Rattle.agreement.specs.Allowed.{Sound, Continues, Allowed}
 use Rattle.agreement.specs.Starts.{Startable}
 use Rattle.agreement.specs.Demand.{Started, StartedWith, Shared}
-use Rattle.agreement.proofs.Boards.{running_state}
-use Rattle.agreement.proofs.Members.{left_started}
+use Rattle.agreement.proofs.Boards.{state_of, running_state, started_state}
 use Rattle.agreement.proofs.Words.{started_records}
 use Rattle.agreement.proofs.Accepted.{start_accepted, can_start}
 use Rattle.agreement_completion.proofs.Boards.{either, below, sound_below, over_sound}
@@ -34,20 +33,21 @@ use Rattle.agreement_completion.proofs.Serving.{Up, kept_up, up_handed, Served, 
 use Rattle.agreement_completion.proofs.Standing.{Ready, by_set_up, by_restore}
 
 module _ (v : Instance) (plan : Plan) (bad : Set) (f : Shared v plan) where
-  -- ---- started or not, by the board's record
+  -- ---- started or not, by the party
 
   module _ (h : History) (a : Allowed v bad h) (i : ℕ) (o : Sound v bad i) (up : (board_after h i).stage ≡ running) where
-    begun : T (started (board_after h i).member) → Begun h i
+    begun : T (started (board_after h i).party) → Begun h i
     begun t =
-        let r = (left_started v plan bad f h a i o.0).0 (subst (λ (p : Member). T (started p)) (running_state v plan bad f h a i o.0 up) t) in
-        let s = (started_records v plan bad f h a i r.0).1 r.1 in
-        (r.0, s.0, s.1)
+        let y : ℕ = (level_at (state_of v plan h i) 0).position in
+        let e : T (started (state_of v plan h i)) = subst (λ (p : Party). T (started p)) (running_state v plan bad f h a i o.0 up) t in
+        let s = (started_records v plan bad f h a i y).1 ((started_state v plan bad f h a i o.0 y).1 (e, refl)) in
+        (y, s.0, s.1)
 
-    not_begun : started (board_after h i).member ≡ false → (x : ℕ) (z : ℤ) → Started h i x z → ⊥
+    not_begun : started (board_after h i).party ≡ false → (x : ℕ) (z : ℤ) → Started h i x z → ⊥
     not_begun e x z s =
         false→not-T e
-        (subst (λ (p : Member). T (started p)) (sym (running_state v plan bad f h a i o.0 up))
-        ((left_started v plan bad f h a i o.0).1 (x, (started_records v plan bad f h a i x).0 (z, s))))
+        (subst (λ (p : Party). T (started p)) (sym (running_state v plan bad f h a i o.0 up))
+        ((started_state v plan bad f h a i o.0 x).0 ((started_records v plan bad f h a i x).0 (z, s))).0)
 
   -- those that have not started start with this input
   module _ (h : History) (input : StartInput) (on : Startable plan input) where
@@ -61,7 +61,7 @@ module _ (v : Instance) (plan : Plan) (bad : Set) (f : Shared v plan) where
     hands_all : (w : Way v bad h input) (i : ℕ) → Sound v bad i → (board_after (at v bad h input w) i).stage ≡ running → Raised w i
     hands_all w i o up = go (hands_over_lem v bad h input w i o up ms (λ m x. x))
       where
-        ms : List Packet
+        ms : List Message
         ms = (board_after (at v bad h input w) i).outbox
 
         go : HandsOver v bad h input w i ms → Raised w i
@@ -98,9 +98,9 @@ module _ (v : Instance) (plan : Plan) (bad : Set) (f : Shared v plan) where
       begun : Begun (at v bad h input raised.after) i
 
     -- a board that is up starts
-    starts : (w : Way v bad h input) (i : ℕ) → Sound v bad i → Up (at v bad h input w) i → started (board_after (at v bad h input w) i).member ≡ false → Risen w i
+    starts : (w : Way v bad h input) (i : ℕ) → Sound v bad i → Up (at v bad h input w) i → started (board_after (at v bad h input w) i).party ≡ false → Risen w i
     starts w i o u e =
-        go (serve v bad h input w i o u c refl u.handed ok.0.0 (start_grown now i b.member lent used input (fresh x.0 x.1) x.2))
+        go (serve v bad h input w i o u c refl u.handed ok.0.0 (start_grown v plan bad f now w.allowed i o.0 b.party lent used more input x.0 x.1 x.2))
       where
         now : History
         now = at v bad h input w
@@ -114,20 +114,20 @@ module _ (v : Instance) (plan : Plan) (bad : Set) (f : Shared v plan) where
         used : ℕ
         used = length b.journal
 
-        more : Continues b b.member lent used
+        more : Continues b b.party lent used
         more = lent_continues b u.stage
 
         c : Call
-        c = start b.member input lent used
+        c = start b.party input lent used
 
         new : (x : ℕ) (z : ℤ) → Started now i x z → ⊥
         new = not_begun now w.allowed i o u.stage e
 
-        x : (r : Record) × (ran : MemberRan) × (start_finds b.member input lent used ≡ found (fresh r ran))
-        x = start_accepted v plan bad f now w.allowed i o.0 b.member lent used more (lent_room b) (omega arith) input on new
+        x : (r : Record) × (ran : Ran) × (start_finds b.party input lent used ≡ found (fresh r ran))
+        x = start_accepted v plan bad f now w.allowed i o.0 b.party lent used more (lent_room b) (omega arith) input on new
 
         ok : Allowed v bad (calls i c ∷ now) × StartedWith plan (calls i c ∷ now) i (position_of plan (voted_input input)) (voted_input input)
-        ok = can_start v plan bad f now w.allowed i o b.member lent used more (lent_room b) (omega arith) input on new
+        ok = can_start v plan bad f now w.allowed i o b.party lent used more (lent_room b) (omega arith) input on new
 
         go : Served v bad h input w i c → Risen w i
         go r = record {
@@ -150,12 +150,12 @@ module _ (v : Instance) (plan : Plan) (bad : Set) (f : Shared v plan) where
           begun = s.begun;
         }
 
-        by : (r : Raised w i) (t : Bool) → started (board_after (at v bad h input r.after) i).member ≡ t → Risen w i
+        by : (r : Raised w i) (t : Bool) → started (board_after (at v bad h input r.after) i).party ≡ t → Risen w i
         by r true e = record { raised = r; begun = begun (at v bad h input r.after) r.after.allowed i o r.up.stage (true→T e) }
         by r false e = then r (starts r.after i o r.up e)
 
         go : Raised w i → Risen w i
-        go r = by r (started (board_after (at v bad h input r.after) i).member) refl
+        go r = by r (started (board_after (at v bad h input r.after) i).party) refl
 
     -- ---- all of them
 

@@ -7,8 +7,8 @@ use mathlib.Core.List.{List, ◌∷◌, Memᴰ}
 use Prim.Native.Nat.{ℕ}
 use lib.Dec.{eqb}
 use Rattle.base.specs.Sets.{Set}
-use Rattle.packet.specs.declared.Packet.{Packet}
-use Rattle.packet.specs.Packet.{packet_bytes}
+use Rattle.message.specs.declared.Message.{Message}
+use Rattle.message.specs.Message.{message_bytes}
 use Rattle.agreement.specs.History.{Instance, StartInput, Call, calls, History, running, board_after}
 use Rattle.agreement.specs.Allowed.{Sound, May}
 use Rattle.agreement.specs.Demand.{HandedSince}
@@ -26,22 +26,22 @@ pub record Up (h : History) (i : ℕ) : Type 0 where
 pub kept_up : (i : ℕ) (h later : History) → Kept i h later → Up h i → Up later i
 kept_up i h later k u = record {
   stage = k.board.stage ∙ u.stage;
-  handed = λ m x. k.since (packet_bytes m) (u.handed m (subst (Memᴰ m) k.board.outbox x));
+  handed = λ m x. k.since (message_bytes m) (u.handed m (subst (Memᴰ m) k.board.outbox x));
 }
 
 module _ (v : Instance) (bad : Set) (h : History) (input : StartInput) where
   -- a running board that hands over ms, which are at least those that it may and has not yet
-  pub up_handed : (w : Way v bad h input) (i : ℕ) (ms : List Packet) (r : HandsOver v bad h input w i ms)
+  pub up_handed : (w : Way v bad h input) (i : ℕ) (ms : List Message) (r : HandsOver v bad h input w i ms)
       → (board_after (at v bad h input w) i).stage ≡ running
-      → ((m : Packet) → Memᴰ m (board_after (at v bad h input w) i).outbox → HandedSince i (packet_bytes m) (at v bad h input w) ⊎ Memᴰ m ms)
+      → ((m : Message) → Memᴰ m (board_after (at v bad h input w) i).outbox → HandedSince i (message_bytes m) (at v bad h input w) ⊎ Memᴰ m ms)
       → Up (at v bad h input r.after) i
   up_handed w i ms r up each = record {
     stage = (r.kept i).board.stage ∙ up;
     handed = λ m x. by m (each m (subst (Memᴰ m) (r.kept i).board.outbox x));
   }
     where
-      by : (m : Packet) → HandedSince i (packet_bytes m) (at v bad h input w) ⊎ Memᴰ m ms → HandedSince i (packet_bytes m) (at v bad h input r.after)
-      by m (inl y) = (r.kept i).since (packet_bytes m) y
+      by : (m : Message) → HandedSince i (message_bytes m) (at v bad h input w) ⊎ Memᴰ m ms → HandedSince i (message_bytes m) (at v bad h input r.after)
+      by m (inl y) = (r.kept i).since (message_bytes m) y
       by m (inr y) = r.given m y
 
   -- board i's call c, and what it made handed over
@@ -61,15 +61,15 @@ module _ (v : Instance) (bad : Set) (h : History) (input : StartInput) where
       running_still : (board_after (at v bad h input w1) i).stage ≡ running
       running_still = g.stage ∙ u.stage
 
-      posts : (m : Packet) → Memᴰ m g.new → Memᴰ m (board_after (at v bad h input w1) i).outbox
+      posts : (m : Message) → Memᴰ m g.new → Memᴰ m (board_after (at v bad h input w1) i).outbox
       posts m x = subst (Memᴰ m) (sym g.outbox) (Memᴰ.append_right (board_after (at v bad h input w) i).outbox x)
 
-      of : (m : Packet) → Memᴰ m (board_after (at v bad h input w) i).outbox ⊎ Memᴰ m g.new
-          → HandedSince i (packet_bytes m) (at v bad h input w1) ⊎ Memᴰ m g.new
-      of m (inl x) = inl (g.since (packet_bytes m) (u.handed m x))
+      of : (m : Message) → Memᴰ m (board_after (at v bad h input w) i).outbox ⊎ Memᴰ m g.new
+          → HandedSince i (message_bytes m) (at v bad h input w1) ⊎ Memᴰ m g.new
+      of m (inl x) = inl (g.since (message_bytes m) (u.handed m x))
       of m (inr x) = inr x
 
-      each : (m : Packet) → Memᴰ m (board_after (at v bad h input w1) i).outbox → HandedSince i (packet_bytes m) (at v bad h input w1) ⊎ Memᴰ m g.new
+      each : (m : Message) → Memᴰ m (board_after (at v bad h input w1) i).outbox → HandedSince i (message_bytes m) (at v bad h input w1) ⊎ Memᴰ m g.new
       each m x =
           of m (Memᴰ.append_cases (board_after (at v bad h input w) i).outbox (subst (Memᴰ m) g.outbox x))
 

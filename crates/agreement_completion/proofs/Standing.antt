@@ -5,7 +5,7 @@ use mathlib.Core.List.{◌∷◌}
 use Prim.Native.Nat.{ℕ}
 use native.Mathlib.Omega.{arith}
 use Rattle.base.specs.Sets.{Set}
-use Rattle.base.specs.Limits.{member_bytes}
+use Rattle.base.specs.Limits.{outgoing_size}
 use Rattle.plan.specs.Plan.{Plan}
 use Rattle.board_calls.specs.Calls.{SetUp}
 use Rattle.agreement.specs.History.{Instance, Lent, StartInput, Call, set_up, restore, calls, History, waiting, running, down, Board, after_set_up, after_restore, board_after}
@@ -38,7 +38,7 @@ module _ (v : Instance) (plan : Plan) (bad : Set) (f : Shared v plan) (h : Histo
     stage =
         ap (λ (b : Board). b.stage)
         (own (calls i (set_up v.n v.t i v.agreement v.plan)) h
-        ∙ ap (λ (x : SetUp). after_set_up (board_after h i) x.verdict x.member) (set_up_found v plan f i o.0));
+        ∙ ap (λ (x : SetUp). after_set_up (board_after h i) x.verdict x.party) (set_up_found v plan f i o.0));
   }
 
   pub by_restore : (board_after h i).stage ≡ down → Ready v bad h i
@@ -54,4 +54,4 @@ module _ (v : Instance) (plan : Plan) (bad : Set) (f : Shared v plan) (h : Histo
   }
     where
       lent : Lent
-      lent = record { journal = (board_after h i).journal; out = member_bytes }
+      lent = record { journal = (board_after h i).journal; out = outgoing_size }

@@ -1,4 +1,4 @@
--- From every allowed history further steps lead to a complete delivery, and so every sound board is closed and has an answer.
+-- From every allowed history further steps lead to a complete delivery, and so to an answer of every sound board.
 use mathlib.Core.Path.{◌≡◌, sym, ap, ◌∙◌, subst}
 use mathlib.Core.Logic.{◌⊎◌, inl, inr}
 use mathlib.Core.List.Memᴰ
@@ -10,19 +10,19 @@ use Rattle.base.specs.Sets.{Set}
 use Rattle.plan.specs.Plan.{Plan}
 use Rattle.plan.specs.Positions.{reading_of}
 use Rattle.plan_laws.proofs.Shape.{shape}
-use Rattle.packet.specs.declared.Packet.{Packet}
-use Rattle.packet.specs.declared.Exactly.{Exactly}
-use Rattle.packet.specs.Packet.{packet_bytes}
-use Rattle.packet.specs.Reading.{exact_packet}
+use Rattle.message.specs.declared.Message.{Message}
+use Rattle.message.specs.declared.Exactly.{Exactly}
+use Rattle.message.specs.Message.{message_bytes}
+use Rattle.message.specs.Reading.{exact_message}
 use Rattle.level.specs.Level.{no_output}
 use Rattle.board_calls.specs.Answers.{position_of}
 use Rattle.board_laws.proofs.Inputs.{reading_position}
 use Rattle.agreement.specs.History.{Instance, StartInput, plain, History, board_after}
 use Rattle.agreement.specs.Allowed.{Sound, Allowed}
 use Rattle.agreement.specs.Starts.{Startable}
-use Rattle.agreement.specs.Demand.{Took, Made, NeedsNoRecord, Complete, Holds, Shared, Premises}
+use Rattle.agreement.specs.Demand.{Took, Made, Complete, Shared, Premises}
 use Rattle.agreement.proofs.Tied.{plan_valid_lem}
-use Rattle.agreement.proofs.Words.{took_idle, made_records, handed_made}
+use Rattle.agreement.proofs.Words.{made_records, handed_made}
 use Rattle.agreement.proofs.Since.{since_handed}
 use Rattle.agreement.proofs.Theorem.{demand3}
 use Rattle.agreement_completion.specs.Statement.{Completed, Completes, CompletedWith, CompletesWith, ComesThrough}
@@ -39,7 +39,7 @@ use Rattle.agreement_completion.proofs.Delivering.{posted_read, delivered}
 -- the letters of the sound boards below k
 record Letters (v : Instance) (bad : Set) (h : History) (k : ℕ) : Type 0 where
   letters : List Letter
-  all : (j : ℕ) (m : Packet) → j < k → Sound v bad j → Posted h j m → Memᴰ (letter j m) letters
+  all : (j : ℕ) (m : Message) → j < k → Sound v bad j → Posted h j m → Memᴰ (letter j m) letters
   good : (l : Letter) → Memᴰ l letters → Sound v bad l.sender × Posted h l.sender l.message
 
 module _ (v : Instance) (bad : Set) (h : History) where
@@ -77,19 +77,19 @@ module _ (v : Instance) (plan : Plan) (bad : Set) (f : Shared v plan) where
     taken = λ i j bytes m o p x e. taken i j bytes m o p (handed_made v plan bad f h a j bytes (since_handed j bytes h x)) e;
   }
     where
-      posted : (i : ℕ) (m : Packet) → Sound v bad i → Made h i m → Posted h i m
+      posted : (i : ℕ) (m : Message) → Sound v bad i → Made h i m → Posted h i m
       posted i m o x = subst (Memᴰ m) (sym (running_posted v plan bad f h a i (w.up i o).stage)) ((made_records v plan bad f h a i m).0 x)
 
-      of : (i j : ℕ) (m : Packet) → Took h i j m ⊎ Memᴰ (letter j m) [] → Took h i j m
+      of : (i j : ℕ) (m : Message) → Took h i j m ⊎ Memᴰ (letter j m) [] → Took h i j m
       of i j m (inl x) = x
       of i j m (inr x) = absurd (Memᴰ.not-nil x)
 
-      taken : (i j : ℕ) (bytes : List ℕ) (m : Packet) → Sound v bad i → Sound v bad j → (n : Packet) × (bytes ≡ packet_bytes n) × Made h j n
-          → exact_packet bytes ≡ Exactly.One m → NeedsNoRecord v h i j m
+      taken : (i j : ℕ) (bytes : List ℕ) (m : Message) → Sound v bad i → Sound v bad j → (n : Message) × (bytes ≡ message_bytes n) × Made h j n
+          → exact_message bytes ≡ Exactly.One m → Took h i j m
       taken i j bytes m o p (n, is, x) e =
-          let y : Exactly.One n ≡ Exactly.One m = sym (posted_read v plan bad f h a j p (w.up j p) n (posted j n p x)) ∙ ap exact_packet (sym is) ∙ e in
+          let y : Exactly.One n ≡ Exactly.One m = sym (posted_read v plan bad f h a j p (w.up j p) n (posted j n p x)) ∙ ap exact_message (sym is) ∙ e in
           let same : n ≡ m = cc in
-          subst (NeedsNoRecord v h i j) same (took_idle v plan bad f h a i o.0 j n (of i j n (w.waits i j n o p (posted j n p x))))
+          subst (Took h i j) same (of i j n (w.waits i j n o p (posted j n p x)))
 
   module _ (h : History) (input : StartInput) (on : Startable plan input) (a : Allowed v bad h) where
     ready : AllUp v plan bad f h input on v.n
@@ -137,5 +137,4 @@ pub comes_through : ComesThrough
 comes_through v plan bad h given =
     let c : Completed v bad h = completes v plan bad h given.shared given.allowed in
     let p : Premises v plan bad (c.more ++ h) = record { shared = given.shared; few = given.few; allowed = c.allowed } in
-    let d : Holds v plan bad (c.more ++ h) = demand3 v plan bad (c.more ++ h) p in
-    (c, λ i o. let closed = d.ending c.complete i o in (closed, d.answered i o closed))
+    (c, (demand3 v plan bad (c.more ++ h) p).ending c.complete)

@@ -4,17 +4,17 @@ use Rattle.std.specs.Prelude.{◌≡◌, ◌⊎◌, ℕ, ℤ}
 use mathlib.Core.List.{[], ◌∷◌, ◌++◌, Memᴰ}
 use Rattle.base.specs.Sets.{Set}
 use Rattle.plan.specs.Plan.{Plan}
-use Rattle.packet.specs.declared.Packet.{Packet}
-use Rattle.packet.specs.Packet.{packet_bytes}
+use Rattle.message.specs.declared.Message.{Message}
+use Rattle.message.specs.Message.{message_bytes}
 use Rattle.board_calls.specs.declared.Answer.{Answer}
-use Rattle.agreement.specs.History.{Instance, StartInput, set_up, start, take_message, read_answer, read_count, restore, Step, calls, hands, cut, History, waiting, down, board_after}
+use Rattle.agreement.specs.History.{Instance, StartInput, set_up, start, take_message_lem, read_answer, read_count, restore, Step, calls, hands, cut, History, waiting, down, board_after}
 use Rattle.agreement.specs.Allowed.{Sound, Allowed}
 use Rattle.agreement.specs.Starts.{Startable}
-use Rattle.agreement.specs.Demand.{StartedBy, HandedSince, answer_now, Closed, Complete, Shared, Premises}
+use Rattle.agreement.specs.Demand.{StartedBy, HandedSince, answer_now, Complete, Shared, Premises}
 
 -- all that board i may hand over it has handed over, since its last restore
 abbrev pub AllHandedOver : History → ℕ → Type 0
-AllHandedOver h i = (m : Packet) → Memᴰ m (board_after h i).outbox → HandedSince i (packet_bytes m) h
+AllHandedOver h i = (m : Message) → Memᴰ m (board_after h i).outbox → HandedSince i (message_bytes m) h
 
 -- A step after the history h that is no cut, sets up no board but one that waits, restores none but one that a cut stopped, and keeps document 01's order: "It
 -- hands over all messages of one call before the next call, unless a cut comes between". What is taken is a sound board's, handed over since its last
@@ -22,7 +22,7 @@ AllHandedOver h i = (m : Packet) → Memᴰ m (board_after h i).outbox → Hande
 abbrev pub Orderly : Instance → Set → Step → History → Type 0
 Orderly v bad (calls i (set_up n t own agreement plan)) h = (board_after h i).stage ≡ waiting
 Orderly v bad (calls i (start p input lent used)) h = AllHandedOver h i
-Orderly v bad (calls i (take_message p sender bytes lent used)) h = Sound v bad sender × HandedSince sender bytes h × AllHandedOver h i
+Orderly v bad (calls i (take_message_lem p sender bytes lent used)) h = Sound v bad sender × HandedSince sender bytes h × AllHandedOver h i
 Orderly v bad (calls i (read_answer p)) h = AllHandedOver h i
 Orderly v bad (calls i (read_count p g c)) h = AllHandedOver h i
 Orderly v bad (calls i (restore n t own agreement plan lent)) h = (board_after h i).stage ≡ down
@@ -57,8 +57,8 @@ CompletesWith =
     (v : Instance) (plan : Plan) (bad : Set) (h : History) (input : StartInput) → Shared v plan → Startable plan input → Allowed v bad h
     → CompletedWith v bad h input
 
--- so every vote can come through: with demand 3's premises, every sound board is closed then, and has an answer
+-- so every vote can come through: with demand 3's premises, every sound board has an answer then
 abbrev pub ComesThrough : Type 0
 ComesThrough =
     (v : Instance) (plan : Plan) (bad : Set) (h : History) → Premises v plan bad h
-    → (c : Completed v bad h) × ((i : ℕ) → Sound v bad i → Closed v (c.more ++ h) i × ((z : ℤ) × (answer_now v (c.more ++ h) i ≡ Answer.At z)))
+    → (c : Completed v bad h) × ((i : ℕ) → Sound v bad i → (z : ℤ) × (answer_now v (c.more ++ h) i ≡ Answer.At z))

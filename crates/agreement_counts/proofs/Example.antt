@@ -1,19 +1,16 @@
 -- How a script by counts ends, by its run; count answers that no board started with, and one of a start after a lost one.
-use mathlib.Core.Path.{◌≡◌, refl, ap, ◌∙◌}
+use mathlib.Core.Path.{◌≡◌, refl, ◌∙◌}
 use mathlib.Core.Bool.{true}
 use mathlib.Core.List.{List, [], ◌∷◌}
 use Prim.Native.Nat.{ℕ, zero, suc, ◌<◌}
 use native.Mathlib.Omega.{arith}
 use lib.IntN.{ℤ, pos, negsuc}
-use lib.ListN.{length, get_or}
 use Rattle.base.specs.Sets.{Set}
 use Rattle.base.specs.Found.{found}
-use Rattle.rounding.specs.Rounding.{count_answer}
 use Rattle.plan.specs.Plan.{Plan}
 use Rattle.plan.specs.Reading.{plan_of}
 use Rattle.board_calls.specs.declared.Answer.{Answer}
 use Rattle.agreement.specs.History.{Instance, by_count}
-use Rattle.agreement.specs.Allowed.{Sound}
 use Rattle.agreement_histories.specs.Scripts.{Action, history_of}
 use Rattle.agreement_histories.specs.Grades as grades
 use Rattle.agreement_histories.proofs.Worlds.{board_of}
@@ -21,27 +18,16 @@ use Rattle.agreement_histories.proofs.Passing.{ending, passes, settled}
 use Rattle.agreement_histories.proofs.Delivery.{Judges}
 use Rattle.agreement_histories.proofs.Delivered.{concludes, passed}
 use Rattle.agreement_histories.proofs.Computing.{computing}
-use Rattle.agreement_counts.specs.Demand.{StartedByCount}
 use Rattle.agreement_counts.specs.Example.{CountsEnd, plan, bad, with_starts, pulled_count, pulled_script, Pulled, alone, anew_script, Anew}
-use Rattle.agreement_counts.proofs.Theorem.{count_started}
 use Rattle.agreement_counts.proofs.Inputs.{inputs_in, count_in, started_by_lem, only_by, count_now_lem}
-
--- of the answers l, board i's gives the count answer a of the count c
-pub record Gives (l : List Answer) (i g : ℕ) (c a : ℤ) : Type 0 where
-  pub step : ℤ
-  pub answers : (i < length l) × (get_or l i Answer.None ≡ Answer.At step)
-  pub count : count_answer g c step ≡ a
 
 -- a script that ends so, by its run
 module _ (v : Instance) (plan : Plan) (bad : Set) (script : List Action) (l : List Answer) (judged : Judges v bad script l) (set : settled v bad ≡ true)
     (reads : plan_of v.plan ≡ found plan) (g : ℕ) (count answer : ℕ → ℤ)
     (inputs : (i : ℕ) → i < v.n → inputs_in (board_of (ending v script) i).counted ≡ by_count g (count i) ∷ [])
-    (gives : (i : ℕ) → i < v.n → Gives l i g (count i) (answer i)) where
+    (gives : (i : ℕ) → i < v.n → count_in v (ending v script) i g (count i) ≡ Answer.At (answer i)) where
   abbrev f : passes v bad script ≡ true
   f = passed v plan bad script l judged
-
-  started : (i : ℕ) → Sound v bad i → StartedByCount (history_of v script) i g (count i)
-  started i o = started_by_lem v bad script f i (by_count g (count i)) (inputs i o.0)
 
   pub ends : CountsEnd v plan bad g (history_of v script) count answer
   ends =
@@ -50,11 +36,8 @@ module _ (v : Instance) (plan : Plan) (bad : Set) (script : List Action) (l : Li
         premises = c.premises;
         complete = c.complete;
         only = λ i x input o s. (count i, only_by v bad script f i (by_count g (count i)) (inputs i o.0) x input s);
-        started = started;
-        answers = λ i o.
-            let y = gives i o.0 in
-            count_started v plan bad (history_of v script) c.premises i g (count i) y.step o (started i o) (c.answer i y.answers.0 ∙ y.answers.1)
-            ∙ ap Answer.At y.count;
+        started = λ i o. started_by_lem v bad script f i (by_count g (count i)) (inputs i o.0);
+        answers = λ i o. count_now_lem v bad script f i g (count i) ∙ gives i o.0;
       }
 
 -- ---- pulled to other steps
@@ -69,14 +52,15 @@ inputs_pulled zero l = refl
 inputs_pulled (suc zero) l = refl
 inputs_pulled (suc (suc i)) l = absurd (omega arith)
 
+gives_pulled : (i : ℕ) → i < 2 → count_in grades.vote (ending grades.vote pulled_script) i 4 (pulled_count i) ≡ Answer.At (pos 6)
+unfolding computing grades.script with_starts
+gives_pulled zero l = refl
+gives_pulled (suc zero) l = refl
+gives_pulled (suc (suc i)) l = absurd (omega arith)
+
 pub pulled : Pulled
 unfolding computing
-pulled = ends grades.vote grades.plan grades.bad pulled_script _ judged_pulled refl refl 4 pulled_count (λ i. pos 6) inputs_pulled gives
-  where
-    gives : (i : ℕ) → i < 2 → Gives (Answer.At (pos 1) ∷ Answer.At (pos 2) ∷ []) i 4 (pulled_count i) (pos 6)
-    gives zero l = record { step = pos 1; answers = (l, refl); count = refl }
-    gives (suc zero) l = record { step = pos 2; answers = (l, refl); count = refl }
-    gives (suc (suc i)) l = absurd (omega arith)
+pulled = ends grades.vote grades.plan grades.bad pulled_script _ judged_pulled refl refl 4 pulled_count (λ i. pos 6) inputs_pulled gives_pulled
 
 -- ---- the count of the own start not lost
 
@@ -87,6 +71,10 @@ judged_anew = refl
 input_anew : inputs_in (board_of (ending alone anew_script) 0).counted ≡ by_count 2 (pos 3) ∷ []
 unfolding computing inputs_in
 input_anew = refl
+
+three : count_in alone (ending alone anew_script) 0 2 (pos 3) ≡ Answer.At (pos 3)
+unfolding computing
+three = refl
 
 one : count_in alone (ending alone anew_script) 0 2 (negsuc 0) ≡ Answer.At (pos 1)
 unfolding computing
@@ -103,10 +91,6 @@ pub plan_read : plan_of alone.plan ≡ found plan
 unfolding computing
 plan_read = refl
 
-three : count_answer 2 (pos 3) (pos 1) ≡ pos 3
-unfolding computing
-three = refl
-
 ends_anew : CountsEnd alone plan bad 2 (history_of alone anew_script) (λ i. pos 3) (λ i. pos 3)
 ends_anew = ends alone plan bad anew_script (Answer.At (pos 1) ∷ []) judged_anew settled_alone plan_read 2 (λ i. pos 3) (λ i. pos 3) inputs gives
   where
@@ -114,8 +98,8 @@ ends_anew = ends alone plan bad anew_script (Answer.At (pos 1) ∷ []) judged_an
     inputs zero l = input_anew
     inputs (suc i) l = absurd (omega arith)
 
-    gives : (i : ℕ) → i < 1 → Gives (Answer.At (pos 1) ∷ []) i 2 (pos 3) (pos 3)
-    gives zero l = record { step = pos 1; answers = (l, refl); count = three }
+    gives : (i : ℕ) → i < 1 → count_in alone (ending alone anew_script) i 2 (pos 3) ≡ Answer.At (pos 3)
+    gives zero l = three
     gives (suc i) l = absurd (omega arith)
 
 pub anew : Anew

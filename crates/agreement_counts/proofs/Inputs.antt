@@ -9,10 +9,10 @@ use lib.IntN.{ℤ}
 use Rattle.base.specs.Sets.{Set}
 use Rattle.board_calls.specs.declared.Answer.{Answer}
 use Rattle.agreement.specs.History.{Instance, StartInput, read_as_count, Act, a_start, a_take, Counted, Board, board_after}
-use Rattle.agreement.specs.Demand.{StartedBy, member_by}
+use Rattle.agreement.specs.Demand.{StartedBy, party_by}
 use Rattle.agreement_histories.specs.Scripts.{Action, history_of}
 use Rattle.agreement_histories.proofs.Worlds.{World, board_of}
-use Rattle.agreement_histories.proofs.Passing.{member_at, ending, passes, shown}
+use Rattle.agreement_histories.proofs.Passing.{ending, passes, shown}
 use Rattle.agreement_counts.specs.Demand.{count_now}
 
 abbrev input_of : Act → List StartInput → List StartInput
@@ -60,7 +60,7 @@ inputs_in_lem input (c ∷ cs) m = go (inputs_in_lem input cs) c.act refl m
 
 -- the count answer of a board, as the run shows it
 abbrev pub count_in : Instance → World → ℕ → ℕ → ℤ → Answer
-count_in v w i g c = (read_as_count (member_at v w i) g c).answer
+count_in v w i g c = (read_as_count (party_by v i (board_of w i) (board_of w i).stage) g c).answer
 
 module _ (v : Instance) (bad : Set) (script : List Action) (f : passes v bad script ≡ true) (i : ℕ) where
   -- board i started with this input, and with no other
@@ -78,4 +78,4 @@ module _ (v : Instance) (bad : Set) (script : List Action) (f : passes v bad scr
         Memᴰ.eq_of_singleton (subst (λ (l : List StartInput). Memᴰ other l) same_inputs (in_inputs x other c (board_after (history_of v script) i).counted m k))
 
   pub count_now_lem : (g : ℕ) (c : ℤ) → count_now v (history_of v script) i g c ≡ count_in v (ending v script) i g c
-  count_now_lem g c = ap (λ (b : Board). (read_as_count (member_by v i b b.stage) g c).answer) (sym ((shown v bad script f).board i))
+  count_now_lem g c = ap (λ (b : Board). (read_as_count (party_by v i b b.stage) g c).answer) (sym ((shown v bad script f).board i))

@@ -16,21 +16,21 @@ use Rattle.rounding.specs.Rounding.{size_passes, nearest_step, count_answer}
 use Rattle.rounding.proofs.Clamps.{own_step}
 use Rattle.rounding.proofs.Halves.{half_below, half_above, halves_apart}
 use Rattle.level.specs.Level.{no_output}
-use Rattle.member.specs.Valid.{member_valid}
+use Rattle.party.specs.Valid.{party_valid}
 use Rattle.board_calls.specs.declared.Answer.{Answer}
 use Rattle.board_calls.specs.Answers.{position_of}
 use Rattle.board_calls.specs.Calls.{Entry, answered_of}
 use Rattle.board_laws.proofs.Counts.{count_on_range, count_is_start, count_answers}
-use Rattle.agreement.specs.History.{Instance, StartInput, plain, by_count, start_finds, read_as_count, a_start, Board, after_entry, after_answer}
+use Rattle.agreement.specs.History.{Instance, StartInput, plain, by_count, start_finds, read_as_count, Stage, running, a_start, Board, after_entry, after_answer}
+use Rattle.agreement.specs.Demand.{party_by}
 use Rattle.agreement_histories.specs.Scripts.{Action, sets_up, starts_count, reads, reads_count, lent, history_of}
-use Rattle.agreement_histories.specs.Closings.{closing_apart}
 use Rattle.agreement_histories.proofs.Worlds.{World, board_of, beginning, acted, world_after, fits, all_fit}
 use Rattle.agreement_histories.proofs.Passing.{ending, listed, answer_in, settled}
 use Rattle.agreement_histories.proofs.Delivery.{full, Judges, judging_tests}
 use Rattle.agreement_histories.proofs.Computing.{computing}
 use Rattle.agreement_counts.specs.Example.{CountsEnd, vote, plan, bad, count, script, BoundReached}
-use Rattle.agreement_counts.proofs.Inputs.{inputs_in}
-use Rattle.agreement_counts.proofs.Example.{Gives, ends, plan_read}
+use Rattle.agreement_counts.proofs.Inputs.{inputs_in, count_in}
+use Rattle.agreement_counts.proofs.Example.{ends, plan_read}
 
 -- ---- scripts, world by world
 
@@ -39,6 +39,10 @@ abbrev Leads : Instance → Set → World → List Action → World → Type 0
 Leads v bad w script u = (all_fit v bad w script ≡ true) × (world_after v w script ≡ u)
 
 module _ (v : Instance) (bad : Set) where
+  nothing : (w : World) → Leads v bad w [] w
+  unfolding all_fit world_after
+  nothing w = (refl, refl)
+
   after : (w x u : World) (a : Action) (rest : List Action) → fits v bad w a ≡ true → acted v w a ≡ x → Leads v bad x rest u → Leads v bad w (a ∷ rest) u
   unfolding all_fit world_after
   after w x u a rest f e l =
@@ -53,13 +57,9 @@ module _ (v : Instance) (bad : Set) where
 
 -- ---- starts and readings by counts
 
--- a board that answers its own step has its own count as count answer
-own_count : (g : ℕ) (c z : ℤ) → T (size_passes g) → nearest_step g c ≡ z → count_answer g c z ≡ c
-own_count g c z ok e = ap (count_answer g c) (sym e) ∙ own_step g ok c
-
 -- a board is started by this input at the reading z, where its questions find this
 abbrev entry : Board → StartInput → ℤ → Found Entry → Board
-entry b input z f = after_entry b (a_start (position_of b.member.party.plan z) input) b.member (lent b.journal) (length b.journal) f
+entry b input z f = after_entry b (a_start (position_of b.party.plan z) input) b.party (lent b.journal) (length b.journal) f
 
 abbrev entered : World → ℕ → StartInput → ℤ → Found Entry → World
 entered w i input z f = record {
@@ -70,37 +70,41 @@ entered w i input z f = record {
 
 -- as by a reading, but for the input
 abbrev started_at : World → ℕ → StartInput → ℤ → World
-started_at w i input z = entered w i input z (start_finds (board_of w i).member (plain z) (lent (board_of w i).journal) (length (board_of w i).journal))
+started_at w i input z = entered w i input z (start_finds (board_of w i).party (plain z) (lent (board_of w i).journal) (length (board_of w i).journal))
 
--- board i answers the reading z of a range
+-- board i runs, and answers the reading z of a range
 record Answering (w : World) (i : ℕ) (z : ℤ) : Type 0 where
-  valid : member_valid (board_of w i).member ≡ true
-  range : (board_of w i).member.party.plan.kind ≡ 2
-  position : eqb (position_of (board_of w i).member.party.plan z) no_output ≡ false
-  answer : (answered_of (board_of w i).member).answer ≡ Answer.At z
+  up : (board_of w i).stage ≡ running
+  valid : party_valid (board_of w i).party ≡ true
+  range : (board_of w i).party.plan.kind ≡ 2
+  position : eqb (position_of (board_of w i).party.plan z) no_output ≡ false
+  answer : (answered_of (board_of w i).party).answer ≡ Answer.At z
 
 module _ (v : Instance) (w : World) (i g : ℕ) (c z : ℤ) (ok : T (size_passes g)) (e : nearest_step g c ≡ z) where
-  starts_as : (board_of w i).member.party.plan.kind ≡ 2 → acted v w (starts_count i g c) ≡ started_at w i (by_count g c) z
+  starts_as : (board_of w i).party.plan.kind ≡ 2 → acted v w (starts_count i g c) ≡ started_at w i (by_count g c) z
   starts_as k =
       let b = board_of w i in
       ap (entered w i (by_count g c) (nearest_step g c))
-      (count_is_start b.member g c (length (lent b.journal).journal) (length b.journal) (lent b.journal).out ok k)
+      (count_is_start b.party g c (length (lent b.journal).journal) (length b.journal) (lent b.journal).out ok k)
       ∙ ap (started_at w i (by_count g c)) e
 
   module _ (a : Answering w i z) where
     -- it reads its own count
-    counted : (read_as_count (board_of w i).member g c).answer ≡ Answer.At c
+    counted : (read_as_count (board_of w i).party g c).answer ≡ Answer.At c
     counted =
-        let p = (board_of w i).member in
+        let p = (board_of w i).party in
         count_answers p g c (true→T a.valid) ok
-        (λ n. off (sym (count_on_range p.party.plan g c a.range ∙ ap (position_of p.party.plan) e) ∙ n)) a.answer
-        ∙ ap Answer.At (own_count g c z ok e)
+        (λ n. off (sym (count_on_range p.plan g c a.range ∙ ap (position_of p.plan) e) ∙ n)) a.answer
+        ∙ ap Answer.At (ap (count_answer g c) (sym e) ∙ own_step g ok c)
       where
-        off : position_of (board_of w i).member.party.plan z ≡ no_output → ⊥
+        off : position_of (board_of w i).party.plan z ≡ no_output → ⊥
         off n =
-            let t : true ≡ false = sym (eq-eqb (position_of (board_of w i).member.party.plan z) no_output n) ∙ a.position in
+            let t : true ≡ false = sym (eq-eqb (position_of (board_of w i).party.plan z) no_output n) ∙ a.position in
             let o : ◌≡◌ {A = ℕ} 0 1 = cc in
             omega arith
+
+    counts : count_in v w i g c ≡ Answer.At c
+    counts = ap (λ (s : Stage). (read_as_count (party_by v i (board_of w i) s) g c).answer) a.up ∙ counted
 
     reads_as : acted v w (reads_count i g c) ≡ acted v w (reads i)
     reads_as = ap read counted ∙ sym (ap read a.answer)
@@ -128,7 +132,7 @@ fits_start : (g : ℕ) (c : ℤ) → fits vote bad both (starts_count 0 g c) ≡
 unfolding computing
 fits_start g c = refl
 
-range_both : (board_of both 0).member.party.plan.kind ≡ 2
+range_both : (board_of both 0).party.plan.kind ≡ 2
 unfolding computing
 range_both = refl
 
@@ -142,28 +146,26 @@ module _ (a b : StartInput) where
   abbrev three : World
   three = acted vote two (reads 0)
 
-  abbrev four : World
-  four = acted vote three (reads 1)
-
   abbrev last : World
-  last = world_after vote four (closing_apart 0 1 [])
+  last = acted vote three (reads 1)
 
   fits_later : (g : ℕ) (c d : ℤ)
       → (fits vote bad one (starts_count 1 g d) ≡ true) × (fits vote bad two (reads_count 0 g c) ≡ true) × (fits vote bad three (reads_count 1 g d) ≡ true)
   unfolding computing
   fits_later g c d = (refl, refl, refl)
 
-  range_one : (board_of one 1).member.party.plan.kind ≡ 2
+  range_one : (board_of one 1).party.plan.kind ≡ 2
   unfolding computing
   range_one = refl
 
-  closes : Leads vote bad four (closing_apart 0 1 []) last
+  answering : Answering two 0 (pos 0) × Answering three 1 (pos 1) × Answering last 0 (pos 0) × Answering last 1 (pos 1)
   unfolding computing
-  closes = (refl, refl)
-
-  answering : Answering two 0 (pos 0) × Answering three 1 (pos 1)
-  unfolding computing
-  answering = (record { valid = refl; range = refl; position = refl; answer = refl }, record { valid = refl; range = refl; position = refl; answer = refl })
+  answering = (
+    record { up = refl; valid = refl; range = refl; position = refl; answer = refl },
+    record { up = refl; valid = refl; range = refl; position = refl; answer = refl },
+    record { up = refl; valid = refl; range = refl; position = refl; answer = refl },
+    record { up = refl; valid = refl; range = refl; position = refl; answer = refl },
+  )
 
   delivered : full vote bad last ≡ true
   unfolding computing
@@ -206,9 +208,9 @@ module _ (g : ℕ) (ok : T (size_passes g)) where
       (starts_as vote (one at_low at_high) 1 g high (pos 1) ok (half_above g ok) (range_one at_low at_high))
       (after vote bad (two at_low at_high) (three at_low at_high) end (reads_count 0 g low) _ f.1
       (reads_as vote (two at_low at_high) 0 g low (pos 0) ok (half_below g ok) r.0)
-      (after vote bad (three at_low at_high) (four at_low at_high) end (reads_count 1 g high) _ f.2
+      (after vote bad (three at_low at_high) end end (reads_count 1 g high) _ f.2
       (reads_as vote (three at_low at_high) 1 g high (pos 1) ok (half_above g ok) r.1)
-      (closes at_low at_high))))))
+      (nothing vote bad end))))))
 
   judged : Judges vote bad (script g) (Answer.At (pos 0) ∷ Answer.At (pos 1) ∷ [])
   judged = judged_by vote bad (script g) end (Answer.At (pos 0) ∷ Answer.At (pos 1) ∷ []) leads (delivered at_low at_high) (said at_low at_high)
@@ -218,9 +220,11 @@ module _ (g : ℕ) (ok : T (size_passes g)) where
   inputs (suc zero) l = ap (λ (w : World). inputs_in (board_of w 1).counted) leads.1 ∙ (inputs_last at_low at_high).1
   inputs (suc (suc i)) l = absurd (omega arith)
 
-  gives : (i : ℕ) → i < 2 → Gives (Answer.At (pos 0) ∷ Answer.At (pos 1) ∷ []) i g (count g i) (count g i)
-  gives zero l = record { step = pos 0; answers = (l, refl); count = own_count g low (pos 0) ok (half_below g ok) }
-  gives (suc zero) l = record { step = pos 1; answers = (l, refl); count = own_count g high (pos 1) ok (half_above g ok) }
+  gives : (i : ℕ) → i < 2 → count_in vote (ending vote (script g)) i g (count g i) ≡ Answer.At (count g i)
+  gives zero l =
+      ap (λ (w : World). count_in vote w 0 g low) leads.1 ∙ counts vote end 0 g low (pos 0) ok (half_below g ok) (answering at_low at_high).2
+  gives (suc zero) l =
+      ap (λ (w : World). count_in vote w 1 g high) leads.1 ∙ counts vote end 1 g high (pos 1) ok (half_above g ok) (answering at_low at_high).3
   gives (suc (suc i)) l = absurd (omega arith)
 
   ending_so : CountsEnd vote plan bad g (history_of vote (script g)) (count g) (count g)

@@ -13,14 +13,14 @@ use Rattle.rounding.specs.Rounding.{size_passes, nearest_step, count_answer}
 use Rattle.rounding.proofs.Answers.{answers_near, answer_low, answer_high}
 use Rattle.plan.specs.Plan.{Plan}
 use Rattle.level.specs.Level.{no_output}
-use Rattle.member.specs.Member.{Member}
+use Rattle.party.specs.Party.{Party}
 use Rattle.board_calls.specs.declared.Answer.{Answer}
 use Rattle.board_calls.specs.Counts.{count_position, count_questions, count_gives}
 use Rattle.board_laws.proofs.Counts.{count_on_range, count_answered, count_passed, count_answers}
 use Rattle.agreement.specs.History.{Instance, by_count, voted_input, read_as_count, History}
 use Rattle.agreement.specs.Allowed.{Sound}
 use Rattle.agreement.specs.Starts.{Startable}
-use Rattle.agreement.specs.Demand.{StartedBy, member_now, answer_now, Answers, Complete, Holds, Premises}
+use Rattle.agreement.specs.Demand.{StartedBy, party_now, answer_now, Answers, Complete, Premises}
 use Rattle.agreement.specs.Ranges.{apart, Input}
 use Rattle.agreement.proofs.Boards.{answer_now_lem}
 use Rattle.agreement.proofs.Answers.{answers_state}
@@ -42,17 +42,17 @@ pub record Stepped (v : Instance) (h : History) (i g : ℕ) (a : ℤ) : Type 0 w
 
 pub stepped : (v : Instance) (h : History) (i g : ℕ) (a : ℤ) → CountAnswers v h i g a → Stepped v h i g a
 stepped v h i g a (c, s, inl e) =
-    let y = count_answered (member_now v h i) g c e in
+    let y = count_answered (party_now v h i) g c e in
     record { own = c; step = y.0; started = s; answers = inl y.1; gives = y.2 }
 stepped v h i g a (c, s, inr (p, m, e)) =
     let y = count_answered p g c e in
     record { own = c; step = y.0; started = s; answers = inr (p, inr (g, c, a, m, e), y.1); gives = y.2 }
 
 -- a count reading that gave an answer passed its questions
-read_passed : (p : Member) (g : ℕ) (c a : ℤ) → (read_as_count p g c).answer ≡ Answer.At a → T (size_passes g) × (count_position p.party.plan g c ≡ no_output → ⊥)
+read_passed : (p : Party) (g : ℕ) (c a : ℤ) → (read_as_count p g c).answer ≡ Answer.At a → T (size_passes g) × (count_position p.plan g c ≡ no_output → ⊥)
 read_passed p g c a = go (count_questions p g c) refl
   where
-    go : (q : Found Answer) → count_questions p g c ≡ q → (count_gives q).answer ≡ Answer.At a → T (size_passes g) × (count_position p.party.plan g c ≡ no_output → ⊥)
+    go : (q : Found Answer) → count_questions p g c ≡ q → (count_gives q).answer ≡ Answer.At a → T (size_passes g) × (count_position p.plan g c ≡ no_output → ⊥)
     go (found x) e i = let w = count_passed p g c e in (w.1, w.2)
     go (refused number place) e i = let o : ◌≡◌ {A = ℕ} 0 1 = cc in absurd (omega arith)
 
@@ -62,13 +62,7 @@ module _ (v : Instance) (plan : Plan) (bad : Set) (h : History) (given : Premise
       → count_now v h i g c ≡ Answer.At (count_answer g c y)
   count_now_lem i g c y o s d e =
       let p = now_ours v plan bad given.shared i o.0 h given.allowed y e in
-      count_answers (member_now v h i) g c p.valid s (λ n. d (ap (λ (q : Plan). count_position q g c) (sym p.plans) ∙ n)) e
-
-  -- and of the count that its board started with
-  pub count_started : (i g : ℕ) (c y : ℤ) → Sound v bad i → StartedByCount h i g c → answer_now v h i ≡ Answer.At y → count_now v h i g c ≡ Answer.At (count_answer g c y)
-  count_started i g c y o (x, s) =
-      let w = count_asked v plan bad given.shared h given.allowed i x g c s in
-      count_now_lem i g c y o w.0 (λ n. w.2 (sym (count_on_range plan g c w.1) ∙ n))
+      count_answers (party_now v h i) g c p.valid s (λ n. d (ap (λ (q : Plan). count_position q g c) (sym p.plans) ∙ n)) e
 
   -- ---- the demand
 
@@ -85,7 +79,7 @@ module _ (v : Instance) (plan : Plan) (bad : Set) (h : History) (given : Premise
         let s = stepped v h i g a p in
         let t = stepped v h j g b q in
         let w = count_asked v plan bad given.shared h given.allowed i s.started.0 g s.own s.started.1 in
-        let d = (demand3_range v plan bad h given w.1).near i j s.step t.step o o' (inl s.answers) (inl t.answers) in
+        let d = (demand3_range v plan bad h given w.1).near i j s.step t.step o o' s.answers t.answers in
         subst₂ (λ (x y : ℤ). apart x y ≤ 2 * g) (sym s.gives) (sym t.gives) (answers_near g w.0 s.own t.own s.step t.step d)
 
     between : (i : ℕ) (a : ℤ) → Sound v bad i → CountAnswers v h i g a
@@ -108,7 +102,7 @@ module _ (v : Instance) (plan : Plan) (bad : Set) (h : History) (given : Premise
         ok = asked.0
 
         d : (p : ℤ) × (q : ℤ) × Input v plan bad h p × Input v plan bad h q × (p ≤ℤ y) × (y ≤ℤ q)
-        d = (demand3_range v plan bad h given asked.1).validity i y o (inl s.answers)
+        d = (demand3_range v plan bad h given asked.1).validity i y o s.answers
 
         below : (e : ℤ) × SoundCount v bad g h e × (nearest_step g e ≡ d.0)
         below = input_count d.0 d.2
@@ -144,10 +138,10 @@ module _ (v : Instance) (plan : Plan) (bad : Set) (h : History) (given : Premise
         let x = f.0 in
         let s = f.2 in
         let y = only i x s.0 o s.1 in
-        let b : StartedByCount h i g y.0 = (x, subst (StartedBy h i x) y.1 s.1) in
-        let d : Holds v plan bad h = demand3 v plan bad h given in
-        let r = d.answered i o (d.ending full i o) in
-        (y.0, count_answer g y.0 r.0, b, count_started i g y.0 r.0 o b r.1)
+        let b : StartedBy h i x (by_count g y.0) = subst (StartedBy h i x) y.1 s.1 in
+        let w = count_asked v plan bad given.shared h given.allowed i x g y.0 b in
+        let r = (demand3 v plan bad h given).ending full i o in
+        (y.0, count_answer g y.0 r.0, (x, b), count_now_lem i g y.0 r.0 o w.0 (λ n. w.2 (sym (count_on_range plan g y.0 w.1) ∙ n)) r.1)
 
 -- Q-6.
 pub counts_demand : CountsDemand

@@ -4,11 +4,11 @@ use Rattle.std.specs.Prelude.{◌≡◌, ◌⊎◌, ℕ, ◌*◌, ◌≤◌, ℤ
 use mathlib.Core.List.{Memᴰ}
 use Rattle.base.specs.Sets.{Set}
 use Rattle.plan.specs.Plan.{Plan}
-use Rattle.member.specs.Member.{Member}
+use Rattle.party.specs.Party.{Party}
 use Rattle.board_calls.specs.declared.Answer.{Answer}
 use Rattle.agreement.specs.History.{Instance, StartInput, by_count, read_count, read_as_count, calls, History}
 use Rattle.agreement.specs.Allowed.{Sound}
-use Rattle.agreement.specs.Demand.{StartedBy, member_now, Complete, Premises}
+use Rattle.agreement.specs.Demand.{StartedBy, party_now, Complete, Premises}
 use Rattle.agreement.specs.Ranges.{apart}
 
 -- board i started with the count c, in steps of g counts, in an accepted call not lost
@@ -27,13 +27,13 @@ SoundCount v bad g h c = (i : ℕ) × Sound v bad i × StartedByCount h i g c
 
 -- "From step answer y and the start's count c, which the caller keeps": what a reading of board i by the count c gives or, after a cut, would give once restored
 abbrev pub count_now : Instance → History → ℕ → ℕ → ℤ → Answer
-count_now v h i g c = (read_as_count (member_now v h i) g c).answer
+count_now v h i g c = (read_as_count (party_now v h i) g c).answer
 
 -- board i's count answer is a, held then or read earlier, where its caller gives back the count of its own start not lost
 abbrev pub CountAnswers : Instance → History → ℕ → ℕ → ℤ → Type 0
 CountAnswers v h i g a =
     (c : ℤ) × StartedByCount h i g c
-    × ((count_now v h i g c ≡ Answer.At a) ⊎ ((m : Member) × Memᴰ (calls i (read_count m g c)) h × ((read_as_count m g c).answer ≡ Answer.At a)))
+    × ((count_now v h i g c ≡ Answer.At a) ⊎ ((p : Party) × Memᴰ (calls i (read_count p g c)) h × ((read_as_count p g c).answer ≡ Answer.At a)))
 
 -- ---- the demand
 
@@ -62,5 +62,5 @@ OneStart =
 -- a count answer once read is the board's ever after, whatever cuts came between
 abbrev pub CountStays : Type 0
 CountStays =
-    (v : Instance) (plan : Plan) (bad : Set) (h : History) → Premises v plan bad h → (i g : ℕ) (c a : ℤ) (m : Member) → Sound v bad i
-    → Memᴰ (calls i (read_count m g c)) h → (read_as_count m g c).answer ≡ Answer.At a → count_now v h i g c ≡ Answer.At a
+    (v : Instance) (plan : Plan) (bad : Set) (h : History) → Premises v plan bad h → (i g : ℕ) (c a : ℤ) (p : Party) → Sound v bad i
+    → Memᴰ (calls i (read_count p g c)) h → (read_as_count p g c).answer ≡ Answer.At a → count_now v h i g c ≡ Answer.At a

@@ -7,14 +7,12 @@ use Rattle.base.specs.Sets.{Set}
 use Rattle.rounding.specs.Rounding.{size_passes}
 use Rattle.plan.specs.Plan.{Plan}
 use Rattle.plan.specs.Positions.{range_plan}
-use Rattle.packet.specs.declared.Packet.TheVariants.{Echo, Ready}
 use Rattle.board_calls.specs.declared.Answer.{Answer}
 use Rattle.agreement.specs.History.{Instance, History}
 use Rattle.agreement.specs.Allowed.{Sound}
 use Rattle.agreement.specs.Demand.{Complete, Premises}
 use Rattle.agreement.specs.Ranges.{apart}
 use Rattle.agreement_histories.specs.Scripts.{Action, sets_up, starts, starts_count, takes, reads, reads_count, sends, cuts, restores, restores_torn, tries, history_of}
-use Rattle.agreement_histories.specs.Closings.{closing_apart}
 use Rattle.agreement_histories.specs.Grades as grades
 use Rattle.agreement_counts.specs.Demand.{StartedByCount, OnlyCounts, count_now, CountAnswers}
 
@@ -29,7 +27,7 @@ pub record CountsEnd (v : Instance) (plan : Plan) (bad : Set) (g : ℕ) (h : His
 -- ---- 2g apart
 
 -- Two boards vote on the readings 0 and 1, in steps of g counts. They start with the counts -g/2 and g + g/2, half a step outside of 0 and g: each answers its
--- own step at once, and reads its own count. Then both close.
+-- own step at once, and reads its own count.
 abbrev pub vote : Instance
 vote = record { n = 2; t = 0; agreement = 1; plan = 2 ∷ 0 ∷ 1 ∷ [] }
 
@@ -51,7 +49,7 @@ script g =
     ∷ starts_count 1 g (count g 1)
     ∷ reads_count 0 g (count g 0)
     ∷ reads_count 1 g (count g 1)
-    ∷ closing_apart 0 1 []
+    ∷ []
 
 pub record ReachedAt (g : ℕ) : Type 0 where
   pub ends : CountsEnd vote plan bad g (history_of vote (script g)) (count g) (count g)
@@ -96,7 +94,7 @@ Pulled = CountsEnd grades.vote grades.plan grades.bad 4 (history_of grades.vote 
 -- ---- the count of the own start not lost
 
 -- A board alone votes on the readings 0 and 1, in steps of 2 counts. It starts with the count -1, and a cut loses this start; restored, it starts with the count
--- 3, reads 3 and closes. After a cut that leaves all 14 bytes of its journal its count answer is still 3. Given back -1 it would be 1.
+-- 3 and reads 3. After a cut that leaves the 3 bytes of that start its count answer is still 3. Given back -1 it would be 1.
 abbrev pub alone : Instance
 alone = record { n = 1; t = 0; agreement = 1; plan = 2 ∷ 0 ∷ 1 ∷ [] }
 
@@ -108,11 +106,7 @@ anew_script =
     ∷ restores 0
     ∷ starts_count 0 2 (pos 3)
     ∷ reads_count 0 2 (pos 3)
-    ∷ sends 0 (Echo 1 1)
-    ∷ takes 0 0 (Echo 1 1)
-    ∷ sends 0 (Ready 1)
-    ∷ takes 0 0 (Ready 1)
-    ∷ cuts 0 14
+    ∷ cuts 0 3
     ∷ []
 
 pub record Anew : Type 0 where

@@ -1,13 +1,10 @@
--- One board alone: it answers and closes.
-use mathlib.Core.Path.{◌≡◌, refl}
+-- One board alone: it answers.
+use mathlib.Core.Path.{refl}
 use mathlib.Core.List.{[], ◌∷◌}
 use lib.IntN.{pos}
 use Rattle.base.specs.Limits.{max_number}
-use Rattle.message.specs.declared.Body.TheVariants.{FirstEcho, FirstProposal, SecondEcho, SecondProposal}
-use Rattle.packet.specs.declared.Packet.TheVariants.{Echo, Ready}
 use Rattle.board_calls.specs.declared.Answer.{Answer}
-use Rattle.agreement.specs.History.{board_after}
-use Rattle.agreement_histories.specs.Scripts.{says, history_of, Concludes}
+use Rattle.agreement_histories.specs.Scripts.{history_of, Concludes}
 use Rattle.agreement_histories.specs.Alone.{vote, plan, bad, script}
 use Rattle.agreement_histories.proofs.Delivery.{Judges}
 use Rattle.agreement_histories.proofs.Delivered.{concludes}
@@ -20,12 +17,6 @@ judged = refl
 pub conclusion : Concludes (vote 1) plan bad (history_of (vote 1) (script 1)) (Answer.At (pos 1) ∷ [])
 unfolding computing
 conclusion = concludes (vote 1) plan bad (script 1) _ judged refl refl
-
--- the fifth message is the closing echo of its answer, and the sixth says ready
-pub messages : (board_after (history_of (vote 1) (script 1)) 0).outbox
-    ≡ says (FirstEcho 0) ∷ says (FirstProposal 0) ∷ says (SecondEcho 0) ∷ says (SecondProposal 0) ∷ Echo 1 1 ∷ Ready 1 ∷ []
-unfolding computing script
-messages = refl
 
 -- ---- with the largest agreement number
 

@@ -1,4 +1,4 @@
--- One board and two levels that send messages: it answers and closes.
+-- One board and two levels that send messages: it answers.
 use mathlib.Core.Path.{refl}
 use mathlib.Core.List.{[], ◌∷◌}
 use lib.IntN.{pos}

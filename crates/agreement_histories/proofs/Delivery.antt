@@ -6,16 +6,15 @@ use Prim.Native.Nat.{ℕ}
 use lib.Dec.{leb, ltb, eqb}
 use lib.ListN.{length}
 use Rattle.base.specs.Sets.{Set, count}
-use Rattle.packet.specs.declared.Packet.{Packet}
-use Rattle.packet.specs.declared.Exactly.{Exactly}
-use Rattle.packet.specs.Packet.{packet_bytes}
-use Rattle.packet.specs.Reading.{exact_packet}
-use Rattle.member.specs.Member.{Member, idle}
+use Rattle.base.specs.Limits.{max_number}
+use Rattle.message.specs.declared.Message.{Message}
+use Rattle.message.specs.declared.Exactly.{Exactly}
+use Rattle.message.specs.Message.{in_table}
 use Rattle.board_calls.specs.declared.Answer.{Answer}
 use Rattle.agreement.specs.History.{Instance, Act, a_start, a_take, Counted}
 use Rattle.agreement_histories.specs.Scripts.{Action}
 use Rattle.agreement_histories.proofs.Worlds.{Handing, World, board_of, beginning, acted, world_after, same, sent_by, sound, fits, all_fit}
-use Rattle.agreement_histories.proofs.Passing.{listed, member_at, answer_in}
+use Rattle.agreement_histories.proofs.Passing.{listed, answer_in}
 
 -- ---- the tests of a board's calls that count
 
@@ -31,57 +30,48 @@ starts_in (c ∷ cs) = start_of c.act (starts_in cs)
 abbrev pub has_start : List Counted → Bool
 has_start cs = ltb 0 (length (starts_in cs))
 
--- it took p from board j
-abbrev pub is_taken : ℕ → Packet → Act → Bool
-is_taken j p (a_start x input) = false
-is_taken j p (a_take s (Exactly.One y)) = eqb j s && same p y
-is_taken j p (a_take s (Exactly.Broken fault at)) = false
+-- it took m from board j
+abbrev pub is_taken : ℕ → Message → Act → Bool
+is_taken j m (a_start x input) = false
+is_taken j m (a_take s (Exactly.One y)) = eqb j s && same m y
+is_taken j m (a_take s (Exactly.Broken fault at)) = false
 
-unfoldable pub has_taken : ℕ → Packet → List Counted → Bool
-has_taken j p [] = false
-has_taken j p (c ∷ cs) = is_taken j p c.act || has_taken j p cs
+unfoldable pub has_taken : ℕ → Message → List Counted → Bool
+has_taken j m [] = false
+has_taken j m (c ∷ cs) = is_taken j m c.act || has_taken j m cs
 
 -- all that its calls made
-unfoldable pub all_made : List Counted → List Packet
+unfoldable pub all_made : List Counted → List Message
 all_made [] = []
 all_made (c ∷ cs) = c.made ++ all_made cs
 
 -- ---- complete delivery
 
 -- board i handed every one of the messages over
-unfoldable pub all_sent : ℕ → List Packet → List Handing → Bool
+unfoldable pub all_sent : ℕ → List Message → List Handing → Bool
 all_sent i [] l = true
-all_sent i (p ∷ ps) l = sent_by i p l && all_sent i ps l
+all_sent i (m ∷ ms) l = sent_by i m l && all_sent i ms l
 
--- what was read of bytes of board s needs no record any more at a board with the record m
-abbrev pub idle_as : Member → ℕ → Exactly → Bool
-idle_as m s (Exactly.One p) = idle m s p
-idle_as m s (Exactly.Broken fault at) = true
+-- its bytes are read as it
+abbrev pub readable : Message → Bool
+readable m = in_table m && leb m.number max_number
 
--- if a sound board handed the bytes over
-abbrev pub was_taken : Instance → Set → Member → Handing → Bool
-was_taken v bad m x = not (sound v bad x.by) || idle_as m x.by (exact_packet (packet_bytes x.packet))
+-- what sound boards handed over was taken
+abbrev pub was_taken : Instance → Set → List Counted → Handing → Bool
+was_taken v bad cs x = not (sound v bad x.by) || (readable x.message && has_taken x.by x.message cs)
 
-unfoldable pub all_taken : Instance → Set → Member → List Handing → Bool
-all_taken v bad m [] = true
-all_taken v bad m (x ∷ l) = was_taken v bad m x && all_taken v bad m l
+unfoldable pub all_taken : Instance → Set → List Counted → List Handing → Bool
+all_taken v bad cs [] = true
+all_taken v bad cs (x ∷ l) = was_taken v bad cs x && all_taken v bad cs l
 
--- every sound board passes a test
-abbrev pub every_sound : Instance → Set → Set → Bool
-every_sound v bad S = leb v.n (count v.n (λ i. not (sound v bad i) || S i))
+abbrev pub full_board : Instance → Set → List Handing → ℕ → List Counted → Bool
+full_board v bad l i cs = has_start cs && (all_sent i (all_made cs) l && all_taken v bad cs l)
 
--- it has started; it has handed over all that its calls made; what sound boards handed over needs no record at it any more
-abbrev pub begun : Instance → Set → World → Bool
-begun v bad w = every_sound v bad (λ i. has_start (board_of w i).counted)
-
-abbrev pub handed_over : Instance → Set → World → Bool
-handed_over v bad w = every_sound v bad (λ i. all_sent i (all_made (board_of w i).counted) w.since)
-
-abbrev pub taken_over : Instance → Set → World → Bool
-taken_over v bad w = every_sound v bad (λ i. all_taken v bad (member_at v w i) w.since)
+abbrev pub full_at : Instance → Set → World → ℕ → Bool
+full_at v bad w i = not (sound v bad i) || full_board v bad w.since i (board_of w i).counted
 
 abbrev pub full : Instance → Set → World → Bool
-full v bad w = begun v bad w && (handed_over v bad w && taken_over v bad w)
+full v bad w = leb v.n (count v.n (full_at v bad w))
 
 -- ---- all tests in one run of the script
 

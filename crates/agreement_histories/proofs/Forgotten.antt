@@ -1,21 +1,19 @@
 -- Handed over, forgotten in a cut, and handed over again: the vote comes through, and the newest record's messages alone would not be all.
-use mathlib.Core.Path.{◌≡◌, refl, sym, ap, ◌∙◌, subst}
+use mathlib.Core.Path.{◌≡◌, refl, ap, ◌∙◌, subst}
 use mathlib.Core.List.Memᴰ
 use mathlib.Core.List.{List, [], ◌∷◌, ◌++◌, Memᴰ}
 use Prim.Native.Nat.{ℕ}
 use native.Mathlib.Omega.{arith}
 use lib.IntN.{pos}
-use lib.ListN.{get_or}
 use Rattle.message.specs.declared.Body.TheVariants.{FirstEcho, FirstProposal}
-use Rattle.packet.specs.declared.Packet.{Packet}
-use Rattle.packet.specs.declared.Exactly.{Exactly}
-use Rattle.packet.specs.Packet.{packet_bytes}
+use Rattle.message.specs.declared.Message.{Message}
+use Rattle.message.specs.Message.{kind_of}
 use Rattle.journal.specs.declared.Record.TheVariants.{Start, Taken}
 use Rattle.journal.specs.Reading.{records_in}
-use Rattle.member.specs.Member.{new_member}
-use Rattle.member_life.specs.Life.{lived}
+use Rattle.party.specs.Party.{new_party}
+use Rattle.party_life.specs.Life.{lived}
 use Rattle.board_calls.specs.declared.Answer.{Answer}
-use Rattle.agreement.specs.History.{plain, a_start, a_take, Counted, board_after}
+use Rattle.agreement.specs.History.{board_after}
 use Rattle.agreement.specs.Demand.{Made, Complete}
 use Rattle.agreement_histories.specs.Scripts.{cuts, says, history_of, Concludes}
 use Rattle.agreement_histories.specs.Forgotten.{vote, plan, bad, opening, back, rest, early, script, last_made}
@@ -52,29 +50,20 @@ pub records : records_in (board_after (history_of vote early) 0).journal ≡ Tak
 unfolding computing opening back
 records = refl
 
-pub last : last_made (new_member 2 0 0 1 plan) (Taken 1 (says (FirstEcho 2)) ∷ Start 1 2 ∷ []) ≡ says (FirstProposal 2) ∷ []
+pub last : last_made (new_party 2 0 0 1 plan) (Taken 1 (says (FirstEcho 2)) ∷ Start 1 2 ∷ []) ≡ says (FirstProposal 2) ∷ []
 unfolding computing lived
 last = refl
 
 -- so the echo is a message that was made, and is not among them
-calls_of_0 : (board_after (history_of vote early) 0).counted
-    ≡ record { act = a_take 1 (Exactly.One (says (FirstEcho 2))); made = says (FirstProposal 2) ∷ []; used = 9 }
-    ∷ record { act = a_start 2 (plain (pos 2)); made = says (FirstEcho 2) ∷ []; used = 3 }
-    ∷ []
-unfolding computing opening back
-calls_of_0 = refl
-
 pub made : Made (history_of vote early) 0 (says (FirstEcho 2))
-made =
-    subst (λ (l : List Counted). (c : Counted) × Memᴰ c l × Memᴰ (says (FirstEcho 2)) c.made) (sym calls_of_0)
-    (_, Memᴰ.tail (Memᴰ.head refl), Memᴰ.head refl)
+unfolding computing opening back
+made = (_, Memᴰ.tail (Memᴰ.head refl), Memᴰ.head refl)
 
-pub not_last : Memᴰ (says (FirstEcho 2)) (last_made (new_member 2 0 0 1 plan) (records_in (board_after (history_of vote early) 0).journal)) → ⊥
-unfolding computing
+pub not_last : Memᴰ (says (FirstEcho 2)) (last_made (new_party 2 0 0 1 plan) (records_in (board_after (history_of vote early) 0).journal)) → ⊥
 not_last k =
     let e : says (FirstEcho 2) ≡ says (FirstProposal 2) =
-    Memᴰ.eq_of_singleton (subst (λ (l : List Packet). Memᴰ (says (FirstEcho 2)) l) (ap (last_made (new_member 2 0 0 1 plan)) records ∙ last) k) in
-    let z : ◌≡◌ {A = ℕ} 1 2 = ap (λ (p : Packet). get_or (packet_bytes p) 2 0) e in
+    Memᴰ.eq_of_singleton (subst (λ (l : List Message). Memᴰ (says (FirstEcho 2)) l) (ap (last_made (new_party 2 0 0 1 plan)) records ∙ last) k) in
+    let z : ◌≡◌ {A = ℕ} 1 2 = ap (λ (m : Message). kind_of m.body) e in
     omega arith
 
 -- ---- before it hands anything over again, delivery is not complete

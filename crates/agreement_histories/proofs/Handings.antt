@@ -9,8 +9,8 @@ use native.Mathlib.Decide.{ℕ_discrete}
 use lib.Dec.{T, eqb, eqb→eq, eqb_refl}
 use Rattle.base.specs.Pick.{pick}
 use Rattle.base.proofs.Bools.{not-T→false, true→T, false→not-T}
-use Rattle.packet.specs.declared.Packet.{Packet}
-use Rattle.packet.specs.Packet.{packet_bytes}
+use Rattle.message.specs.declared.Message.{Message}
+use Rattle.message.specs.Message.{message_bytes}
 use Rattle.agreement.specs.History.{Instance, Step, calls, hands, cut, whose, History, Board}
 use Rattle.agreement.specs.Allowed.{Handed}
 use Rattle.agreement.specs.Demand.{is_restore_of, since_restore, HandedSince}
@@ -20,17 +20,17 @@ use Rattle.agreement_histories.proofs.Worlds.{Handing, sent_with, not_by, since_
 
 -- an entry of the list says that board i handed these bytes over
 abbrev pub Known : List Handing → ℕ → List ℕ → Type 0
-Known l i bytes = (x : Handing) × Memᴰ x l × (i ≡ x.by) × (bytes ≡ packet_bytes x.packet)
+Known l i bytes = (x : Handing) × Memᴰ x l × (i ≡ x.by) × (bytes ≡ message_bytes x.message)
 
 -- the step of an action is its actor's
 pub whose_action : (v : Instance) (b : Board) (a : Action) → whose (step_of v b a) ≡ actor a
 whose_action v b (sets_up j) = refl
 whose_action v b (starts j z) = refl
 whose_action v b (starts_count j g c) = refl
-whose_action v b (takes j s p) = refl
+whose_action v b (takes j s m) = refl
 whose_action v b (reads j) = refl
 whose_action v b (reads_count j g c) = refl
-whose_action v b (sends j p) = refl
+whose_action v b (sends j m) = refl
 whose_action v b (cuts j k) = refl
 whose_action v b (restores j) = refl
 whose_action v b (restores_torn j tail) = refl
@@ -56,24 +56,24 @@ no_handing : {i : ℕ} {m : List ℕ} {s : Step} → hands i m ≡ s → T (not 
 no_handing e h = subst (λ (x : Step). T (not (hands_over x))) (sym e) h
 
 module _ (v : Instance) (l : List Handing) (h : History) (b : Board) (i : ℕ) where
-  pub handed_more : (p : Packet) → (Memᴰ (record { by = i; packet = p }) l → Handed i (packet_bytes p) h)
-      → (a : Action) → Memᴰ (record { by = i; packet = p }) (sent_with l a) → Handed i (packet_bytes p) (step_of v b a ∷ h)
-  handed_more p f (sets_up j) x = Memᴰ.tail (f x)
-  handed_more p f (starts j z) x = Memᴰ.tail (f x)
-  handed_more p f (starts_count j g c) x = Memᴰ.tail (f x)
-  handed_more p f (takes j s y) x = Memᴰ.tail (f x)
-  handed_more p f (reads j) x = Memᴰ.tail (f x)
-  handed_more p f (reads_count j g c) x = Memᴰ.tail (f x)
-  handed_more p f (sends j y) x = go (Memᴰ.cases_cons x)
+  pub handed_more : (m : Message) → (Memᴰ (record { by = i; message = m }) l → Handed i (message_bytes m) h)
+      → (a : Action) → Memᴰ (record { by = i; message = m }) (sent_with l a) → Handed i (message_bytes m) (step_of v b a ∷ h)
+  handed_more m f (sets_up j) x = Memᴰ.tail (f x)
+  handed_more m f (starts j z) x = Memᴰ.tail (f x)
+  handed_more m f (starts_count j g c) x = Memᴰ.tail (f x)
+  handed_more m f (takes j s y) x = Memᴰ.tail (f x)
+  handed_more m f (reads j) x = Memᴰ.tail (f x)
+  handed_more m f (reads_count j g c) x = Memᴰ.tail (f x)
+  handed_more m f (sends j y) x = go (Memᴰ.cases_cons x)
     where
-      go : (◌≡◌ {A = Handing} (record { by = i; packet = p }) (record { by = j; packet = y })) ⊎ Memᴰ (record { by = i; packet = p }) l
-          → Handed i (packet_bytes p) (hands j (packet_bytes y) ∷ h)
-      go (inl e) = Memᴰ.head (ap (λ (k : Handing). hands k.by (packet_bytes k.packet)) e)
+      go : (◌≡◌ {A = Handing} (record { by = i; message = m }) (record { by = j; message = y })) ⊎ Memᴰ (record { by = i; message = m }) l
+          → Handed i (message_bytes m) (hands j (message_bytes y) ∷ h)
+      go (inl e) = Memᴰ.head (ap (λ (k : Handing). hands k.by (message_bytes k.message)) e)
       go (inr r) = Memᴰ.tail (f r)
-  handed_more p f (cuts j k) x = Memᴰ.tail (f x)
-  handed_more p f (restores j) x = Memᴰ.tail (f x)
-  handed_more p f (restores_torn j tail) x = Memᴰ.tail (f x)
-  handed_more p f (tries j k c) x = Memᴰ.tail (f x)
+  handed_more m f (cuts j k) x = Memᴰ.tail (f x)
+  handed_more m f (restores j) x = Memᴰ.tail (f x)
+  handed_more m f (restores_torn j tail) x = Memᴰ.tail (f x)
+  handed_more m f (tries j k c) x = Memᴰ.tail (f x)
 
   module _ (bytes : List ℕ) (f : Handed i bytes h → Known l i bytes) where
     known_still : (s : Step) → T (not (hands_over s)) → (hands i bytes ≡ s) ⊎ Handed i bytes h → Known l i bytes
@@ -90,9 +90,9 @@ module _ (v : Instance) (l : List Handing) (h : History) (b : Board) (i : ℕ) w
     known_more (sends j y) x = go (Memᴰ.cases_cons x)
       where
         new : Handing
-        new = record { by = j; packet = y }
+        new = record { by = j; message = y }
 
-        go : (hands i bytes ≡ hands j (packet_bytes y)) ⊎ Handed i bytes h → Known (new ∷ l) i bytes
+        go : (hands i bytes ≡ hands j (message_bytes y)) ⊎ Handed i bytes h → Known (new ∷ l) i bytes
         go (inl e) = (new, Memᴰ.head refl, ap hands_by e, ap hands_bytes e)
         go (inr r) = let k = f r in (k.0, Memᴰ.tail k.1, k.2, k.3)
     known_more (cuts j k) x = known_still (step_of v b (cuts j k)) tt (Memᴰ.cases_cons x)
@@ -152,17 +152,17 @@ module _ (v : Instance) (l : List Handing) (h : History) (b : Board) (a : Action
   none_restores e = not-T→false (is_restore_of i now) (λ k.
       false→not-T e (subst (λ (j : ℕ). T (is_restore_of j now)) (sym (restore_own i now k) ∙ whose_action v b a) k))
 
-  pub since_more : (p : Packet) → (Memᴰ (record { by = i; packet = p }) l → HandedSince i (packet_bytes p) h)
-      → Memᴰ (record { by = i; packet = p }) (since_with l a (step_of v b a)) → HandedSince i (packet_bytes p) (step_of v b a ∷ h)
+  pub since_more : (m : Message) → (Memᴰ (record { by = i; message = m }) l → HandedSince i (message_bytes m) h)
+      → Memᴰ (record { by = i; message = m }) (since_with l a (step_of v b a)) → HandedSince i (message_bytes m) (step_of v b a ∷ h)
   unfolding since_restore
-  since_more p f x = go (is_restore_of (actor a) now) refl x
+  since_more m f x = go (is_restore_of (actor a) now) refl x
     where
-      go : (y : Bool) → is_restore_of (actor a) now ≡ y → Memᴰ (record { by = i; packet = p }) (pick y (not_by (actor a) l) (sent_with l a))
-          → HandedSince i (packet_bytes p) (now ∷ h)
-      go true e k = let r = not_by→ (actor a) (record { by = i; packet = p }) l k in since_later i (packet_bytes p) now h (other_restores r.0) (f r.1)
+      go : (y : Bool) → is_restore_of (actor a) now ≡ y → Memᴰ (record { by = i; message = m }) (pick y (not_by (actor a) l) (sent_with l a))
+          → HandedSince i (message_bytes m) (now ∷ h)
+      go true e k = let r = not_by→ (actor a) (record { by = i; message = m }) l k in since_later i (message_bytes m) now h (other_restores r.0) (f r.1)
       go false e k =
-          subst (λ (z : Bool). Handed i (packet_bytes p) (pick z [] (now ∷ since_restore i h))) (sym (none_restores e))
-          (handed_more v l (since_restore i h) b i p f a k)
+          subst (λ (z : Bool). Handed i (message_bytes m) (pick z [] (now ∷ since_restore i h))) (sym (none_restores e))
+          (handed_more v l (since_restore i h) b i m f a k)
 
   pub known_since_more : (bytes : List ℕ) → (HandedSince i bytes h → Known l i bytes) → HandedSince i bytes (step_of v b a ∷ h)
       → Known (since_with l a (step_of v b a)) i bytes

@@ -14,7 +14,6 @@ use Rattle.agreement_histories.specs.Deep as deep
 use Rattle.agreement_histories.specs.Cuts as cuts
 use Rattle.agreement_histories.specs.Restores as restores
 use Rattle.agreement_histories.specs.Forgotten as forgotten
-use Rattle.agreement_histories.specs.Early as early
 use Rattle.agreement_histories.specs.Liar as liar
 use Rattle.agreement_histories.specs.Neighbours as neighbours
 use Rattle.agreement_histories.specs.Negative as negative
@@ -26,7 +25,6 @@ use Rattle.agreement_histories.proofs.Deep as deep-run
 use Rattle.agreement_histories.proofs.Cuts as cuts-run
 use Rattle.agreement_histories.proofs.Restores as restores-run
 use Rattle.agreement_histories.proofs.Forgotten as forgotten-run
-use Rattle.agreement_histories.proofs.Early as early-run
 use Rattle.agreement_histories.proofs.Liar as liar-run
 use Rattle.agreement_histories.proofs.Neighbours as neighbours-run
 use Rattle.agreement_histories.proofs.Negative as negative-run
@@ -55,9 +53,6 @@ restores_holds = holding (restores-run.conclusion).premises
 
 pub forgotten_holds : Holds forgotten.vote forgotten.plan forgotten.bad (history_of forgotten.vote forgotten.script)
 forgotten_holds = holding (forgotten-run.conclusion).premises
-
-pub early_holds : Holds early.vote early.plan early.bad (history_of early.vote early.script)
-early_holds = holding (early-run.conclusion).premises
 
 pub liar_holds : Holds liar.vote liar.plan liar.bad (history_of liar.vote liar.script)
 liar_holds = holding (liar-run.conclusion).premises

@@ -1,4 +1,4 @@
--- A faulty board among four: it is believed, and the sound boards answer and close.
+-- A faulty board among four: it is believed, and the sound boards answer.
 use mathlib.Core.Path.{◌≡◌, refl}
 use mathlib.Core.Bool.{true}
 use mathlib.Core.List.{[], ◌∷◌, ◌++◌}
@@ -9,17 +9,17 @@ use Rattle.message.specs.declared.Body.TheVariants.{FirstEcho, FirstProposal}
 use Rattle.message.specs.Message.{none_value}
 use Rattle.board_calls.specs.declared.Answer.{Answer}
 use Rattle.agreement.specs.History.{board_after}
-use Rattle.agreement.specs.Demand.{Took, answer_now, closing_now}
+use Rattle.agreement.specs.Demand.{Took, answer_now}
 use Rattle.agreement_histories.specs.Scripts.{says, history_of, Concludes}
-use Rattle.agreement_histories.specs.Liar.{vote, plan, bad, opening, lie, early, late, over, fast, script}
+use Rattle.agreement_histories.specs.Liar.{vote, plan, bad, opening, lie, early, late, fast, script}
 use Rattle.agreement_histories.proofs.Worlds.{board_of}
-use Rattle.agreement_histories.proofs.Passing.{passes, listed, answer_in, value_in, ending, answers, values}
+use Rattle.agreement_histories.proofs.Passing.{passes, listed, answer_in, ending, answers}
 use Rattle.agreement_histories.proofs.Delivery.{has_taken, Judges}
 use Rattle.agreement_histories.proofs.Delivered.{passed, concludes, took}
 use Rattle.agreement_histories.proofs.Computing.{computing}
 
 judged : Judges vote bad script (Answer.At (pos 2) ∷ Answer.At (pos 3) ∷ Answer.At (pos 2) ∷ [])
-unfolding computing opening lie early late over
+unfolding computing opening lie early late
 judged = refl
 
 pub conclusion : Concludes vote plan bad (history_of vote script) (Answer.At (pos 2) ∷ Answer.At (pos 3) ∷ Answer.At (pos 2) ∷ [])
@@ -55,32 +55,22 @@ fast_answers = answers vote bad fast fast_passing (Answer.At (pos 2) ∷ Answer.
 -- ---- its three stories
 
 story_0 : has_taken 3 (says (FirstEcho 2)) (board_of (ending vote script) 0).counted ≡ true
-unfolding computing opening lie early late over
+unfolding computing opening lie early late
 story_0 = refl
 
 pub told_0 : Took (history_of vote script) 0 3 (says (FirstEcho 2))
 told_0 = took vote bad script passing 0 3 (says (FirstEcho 2)) story_0
 
 story_1 : has_taken 3 (says (FirstEcho none_value)) (board_of (ending vote script) 1).counted ≡ true
-unfolding computing opening lie early late over
+unfolding computing opening lie early late
 story_1 = refl
 
 pub told_1 : Took (history_of vote script) 1 3 (says (FirstEcho none_value))
 told_1 = took vote bad script passing 1 3 (says (FirstEcho none_value)) story_1
 
 story_2 : has_taken 3 (says (FirstEcho 1)) (board_of (ending vote script) 2).counted ≡ true
-unfolding computing opening lie early late over
+unfolding computing opening lie early late
 story_2 = refl
 
 pub told_2 : Took (history_of vote script) 2 3 (says (FirstEcho 1))
 told_2 = took vote bad script passing 2 3 (says (FirstEcho 1)) story_2
-
--- ---- the closing values: that of board 1 is not its answer
-
-valued : listed 0 3 (value_in vote (ending vote script)) ≡ Answer.At (pos 2) ∷ Answer.At (pos 2) ∷ Answer.At (pos 2) ∷ []
-unfolding computing opening lie early late over
-valued = refl
-
-pub closing_values : (i : ℕ) → i < 3
-    → (closing_now vote (history_of vote script) i).value ≡ get_or (Answer.At (pos 2) ∷ Answer.At (pos 2) ∷ Answer.At (pos 2) ∷ []) i Answer.None
-closing_values = values vote bad script passing (Answer.At (pos 2) ∷ Answer.At (pos 2) ∷ Answer.At (pos 2) ∷ []) valued

@@ -11,7 +11,6 @@ pub mod Deep
 pub mod Cuts
 pub mod Restores
 pub mod Forgotten
-pub mod Early
 pub mod Liar
 pub mod Neighbours
 pub mod Negative

@@ -14,22 +14,21 @@ use Rattle.base.proofs.Bools.{T-left, T-right, or_split, true→T}
 use Rattle.base.specs.Found.{found}
 use Rattle.plan.specs.Plan.{Plan}
 use Rattle.plan.specs.Reading.{plan_of}
-use Rattle.packet.specs.Packet.{packet_bytes}
+use Rattle.message.specs.Message.{message_bytes}
 use Rattle.journal.specs.Records.{journal_bytes}
 use Rattle.journal.specs.Reading.{records_in}
-use Rattle.member.specs.Member.{Member}
 use Rattle.board_calls.specs.declared.Answer.{Answer}
-use Rattle.board_calls.specs.Calls.{answered_of, closing_read_of}
+use Rattle.board_calls.specs.Calls.{answered_of}
 use Rattle.agreement.specs.History.{Instance, History, Board, board_after}
 use Rattle.agreement.specs.Allowed.{Sound, Handed, Continues, Ours, TornAfter, May, Allowed}
-use Rattle.agreement.specs.Demand.{member_by, member_now, answer_now, closing_now, Shared, Premises}
+use Rattle.agreement.specs.Demand.{party_by, answer_now, Shared, Premises}
 use Rattle.agreement_histories.specs.Scripts.{Action, sets_up, starts, starts_count, takes, reads, reads_count, sends, cuts, restores, restores_torn, tries, actor, lent, step_of, followed, history_of, RefusedIn, Refusing}
 use Rattle.agreement_histories.proofs.Worlds.{World, board_of, beginning, acted, world_after, same, among, sent_by, sound, is_waiting, is_running, torn_behind, fits_board, fits, all_fit}
 use Rattle.agreement_histories.proofs.Tests.{among→, sent_by→, sound→, →sound, waiting→, running→, not_waiting→, torn_behind→, is_refused→}
 use Rattle.agreement_histories.proofs.Shows.{Shows, shows_beginning, shows_action}
 
 -- the lent journal begins with the used bytes
-continues : (b : Board) → T (is_running b.stage) → Continues b b.member (lent b.journal) (length b.journal)
+continues : (b : Board) → T (is_running b.stage) → Continues b b.party (lent b.journal) (length b.journal)
 continues b h = record { up = running→ b.stage h; same = refl; at = refl; kept = take-append_seam b.journal (replicate 32 0) }
 
 -- the settings of the vote
@@ -39,13 +38,13 @@ ours v i = record { boards = refl; faults = refl; seat = refl; number = refl; by
 module _ (v : Instance) (bad : Set) (w : World) (h : History) (s : Shows v w h) where
   may_board : (b : Board) (a : Action) → b ≡ board_after h (actor a) → Sound v bad (actor a) → T (fits_board v bad w.sent b a) → May v bad (step_of v b a) h
   may_board b (sets_up i) e o f = (o, inr (ap (λ (c : Board). c.stage) (sym e) ∙ waiting→ b.stage f, ours v i))
-  may_board b (starts i z) e o f = (o, inr (subst (λ (c : Board). Continues c b.member (lent b.journal) (length b.journal)) e (continues b f)))
-  may_board b (starts_count i g c) e o f = (o, inr (subst (λ (c : Board). Continues c b.member (lent b.journal) (length b.journal)) e (continues b f)))
-  may_board b (takes i j p) e o f = (
+  may_board b (starts i z) e o f = (o, inr (subst (λ (c : Board). Continues c b.party (lent b.journal) (length b.journal)) e (continues b f)))
+  may_board b (starts_count i g c) e o f = (o, inr (subst (λ (c : Board). Continues c b.party (lent b.journal) (length b.journal)) e (continues b f)))
+  may_board b (takes i j m) e o f = (
     o,
     inr (
-      subst (λ (c : Board). Continues c b.member (lent b.journal) (length b.journal)) e (continues b (T-left up heard f)),
-      λ k. go k (or_split (not (sound v bad j)) (sent_by j p w.sent) (T-right up heard f)),
+      subst (λ (c : Board). Continues c b.party (lent b.journal) (length b.journal)) e (continues b (T-left up heard f)),
+      λ k. go k (or_split (not (sound v bad j)) (sent_by j m w.sent) (T-right up heard f)),
     ),
   )
     where
@@ -53,17 +52,17 @@ module _ (v : Instance) (bad : Set) (w : World) (h : History) (s : Shows v w h) 
       up = is_running b.stage
 
       heard : Bool
-      heard = not (sound v bad j) || sent_by j p w.sent
+      heard = not (sound v bad j) || sent_by j m w.sent
 
-      go : Sound v bad j → T (not (sound v bad j)) ⊎ T (sent_by j p w.sent) → Handed j (packet_bytes p) h
+      go : Sound v bad j → T (not (sound v bad j)) ⊎ T (sent_by j m w.sent) → Handed j (message_bytes m) h
       go k (inl d) = absurd (T_not (sound v bad j) d (→sound v bad j k))
-      go k (inr t) = s.handed j p (sent_by→ j p w.sent t)
-  may_board b (reads i) e o f = (o, inr (ap (λ (c : Board). c.stage) (sym e) ∙ running→ b.stage f, ap (λ (c : Board). c.member) e))
-  may_board b (reads_count i g c) e o f = (o, inr (ap (λ (c : Board). c.stage) (sym e) ∙ running→ b.stage f, ap (λ (c : Board). c.member) e))
-  may_board b (sends i p) e o f = (
+      go k (inr t) = s.handed j m (sent_by→ j m w.sent t)
+  may_board b (reads i) e o f = (o, inr (ap (λ (c : Board). c.stage) (sym e) ∙ running→ b.stage f, ap (λ (c : Board). c.party) e))
+  may_board b (reads_count i g c) e o f = (o, inr (ap (λ (c : Board). c.stage) (sym e) ∙ running→ b.stage f, ap (λ (c : Board). c.party) e))
+  may_board b (sends i m) e o f = (
     o,
-    ap (λ (c : Board). c.stage) (sym e) ∙ running→ b.stage (T-left (is_running b.stage) (among p b.outbox) f),
-    (p, refl, subst (λ (c : Board). Memᴰ p c.outbox) e (among→ p b.outbox (T-right (is_running b.stage) (among p b.outbox) f))),
+    ap (λ (c : Board). c.stage) (sym e) ∙ running→ b.stage (T-left (is_running b.stage) (among m b.outbox) f),
+    (m, refl, subst (λ (c : Board). Memᴰ m c.outbox) e (among→ m b.outbox (T-right (is_running b.stage) (among m b.outbox) f))),
   )
   may_board b (cuts i k) e o f = (o, subst (λ (c : Board). c.guarded ≤ k) e (leb→le b.guarded k f))
   may_board b (restores i) e o f =
@@ -89,10 +88,10 @@ module _ (v : Instance) (bad : Set) (w : World) (h : History) (s : Shows v w h) 
   refused_in b (sets_up i) f = tt
   refused_in b (starts i z) f = tt
   refused_in b (starts_count i g c) f = tt
-  refused_in b (takes i j p) f = tt
+  refused_in b (takes i j m) f = tt
   refused_in b (reads i) f = tt
   refused_in b (reads_count i g c) f = tt
-  refused_in b (sends i p) f = tt
+  refused_in b (sends i m) f = tt
   refused_in b (cuts i k) f = tt
   refused_in b (restores i) f = tt
   refused_in b (restores_torn i tail) f = tt
@@ -177,16 +176,9 @@ listed_at at zero i f l = absurd (omega arith)
 listed_at at (suc k) zero f l = ap f (let e : at ≡ at + 0 = omega arith in e)
 listed_at at (suc k) (suc i) f l = listed_at (suc at) k i f (omega arith) ∙ ap f (let e : suc at + i ≡ at + suc i = omega arith in e)
 
--- the record that a reading of a board would be asked of
-abbrev pub member_at : Instance → World → ℕ → Member
-member_at v w i = member_by v i (board_of w i) (board_of w i).stage
-
--- the answer of a board, and its closing value
+-- the answer of a board
 abbrev pub answer_in : Instance → World → ℕ → Answer
-answer_in v w i = (answered_of (member_at v w i)).answer
-
-abbrev pub value_in : Instance → World → ℕ → Answer
-value_in v w i = (closing_read_of (member_at v w i)).value
+answer_in v w i = (answered_of (party_by v i (board_of w i) (board_of w i).stage)).answer
 
 module _ (v : Instance) (bad : Set) (script : List Action) (f : passes v bad script ≡ true) where
   pub shown : Shows v (ending v script) (history_of v script)
@@ -203,20 +195,11 @@ module _ (v : Instance) (bad : Set) (script : List Action) (f : passes v bad scr
   pub premises_of : (plan : Plan) → settled v bad ≡ true → plan_of v.plan ≡ found plan → Premises v plan bad (history_of v script)
   premises_of plan e g = let c = sharing v plan bad (true→T e) g in record { shared = c.0; few = c.1; allowed = allowed }
 
-  -- what is read of the boards 0, 1, .. at the end
-  readings : (read : Member → Answer) (l : List Answer) → listed 0 (length l) (λ i. read (member_at v (ending v script) i)) ≡ l
-      → (i : ℕ) → i < length l → read (member_now v (history_of v script) i) ≡ get_or l i Answer.None
-  readings read l e i k =
-      subst (λ (b : Board). read (member_by v i b b.stage) ≡ get_or l i Answer.None) (shown.board i)
-      (ap (λ (j : ℕ). read (member_at v (ending v script) j)) (let z : i ≡ 0 + i = omega arith in z)
-      ∙ sym (listed_at 0 (length l) i (λ j. read (member_at v (ending v script) j)) (subst (λ (x : List Answer). i < length x) (sym e) k))
-      ∙ ap (λ (x : List Answer). get_or x i Answer.None) e)
-
-  -- their answers, and their closing values
+  -- the answers are those of the boards 0, 1, .. at the end
   pub answers : (l : List Answer) → listed 0 (length l) (answer_in v (ending v script)) ≡ l
       → (i : ℕ) → i < length l → answer_now v (history_of v script) i ≡ get_or l i Answer.None
-  answers = readings (λ m. (answered_of m).answer)
-
-  pub values : (l : List Answer) → listed 0 (length l) (value_in v (ending v script)) ≡ l
-      → (i : ℕ) → i < length l → (closing_now v (history_of v script) i).value ≡ get_or l i Answer.None
-  values = readings (λ m. (closing_read_of m).value)
+  answers l e i k =
+      subst (λ (b : Board). (answered_of (party_by v i b b.stage)).answer ≡ get_or l i Answer.None) (shown.board i)
+      (ap (answer_in v (ending v script)) (let z : i ≡ 0 + i = omega arith in z)
+      ∙ sym (listed_at 0 (length l) i (answer_in v (ending v script)) (subst (λ (x : List Answer). i < length x) (sym e) k))
+      ∙ ap (λ (x : List Answer). get_or x i Answer.None) e)

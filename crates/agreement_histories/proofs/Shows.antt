@@ -10,8 +10,8 @@ use lib.ListN.{length, get_or, set, replicate, length-set, length-replicate, get
 use lib.Seq.{get_or-set_same, get_or-set_other}
 use Rattle.base.specs.Pick.{pick}
 use Rattle.base.proofs.Bools.{not-T→false, T→true}
-use Rattle.packet.specs.declared.Packet.{Packet}
-use Rattle.packet.specs.Packet.{packet_bytes}
+use Rattle.message.specs.declared.Message.{Message}
+use Rattle.message.specs.Message.{message_bytes}
 use Rattle.agreement.specs.History.{Instance, Step, whose, History, Board, unborn, after_own, board_after}
 use Rattle.agreement.specs.Allowed.{Handed}
 use Rattle.agreement.specs.Demand.{since_restore, HandedSince}
@@ -22,9 +22,9 @@ use Rattle.agreement_histories.proofs.Handings.{Known, whose_action, handed_more
 pub record Shows (v : Instance) (w : World) (h : History) : Type 0 where
   pub many : length w.boards ≡ v.n
   pub board : (i : ℕ) → board_of w i ≡ board_after h i
-  pub handed : (i : ℕ) (p : Packet) → Memᴰ (record { by = i; packet = p }) w.sent → Handed i (packet_bytes p) h
+  pub handed : (i : ℕ) (m : Message) → Memᴰ (record { by = i; message = m }) w.sent → Handed i (message_bytes m) h
   pub known : (i : ℕ) (bytes : List ℕ) → Handed i bytes h → Known w.sent i bytes
-  pub handed_since : (i : ℕ) (p : Packet) → Memᴰ (record { by = i; packet = p }) w.since → HandedSince i (packet_bytes p) h
+  pub handed_since : (i : ℕ) (m : Message) → Memᴰ (record { by = i; message = m }) w.since → HandedSince i (message_bytes m) h
   pub known_since : (i : ℕ) (bytes : List ℕ) → HandedSince i bytes h → Known w.since i bytes
 
 module _ (s : Step) (i : ℕ) (b : Board) where
@@ -41,9 +41,9 @@ unfolding board_after since_restore
 shows_beginning v = record {
   many = length-replicate v.n unborn;
   board = λ i. unborn_there v.n i;
-  handed = λ i p h. absurd (Memᴰ.not-nil h);
+  handed = λ i m h. absurd (Memᴰ.not-nil h);
   known = λ i bytes h. absurd (Memᴰ.not-nil h);
-  handed_since = λ i p h. absurd (Memᴰ.not-nil h);
+  handed_since = λ i m h. absurd (Memᴰ.not-nil h);
   known_since = λ i bytes h. absurd (Memᴰ.not-nil h);
 }
   where
@@ -59,9 +59,9 @@ unfolding board_after
 shows_action v w h a s l = record {
   many = length-set w.boards (actor a) new ∙ s.many;
   board = λ i. there i (ℕ_discrete i (actor a));
-  handed = λ i p. handed_more v w.sent h b i p (s.handed i p) a;
+  handed = λ i m. handed_more v w.sent h b i m (s.handed i m) a;
   known = λ i bytes. known_more v w.sent h b i bytes (s.known i bytes) a;
-  handed_since = λ i p k. since_more v w.since h b a i p (s.handed_since i p) (subst (Memᴰ (record { by = i; packet = p })) since_is k);
+  handed_since = λ i m k. since_more v w.since h b a i m (s.handed_since i m) (subst (Memᴰ (record { by = i; message = m })) since_is k);
   known_since = λ i bytes k. subst (λ (l : List Handing). Known l i bytes) (sym since_is) (known_since_more v w.since h b a i bytes (s.known_since i bytes) k);
 }
   where

@@ -14,28 +14,25 @@ use Rattle.message.specs.declared.Body.{Body}
 use Rattle.message.specs.declared.Message.{Message}
 use Rattle.message.specs.Message.{kind_of}
 use Rattle.message.specs.Format.{value_of, body_of}
-use Rattle.message.proofs.Values.{body_same}
-use Rattle.packet.specs.declared.Packet.{Packet}
+use Rattle.message.proofs.RoundTrip.{body_same}
 use Rattle.journal.specs.declared.RecordRead.{RecordRead}
 use Rattle.journal.specs.Reading.{record_at, records_in}
 use Rattle.journal.specs.Records.{journal_bytes}
 use Rattle.board_calls.specs.Calls.{set_up_of, answered_of}
-use Rattle.agreement.specs.History.{Instance, Call, set_up, start, take_message, read_answer, read_count, restore, start_finds, take_finds, restore_finds, read_as_count, Stage, waiting, running, down}
+use Rattle.agreement.specs.History.{Instance, Call, set_up, start, take_message_lem, read_answer, read_count, restore, start_finds, take_finds, restore_finds, read_as_count, Stage, waiting, running, down}
 use Rattle.agreement.specs.Allowed.{Sound, RefusedBy, TornAfter}
-use Rattle.agreement_histories.proofs.Worlds.{Handing, same_message, same, among, sent_by, sound, is_waiting, is_running, refusal, not_found, is_refused, same_bytes, is_torn, torn_behind}
+use Rattle.agreement_histories.specs.Scripts.{saying}
+use Rattle.agreement_histories.proofs.Worlds.{Handing, same, among, sent_by, sound, is_waiting, is_running, refusal, not_found, is_refused, same_bytes, is_torn, torn_behind}
 
-abbrev at_level : ℕ → ℕ → Body → Message
-at_level a l b = record { number = a; level = l; body = b }
-
-message_same : {a x l y : ℕ} {b c : Body} → a ≡ x → l ≡ y → b ≡ c → at_level a l b ≡ at_level x y c
-message_same {a} {x} {l} {y} {b} {c} e f g = ap (λ (i : ℕ). at_level i l b) e ∙ ap (λ (i : ℕ). at_level x i b) f ∙ ap (at_level x y) g
+message_same : {a x l y : ℕ} {b c : Body} → a ≡ x → l ≡ y → b ≡ c → saying a l b ≡ saying x y c
+message_same {a} {x} {l} {y} {b} {c} e f g = ap (λ (i : ℕ). saying i l b) e ∙ ap (λ (i : ℕ). saying x i b) f ∙ ap (saying x y) g
 
 -- a body is its kind and its value
 bodies_same : (b c : Body) → kind_of b ≡ kind_of c → value_of b ≡ value_of c → b ≡ c
 bodies_same b c e f = sym (body_same b) ∙ ap₂ body_of e f ∙ body_same c
 
-same_message→ : (m x : Message) → T (same_message m x) → m ≡ x
-same_message→ m x h = message_same (eqb→eq m.number x.number (T-left one two a)) (eqb→eq m.level x.level (T-right one two a))
+pub same→ : (m x : Message) → T (same m x) → m ≡ x
+same→ m x h = message_same (eqb→eq m.number x.number (T-left one two a)) (eqb→eq m.level x.level (T-right one two a))
     (bodies_same m.body x.body (eqb→eq (kind_of m.body) (kind_of x.body) (T-left three four b)) (eqb→eq (value_of m.body) (value_of x.body) (T-right three four b)))
   where
     one : Bool
@@ -56,34 +53,23 @@ same_message→ m x h = message_same (eqb→eq m.number x.number (T-left one two
     b : T (three && four)
     b = T-right (one && two) (three && four) h
 
-pub same→ : (p x : Packet) → T (same p x) → p ≡ x
-same→ (Packet.Level m) (Packet.Level x) h = ap Packet.Level (same_message→ m x h)
-same→ (Packet.Level m) (Packet.Echo b y) h = absurd h
-same→ (Packet.Level m) (Packet.Ready b) h = absurd h
-same→ (Packet.Echo a x) (Packet.Level m) h = absurd h
-same→ (Packet.Echo a x) (Packet.Echo b y) h = ap₂ Packet.Echo (eqb→eq a b (T-left (eqb a b) (eqb x y) h)) (eqb→eq x y (T-right (eqb a b) (eqb x y) h))
-same→ (Packet.Echo a x) (Packet.Ready b) h = absurd h
-same→ (Packet.Ready a) (Packet.Level m) h = absurd h
-same→ (Packet.Ready a) (Packet.Echo b y) h = absurd h
-same→ (Packet.Ready a) (Packet.Ready b) h = ap Packet.Ready (eqb→eq a b h)
-
-pub among→ : (p : Packet) (l : List Packet) → T (among p l) → Memᴰ p l
+pub among→ : (m : Message) (l : List Message) → T (among m l) → Memᴰ m l
 unfolding among
-among→ p [] h = absurd h
-among→ p (x ∷ l) h = go (among→ p l) (or_split (same p x) (among p l) h)
+among→ m [] h = absurd h
+among→ m (x ∷ l) h = go (among→ m l) (or_split (same m x) (among m l) h)
   where
-    go : (T (among p l) → Memᴰ p l) → T (same p x) ⊎ T (among p l) → Memᴰ p (x ∷ l)
-    go below (inl e) = Memᴰ.head (same→ p x e)
+    go : (T (among m l) → Memᴰ m l) → T (same m x) ⊎ T (among m l) → Memᴰ m (x ∷ l)
+    go below (inl e) = Memᴰ.head (same→ m x e)
     go below (inr r) = Memᴰ.tail (below r)
 
-pub sent_by→ : (i : ℕ) (p : Packet) (l : List Handing) → T (sent_by i p l) → Memᴰ (record { by = i; packet = p }) l
+pub sent_by→ : (i : ℕ) (m : Message) (l : List Handing) → T (sent_by i m l) → Memᴰ (record { by = i; message = m }) l
 unfolding sent_by
-sent_by→ i p [] h = absurd h
-sent_by→ i p (x ∷ l) h = go (sent_by→ i p l) (or_split (eqb i x.by && same p x.packet) (sent_by i p l) h)
+sent_by→ i m [] h = absurd h
+sent_by→ i m (x ∷ l) h = go (sent_by→ i m l) (or_split (eqb i x.by && same m x.message) (sent_by i m l) h)
   where
-    go : (T (sent_by i p l) → Memᴰ (record { by = i; packet = p }) l) → T (eqb i x.by && same p x.packet) ⊎ T (sent_by i p l)
-        → Memᴰ (record { by = i; packet = p }) (x ∷ l)
-    go below (inl e) = Memᴰ.head (ap₂ (λ (j : ℕ) (y : Packet). record { by = j; packet = y }) (eqb→eq i x.by (T-left (eqb i x.by) (same p x.packet) e)) (same→ p x.packet (T-right (eqb i x.by) (same p x.packet) e)))
+    go : (T (sent_by i m l) → Memᴰ (record { by = i; message = m }) l) → T (eqb i x.by && same m x.message) ⊎ T (sent_by i m l)
+        → Memᴰ (record { by = i; message = m }) (x ∷ l)
+    go below (inl e) = Memᴰ.head (ap₂ (λ (j : ℕ) (y : Message). record { by = j; message = y }) (eqb→eq i x.by (T-left (eqb i x.by) (same m x.message) e)) (same→ m x.message (T-right (eqb i x.by) (same m x.message) e)))
     go below (inr r) = Memᴰ.tail (below r)
 
 pub sound→ : (v : Instance) (bad : Set) (i : ℕ) → T (sound v bad i) → Sound v bad i
@@ -136,8 +122,8 @@ not_found→ k (refused number at) h = (at, ap (λ (y : ℕ). refused y at) (eqb
 
 pub is_refused→ : (k : ℕ) (c : Call) → T (is_refused k c) → RefusedBy k c
 is_refused→ k (set_up n t own agreement plan) h = refusal→ k (set_up_of n t own agreement plan).verdict h
-is_refused→ k (start m input lent used) h = not_found→ k (start_finds m input lent used) h
-is_refused→ k (take_message m sender bytes lent used) h = not_found→ k (take_finds m sender bytes lent used) h
-is_refused→ k (read_answer m) h = refusal→ k (answered_of m).verdict h
-is_refused→ k (read_count m g c) h = refusal→ k (read_as_count m g c).verdict h
+is_refused→ k (start p input lent used) h = not_found→ k (start_finds p input lent used) h
+is_refused→ k (take_message_lem p sender bytes lent used) h = not_found→ k (take_finds p sender bytes lent used) h
+is_refused→ k (read_answer p) h = refusal→ k (answered_of p).verdict h
+is_refused→ k (read_count p g c) h = refusal→ k (read_as_count p g c).verdict h
 is_refused→ k (restore n t own agreement plan lent) h = not_found→ k (restore_finds n t own agreement plan lent) h

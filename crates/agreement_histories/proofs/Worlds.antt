@@ -11,18 +11,17 @@ use Rattle.base.specs.Found.{Found, found, refused}
 use Rattle.message.specs.declared.Message.{Message}
 use Rattle.message.specs.Message.{kind_of}
 use Rattle.message.specs.Format.{value_of}
-use Rattle.packet.specs.declared.Packet.{Packet}
 use Rattle.journal.specs.declared.RecordRead.{RecordRead}
 use Rattle.journal.specs.Reading.{record_at, records_in}
 use Rattle.journal.specs.Records.{journal_bytes}
 use Rattle.board_calls.specs.Calls.{set_up_of, answered_of}
-use Rattle.agreement.specs.History.{Instance, Call, set_up, start, take_message, read_answer, read_count, restore, start_finds, take_finds, restore_finds, read_as_count, Step, Stage, waiting, running, down, Board, unborn, after_own}
+use Rattle.agreement.specs.History.{Instance, Call, set_up, start, take_message_lem, read_answer, read_count, restore, start_finds, take_finds, restore_finds, read_as_count, Step, Stage, waiting, running, down, Board, unborn, after_own}
 use Rattle.agreement.specs.Demand.{is_restore_of}
 use Rattle.agreement_histories.specs.Scripts.{Action, sets_up, starts, starts_count, takes, reads, reads_count, sends, cuts, restores, restores_torn, tries, actor, step_of}
 
 pub record Handing : Type 0 where
   pub by : ℕ
-  pub packet : Packet
+  pub message : Message
 
 -- the boards, and what was handed over: ever, and since the last accepted restore of the board that did it
 pub record World : Type 0 where
@@ -40,10 +39,10 @@ abbrev pub sent_with : List Handing → Action → List Handing
 sent_with l (sets_up i) = l
 sent_with l (starts i z) = l
 sent_with l (starts_count i g c) = l
-sent_with l (takes i s p) = l
+sent_with l (takes i s m) = l
 sent_with l (reads i) = l
 sent_with l (reads_count i g c) = l
-sent_with l (sends i p) = record { by = i; packet = p } ∷ l
+sent_with l (sends i m) = record { by = i; message = m } ∷ l
 sent_with l (cuts i k) = l
 sent_with l (restores i) = l
 sent_with l (restores_torn i tail) = l
@@ -71,28 +70,16 @@ world_after v w (a ∷ rest) = world_after v (acted v w a) rest
 
 -- ---- the tests
 
-abbrev pub same_message : Message → Message → Bool
-same_message m x =
-    (eqb m.number x.number && eqb m.level x.level) && (eqb (kind_of m.body) (kind_of x.body) && eqb (value_of m.body) (value_of x.body))
+abbrev pub same : Message → Message → Bool
+same m x = (eqb m.number x.number && eqb m.level x.level) && (eqb (kind_of m.body) (kind_of x.body) && eqb (value_of m.body) (value_of x.body))
 
-abbrev pub same : Packet → Packet → Bool
-same (Packet.Level m) (Packet.Level x) = same_message m x
-same (Packet.Level m) (Packet.Echo b y) = false
-same (Packet.Level m) (Packet.Ready b) = false
-same (Packet.Echo a x) (Packet.Level m) = false
-same (Packet.Echo a x) (Packet.Echo b y) = eqb a b && eqb x y
-same (Packet.Echo a x) (Packet.Ready b) = false
-same (Packet.Ready a) (Packet.Level m) = false
-same (Packet.Ready a) (Packet.Echo b y) = false
-same (Packet.Ready a) (Packet.Ready b) = eqb a b
+unfoldable pub among : Message → List Message → Bool
+among m [] = false
+among m (x ∷ l) = same m x || among m l
 
-unfoldable pub among : Packet → List Packet → Bool
-among p [] = false
-among p (x ∷ l) = same p x || among p l
-
-unfoldable pub sent_by : ℕ → Packet → List Handing → Bool
-sent_by i p [] = false
-sent_by i p (x ∷ l) = (eqb i x.by && same p x.packet) || sent_by i p l
+unfoldable pub sent_by : ℕ → Message → List Handing → Bool
+sent_by i m [] = false
+sent_by i m (x ∷ l) = (eqb i x.by && same m x.message) || sent_by i m l
 
 abbrev pub sound : Instance → Set → ℕ → Bool
 sound v bad i = ltb i v.n && not (bad i)
@@ -118,10 +105,10 @@ not_found k (refused number place) = eqb number k
 -- question k refuses the call
 abbrev pub is_refused : ℕ → Call → Bool
 is_refused k (set_up n t own agreement plan) = refusal k (set_up_of n t own agreement plan).verdict
-is_refused k (start m input lent used) = not_found k (start_finds m input lent used)
-is_refused k (take_message m sender bytes lent used) = not_found k (take_finds m sender bytes lent used)
-is_refused k (read_answer m) = refusal k (answered_of m).verdict
-is_refused k (read_count m g c) = refusal k (read_as_count m g c).verdict
+is_refused k (start p input lent used) = not_found k (start_finds p input lent used)
+is_refused k (take_message_lem p sender bytes lent used) = not_found k (take_finds p sender bytes lent used)
+is_refused k (read_answer p) = refusal k (answered_of p).verdict
+is_refused k (read_count p g c) = refusal k (read_as_count p g c).verdict
 is_refused k (restore n t own agreement plan lent) = not_found k (restore_finds n t own agreement plan lent)
 
 unfoldable pub same_bytes : List ℕ → List ℕ → Bool
@@ -143,10 +130,10 @@ abbrev pub fits_board : Instance → Set → List Handing → Board → Action �
 fits_board v bad l b (sets_up i) = is_waiting b.stage
 fits_board v bad l b (starts i z) = is_running b.stage
 fits_board v bad l b (starts_count i g c) = is_running b.stage
-fits_board v bad l b (takes i s p) = is_running b.stage && (not (sound v bad s) || sent_by s p l)
+fits_board v bad l b (takes i s m) = is_running b.stage && (not (sound v bad s) || sent_by s m l)
 fits_board v bad l b (reads i) = is_running b.stage
 fits_board v bad l b (reads_count i g c) = is_running b.stage
-fits_board v bad l b (sends i p) = is_running b.stage && among p b.outbox
+fits_board v bad l b (sends i m) = is_running b.stage && among m b.outbox
 fits_board v bad l b (cuts i k) = leb b.guarded k
 fits_board v bad l b (restores i) = not (is_waiting b.stage)
 fits_board v bad l b (restores_torn i tail) = not (is_waiting b.stage) && torn_behind (journal_bytes (records_in b.journal)) (b.journal ++ tail)

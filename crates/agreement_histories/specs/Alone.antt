@@ -1,5 +1,4 @@
--- One board votes alone on the readings 0 to 2, as in the bench program's example: it starts at 1, takes the four messages that it makes, and answers 1. It takes
--- the closing echo of its answer, and then its ready, and is closed.
+-- One board votes alone on the readings 0 to 2, as in the bench program's example: it starts at 1, takes the four messages that it makes, and answers 1.
 -- The agreement number is left open: 1 takes one byte, the largest number five.
 use Rattle.std.specs.Prelude.{List, [], ◌∷◌, false, ℕ, pos}
 use Rattle.base.specs.Limits.{offset_zero}
@@ -7,7 +6,6 @@ use Rattle.base.specs.Sets.{Set}
 use Rattle.plan.specs.Plan.{Plan}
 use Rattle.plan.specs.Positions.{range_plan}
 use Rattle.message.specs.declared.Body.TheVariants.{FirstEcho, FirstProposal, SecondEcho, SecondProposal}
-use Rattle.packet.specs.declared.Packet.TheVariants.{Echo, Ready}
 use Rattle.agreement.specs.History.{Instance}
 use Rattle.agreement_histories.specs.Scripts.{Action, sets_up, starts, takes, sends, saying}
 
@@ -32,8 +30,4 @@ script a =
     ∷ takes 0 0 (saying a 0 (SecondEcho 0))
     ∷ sends 0 (saying a 0 (SecondProposal 0))
     ∷ takes 0 0 (saying a 0 (SecondProposal 0))
-    ∷ sends 0 (Echo a 1)
-    ∷ takes 0 0 (Echo a 1)
-    ∷ sends 0 (Ready a)
-    ∷ takes 0 0 (Ready a)
     ∷ []

@@ -1,10 +1,9 @@
 -- Two boards vote on the readings 0 to 2, with three cuts. Board 0 starts at 0, and the cut tears the start's record: it starts again at 2.
--- Board 1 starts at 2, and a cut tears the record of the first message that it takes. Both answer 2 and close; board 0 reads its answer and is cut once more.
+-- Board 1 starts at 2, and a cut tears the record of the first message that it takes. Both answer 2; board 0 reads its answer and is cut once more.
 use Rattle.std.specs.Prelude.{List, [], ◌∷◌, ◌++◌, pos}
 use Rattle.message.specs.declared.Body.TheVariants.{FirstEcho, FirstProposal}
 use Rattle.agreement_histories.specs.Scripts.{Action, sets_up, starts, takes, reads, sends, cuts, restores, says}
 use Rattle.agreement_histories.specs.OneSide.{agreeing}
-use Rattle.agreement_histories.specs.Closings.{closing}
 pub use Rattle.agreement_histories.specs.TwoBoards.{vote, plan, bad}
 
 -- board 0 starts at 0, and hands nothing over
@@ -50,10 +49,9 @@ rest =
     ∷ takes 0 1 (says (FirstEcho 2))
     ∷ takes 1 1 (says (FirstEcho 2))
     ∷ agreeing 2
-    (closing 2
     (reads 0
-    ∷ cuts 0 73
-    ∷ []))
+    ∷ cuts 0 51
+    ∷ [])
 
 abbrev pub script : List Action
 script = (lost ++ back) ++ (again ++ torn) ++ rest

@@ -1,12 +1,11 @@
 -- One board votes alone on the readings 0 to 6 and starts at 0, which lies on side 1 of level 0 (centre 3). That side is 0 to 2, three positions, so level 1 sends
--- messages too (centre 1); its side 1 is the position 0, where the board answers and closes.
+-- messages too (centre 1); its side 1 is the position 0, where the board answers.
 use Rattle.std.specs.Prelude.{List, [], ◌∷◌, false, ℕ, pos}
 use Rattle.base.specs.Limits.{offset_zero}
 use Rattle.base.specs.Sets.{Set}
 use Rattle.plan.specs.Plan.{Plan}
 use Rattle.plan.specs.Positions.{range_plan}
 use Rattle.message.specs.declared.Body.TheVariants.{FirstEcho, FirstProposal, SecondEcho, SecondProposal}
-use Rattle.packet.specs.declared.Packet.TheVariants.{Echo, Ready}
 use Rattle.agreement.specs.History.{Instance}
 use Rattle.agreement_histories.specs.Scripts.{Action, sets_up, starts, takes, sends, saying}
 
@@ -33,13 +32,4 @@ level l rest =
     ∷ rest
 
 unfoldable pub script : List Action
-script =
-    sets_up 0
-    ∷ starts 0 (pos 0)
-    ∷ level 0
-    (level 1
-    (sends 0 (Echo 1 0)
-    ∷ takes 0 0 (Echo 1 0)
-    ∷ sends 0 (Ready 1)
-    ∷ takes 0 0 (Ready 1)
-    ∷ []))
+script = sets_up 0 ∷ starts 0 (pos 0) ∷ level 0 (level 1 [])

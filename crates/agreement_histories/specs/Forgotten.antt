@@ -1,14 +1,13 @@
 -- Two boards vote on the readings 0 to 2 and start at 2. Board 0 makes an echo and, at the next call, a proposal, and hands both over; nobody takes them, and a
--- power cut forgets them. No record is lost: board 0 is restored and hands both over again, all is delivered, and both answer 2 and close.
+-- power cut forgets them. No record is lost: board 0 is restored and hands both over again, all is delivered, and both answer 2.
 use Rattle.std.specs.Prelude.{List, [], ◌∷◌, ◌++◌, pos}
 use Rattle.message.specs.declared.Body.TheVariants.{FirstEcho, FirstProposal}
-use Rattle.packet.specs.declared.Packet.{Packet}
+use Rattle.message.specs.declared.Message.{Message}
 use Rattle.journal.specs.declared.Record.{Record}
-use Rattle.member.specs.Member.{Member}
-use Rattle.member_life.specs.Life.{replayed, lived}
+use Rattle.party.specs.Party.{Party}
+use Rattle.party_life.specs.Life.{replayed, lived}
 use Rattle.agreement_histories.specs.Scripts.{Action, sets_up, starts, takes, sends, cuts, restores, says}
 use Rattle.agreement_histories.specs.OneSide.{agreeing}
-use Rattle.agreement_histories.specs.Closings.{closing}
 pub use Rattle.agreement_histories.specs.TwoBoards.{vote, plan, bad}
 
 -- board 0 starts, and takes board 1's echo
@@ -40,7 +39,7 @@ rest =
     ∷ takes 1 0 (says (FirstEcho 2))
     ∷ sends 1 (says (FirstProposal 2))
     ∷ takes 1 1 (says (FirstEcho 2))
-    ∷ agreeing 2 (closing 2 [])
+    ∷ agreeing 2 []
 
 -- up to the restore
 abbrev pub early : List Action
@@ -49,7 +48,7 @@ early = opening ++ back
 abbrev pub script : List Action
 script = early ++ rest
 
--- the messages that the call of the newest record made, of the records of a life from m
-abbrev pub last_made : Member → List Record → List Packet
-last_made m [] = []
-last_made m (r ∷ rs) = (replayed (lived m rs).member r).made
+-- the messages that the call of the newest record made, of the records of a life from p
+abbrev pub last_made : Party → List Record → List Message
+last_made p [] = []
+last_made p (r ∷ rs) = (replayed (lived p rs).party r).made

@@ -4,7 +4,6 @@ use Rattle.std.specs.Prelude.{List, [], ◌∷◌, pos}
 use Rattle.message.specs.declared.Body.TheVariants.{FirstEcho, FirstProposal, SecondEcho, SecondProposal, Side, Centre}
 use Rattle.message.specs.Message.{none_value}
 use Rattle.agreement_histories.specs.Scripts.{Action, sets_up, starts, takes, sends, says}
-use Rattle.agreement_histories.specs.Closings.{closing_apart}
 pub use Rattle.agreement_histories.specs.TwoBoards.{vote, plan, bad}
 
 unfoldable pub script : List Action
@@ -55,4 +54,4 @@ script =
     ∷ takes 1 1 (says (SecondProposal none_value))
     ∷ takes 1 1 (says (Side 2))
     ∷ takes 0 0 (says (SecondEcho 2))
-    ∷ closing_apart 1 2 []
+    ∷ []

@@ -1,13 +1,11 @@
 -- Four boards vote on the readings 0 to 3, centre 1. Boards 0, 1 and 2 start at 2, 3 and 0. Board 3 is faulty: it tells board 0 a first echo of side 2, board 1 one
 -- of none, and board 2 one of side 1. With its help boards 0 and 1 answer 2 and 3 before they hear of board 2; board 2 comes to side 2 at grade 1, and answers 2.
--- All close with the closing value 2, board 1 too, whose answer is 3.
 use Rattle.std.specs.Prelude.{List, [], ◌∷◌, ◌++◌, pos}
 use Rattle.base.specs.Limits.{offset_zero}
 use Rattle.plan.specs.Plan.{Plan}
 use Rattle.plan.specs.Positions.{range_plan}
 use Rattle.message.specs.declared.Body.TheVariants.{FirstEcho, FirstProposal, SecondEcho, SecondProposal, Side}
 use Rattle.message.specs.Message.{none_value}
-use Rattle.packet.specs.declared.Packet.TheVariants.{Echo, Ready}
 use Rattle.agreement.specs.History.{Instance}
 use Rattle.agreement_histories.specs.Scripts.{Action, sets_up, starts, takes, sends, says}
 use Rattle.agreement_histories.specs.OneFaulty.{echoing, answering}
@@ -85,42 +83,9 @@ late =
     ∷ takes 1 2 (says (SecondProposal 2))
     ∷ []
 
--- the closing echoes: only board 1's is of 3, and it relays 2; every board has 2 as its closing value
-unfoldable pub over : List Action
-over =
-    sends 0 (Echo 1 2)
-    ∷ sends 1 (Echo 1 3)
-    ∷ sends 2 (Echo 1 2)
-    ∷ takes 0 0 (Echo 1 2)
-    ∷ takes 0 1 (Echo 1 3)
-    ∷ takes 0 2 (Echo 1 2)
-    ∷ takes 1 0 (Echo 1 2)
-    ∷ takes 1 1 (Echo 1 3)
-    ∷ takes 1 2 (Echo 1 2)
-    ∷ sends 1 (Echo 1 2)
-    ∷ takes 2 0 (Echo 1 2)
-    ∷ takes 2 1 (Echo 1 3)
-    ∷ takes 2 2 (Echo 1 2)
-    ∷ takes 0 1 (Echo 1 2)
-    ∷ sends 0 (Ready 1)
-    ∷ takes 1 1 (Echo 1 2)
-    ∷ sends 1 (Ready 1)
-    ∷ takes 2 1 (Echo 1 2)
-    ∷ sends 2 (Ready 1)
-    ∷ takes 0 0 (Ready 1)
-    ∷ takes 0 1 (Ready 1)
-    ∷ takes 0 2 (Ready 1)
-    ∷ takes 1 0 (Ready 1)
-    ∷ takes 1 1 (Ready 1)
-    ∷ takes 1 2 (Ready 1)
-    ∷ takes 2 0 (Ready 1)
-    ∷ takes 2 1 (Ready 1)
-    ∷ takes 2 2 (Ready 1)
-    ∷ []
-
 -- boards 0 and 1 have answers
 abbrev pub fast : List Action
 fast = (opening ++ lie) ++ early
 
 abbrev pub script : List Action
-script = (fast ++ late) ++ over
+script = fast ++ late

@@ -1,6 +1,5 @@
 pub mod Scripts
 pub mod OneSide
-pub mod Closings
 pub mod TwoBoards
 pub mod OneFaulty
 pub mod Alone
@@ -8,7 +7,6 @@ pub mod Deep
 pub mod Cuts
 pub mod Restores
 pub mod Forgotten
-pub mod Early
 pub mod Liar
 pub mod Neighbours
 pub mod Negative

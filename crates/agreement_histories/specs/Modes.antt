@@ -8,7 +8,6 @@ use Rattle.message.specs.declared.Body.TheVariants.{FirstEcho, FirstProposal, Se
 use Rattle.message.specs.Message.{none_value}
 use Rattle.agreement.specs.History.{Instance}
 use Rattle.agreement_histories.specs.Scripts.{Action, sets_up, starts, takes, sends, says}
-use Rattle.agreement_histories.specs.Closings.{closing_apart}
 
 abbrev pub vote : Instance
 vote = record { n = 2; t = 0; agreement = 1; plan = 1 ∷ 4 ∷ 0 ∷ 1 ∷ 0 ∷ 2 ∷ 0 ∷ 3 ∷ [] }
@@ -67,4 +66,4 @@ script =
     ∷ sends 0 (says (SecondEcho 3))
     ∷ takes 0 0 (says (SecondEcho 3))
     ∷ takes 1 0 (says (SecondEcho 3))
-    ∷ closing_apart 0 3 []
+    ∷ []

@@ -7,7 +7,6 @@ use Rattle.plan.specs.Positions.{range_plan}
 use Rattle.agreement.specs.History.{Instance}
 use Rattle.agreement_histories.specs.Scripts.{Action}
 use Rattle.agreement_histories.specs.OneSide.{on_side}
-use Rattle.agreement_histories.specs.Closings.{closing_apart}
 
 abbrev pub vote : Instance
 vote = record { n = 2; t = 0; agreement = 1; plan = 2 ∷ 5 ∷ 4 ∷ [] }
@@ -21,4 +20,4 @@ bad = λ _. false
 
 -- negsuc n is -(n + 1)
 unfoldable pub script : List Action
-script = on_side 1 (negsuc 2) (negsuc 1) (closing_apart 0 1 [])
+script = on_side 1 (negsuc 2) (negsuc 1)

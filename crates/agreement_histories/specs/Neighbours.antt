@@ -1,5 +1,5 @@
 -- Two boards vote on the readings 0 to 3, centre 1, and start at 3 and 2, both on side 2. They agree on the side, and each keeps its own place there:
--- all is delivered, and they answer 3 and 2. These are their closing values too, so closing values may differ by an edge.
+-- all is delivered, and they answer 3 and 2.
 use Rattle.std.specs.Prelude.{List, [], ◌∷◌, false, pos}
 use Rattle.base.specs.Limits.{offset_zero}
 use Rattle.base.specs.Sets.{Set}
@@ -8,7 +8,6 @@ use Rattle.plan.specs.Positions.{range_plan}
 use Rattle.agreement.specs.History.{Instance}
 use Rattle.agreement_histories.specs.Scripts.{Action}
 use Rattle.agreement_histories.specs.OneSide.{on_side}
-use Rattle.agreement_histories.specs.Closings.{closing_apart}
 
 abbrev pub vote : Instance
 vote = record { n = 2; t = 0; agreement = 1; plan = 2 ∷ 0 ∷ 3 ∷ [] }
@@ -20,4 +19,4 @@ abbrev pub bad : Set
 bad = λ _. false
 
 unfoldable pub script : List Action
-script = on_side 2 (pos 3) (pos 2) (closing_apart 3 2 [])
+script = on_side 2 (pos 3) (pos 2)

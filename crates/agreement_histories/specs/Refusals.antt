@@ -5,10 +5,10 @@ use Rattle.std.specs.Prelude.{List, [], ◌∷◌, ◌++◌, ℕ, ℤ, pos, leng
 use Rattle.base.specs.Limits.{offset_zero}
 use Rattle.plan.specs.Plan.{Plan}
 use Rattle.plan.specs.Positions.{range_plan}
+use Rattle.message.specs.declared.Message.{Message}
 use Rattle.message.specs.declared.Body.TheVariants.{FirstEcho}
-use Rattle.packet.specs.declared.Packet.{Packet}
-use Rattle.packet.specs.Packet.{packet_bytes}
-use Rattle.agreement.specs.History.{Instance, plain, Call, set_up, start, take_message, read_answer, restore, Board}
+use Rattle.message.specs.Message.{message_bytes}
+use Rattle.agreement.specs.History.{Instance, plain, Call, set_up, start, take_message_lem, read_answer, restore, Board}
 use Rattle.agreement_histories.specs.Scripts.{Action, sets_up, starts, takes, reads, sends, cuts, restores, tries, lent, lent_back, saying, says}
 use Rattle.agreement_histories.specs.OneFaulty.{echoing, answering}
 pub use Rattle.agreement_histories.specs.OneFaulty.{bad}
@@ -21,16 +21,16 @@ plan = range_plan offset_zero 2
 
 -- a start and a take with what the board has
 abbrev pub start_at : ℤ → Board → Call
-start_at z b = start b.member (plain z) (lent b.journal) (length b.journal)
+start_at z b = start b.party (plain z) (lent b.journal) (length b.journal)
 
-abbrev pub take_from : ℕ → Packet → Board → Call
-take_from s p b = take_message b.member s (packet_bytes p) (lent b.journal) (length b.journal)
+abbrev pub take_from : ℕ → Message → Board → Call
+take_from s m b = take_message_lem b.party s (message_bytes m) (lent b.journal) (length b.journal)
 
 -- refused: a set-up with too many faults, a reading before any set-up; after the set-up one with 17 boards, a start off the plan, and a second start
 unfoldable pub opening : List Action
 opening =
     tries 0 2 (λ _. set_up 4 2 0 1 (2 ∷ 0 ∷ 2 ∷ []))
-    ∷ tries 0 19 (λ b. read_answer b.member)
+    ∷ tries 0 19 (λ b. read_answer b.party)
     ∷ sets_up 0
     ∷ sets_up 1
     ∷ sets_up 2
@@ -71,7 +71,7 @@ unfoldable pub rubbish : List Action
 rubbish =
     tries 0 16 (take_from 1 (saying 2 0 (FirstEcho 2)))
     ∷ tries 0 14 (take_from 4 (says (FirstEcho 2)))
-    ∷ tries 0 15 (λ b. take_message b.member 1 (1 ∷ 0 ∷ 1 ∷ []) (lent b.journal) (length b.journal))
+    ∷ tries 0 15 (λ b. take_message_lem b.party 1 (1 ∷ 0 ∷ 1 ∷ []) (lent b.journal) (length b.journal))
     ∷ []
 
 -- boards 0, 1 and 3 make every quorum

@@ -1,12 +1,11 @@
 -- Two boards vote on the readings 0 to 2 and start at 2. Board 1 is restored five times: after a cut, and after a second one before it wrote anything;
 -- after a cut that tears a record, and after a second one before it wrote anything, where it is lent the torn record again; and once more when it has taken
 -- that message again. A copy of its echo from before the last cut arrives late; it hands over again what its calls made and goes on, all is delivered, and
--- both answer 2 and close.
+-- both answer 2.
 use Rattle.std.specs.Prelude.{List, [], ◌∷◌, ◌++◌, pos}
 use Rattle.message.specs.declared.Body.TheVariants.{FirstEcho, FirstProposal}
 use Rattle.agreement_histories.specs.Scripts.{Action, sets_up, starts, takes, sends, cuts, restores, restores_torn, says}
 use Rattle.agreement_histories.specs.OneSide.{agreeing}
-use Rattle.agreement_histories.specs.Closings.{closing}
 pub use Rattle.agreement_histories.specs.TwoBoards.{vote, plan, bad}
 
 -- both start; board 1, whose record has three bytes, is cut and restored, and again before it writes anything
@@ -54,7 +53,7 @@ rest =
     ∷ takes 0 0 (says (FirstEcho 2))
     ∷ sends 0 (says (FirstProposal 2))
     ∷ takes 1 1 (says (FirstEcho 2))
-    ∷ agreeing 2 (closing 2 [])
+    ∷ agreeing 2 []
 
 abbrev pub script : List Action
 script = (opening ++ torn) ++ (once ++ rest)

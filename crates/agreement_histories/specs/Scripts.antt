@@ -2,21 +2,21 @@
 -- left them; one kind of restore is lent a torn record behind them.
 use Rattle.std.specs.Prelude.{◌≡◌, List, [], ◌∷◌, ◌++◌, ℕ, ◌<◌, ℤ, length, get_or, replicate}
 use Rattle.base.specs.Sets.{Set}
-use Rattle.base.specs.Limits.{member_bytes}
+use Rattle.base.specs.Limits.{outgoing_size}
 use Rattle.plan.specs.Plan.{Plan}
 use Rattle.message.specs.declared.Body.{Body}
-use Rattle.packet.specs.declared.Packet.{Packet}
-use Rattle.packet.specs.Packet.{packet_bytes}
+use Rattle.message.specs.declared.Message.{Message}
+use Rattle.message.specs.Message.{message_bytes}
 use Rattle.board_calls.specs.declared.Answer.{Answer}
-use Rattle.agreement.specs.History.{Instance, Lent, plain, by_count, Call, set_up, start, take_message, read_answer, read_count, restore, Step, calls, hands, cut, History, Board, board_after}
-use Rattle.agreement.specs.Allowed.{Sound, RefusedBy}
-use Rattle.agreement.specs.Demand.{answer_now, Closed, Complete, Premises}
+use Rattle.agreement.specs.History.{Instance, Lent, plain, by_count, Call, set_up, start, take_message_lem, read_answer, read_count, restore, Step, calls, hands, cut, History, Board, board_after}
+use Rattle.agreement.specs.Allowed.{RefusedBy}
+use Rattle.agreement.specs.Demand.{answer_now, Complete, Premises}
 
 -- a message of the vote with this number at this level, and one of vote 1 at level 0
-abbrev pub saying : ℕ → ℕ → Body → Packet
-saying a l b = Packet.Level (record { number = a; level = l; body = b })
+abbrev pub saying : ℕ → ℕ → Body → Message
+saying a l b = record { number = a; level = l; body = b }
 
-abbrev pub says : Body → Packet
+abbrev pub says : Body → Message
 says b = saying 1 0 b
 
 -- what a sound board does, its number first
@@ -27,12 +27,12 @@ pub data Action : Type 0 where
   -- by a count, in steps of so many counts
   starts_count : ℕ → ℕ → ℤ → Action
   -- from a board, a message
-  takes : ℕ → ℕ → Packet → Action
+  takes : ℕ → ℕ → Message → Action
   reads : ℕ → Action
   -- as a count, by the size of a step and the start's count
   reads_count : ℕ → ℕ → ℤ → Action
   -- to all boards
-  sends : ℕ → Packet → Action
+  sends : ℕ → Message → Action
   -- a cut leaves so many bytes of the journal
   cuts : ℕ → ℕ → Action
   restores : ℕ → Action
@@ -45,10 +45,10 @@ abbrev pub actor : Action → ℕ
 actor (sets_up i) = i
 actor (starts i z) = i
 actor (starts_count i g c) = i
-actor (takes i s p) = i
+actor (takes i s m) = i
 actor (reads i) = i
 actor (reads_count i g c) = i
-actor (sends i p) = i
+actor (sends i m) = i
 actor (cuts i k) = i
 actor (restores i) = i
 actor (restores_torn i tail) = i
@@ -56,21 +56,21 @@ actor (tries i k c) = i
 
 -- lent to a start or take: a journal with the used bytes and room for one more record, and an outgoing buffer
 abbrev pub lent : List ℕ → Lent
-lent used = record { journal = used ++ replicate 32 0; out = member_bytes }
+lent used = record { journal = used ++ replicate 32 0; out = outgoing_size }
 
 -- lent to a restore: a journal with these bytes, and an outgoing buffer
 abbrev pub lent_back : List ℕ → Lent
-lent_back bytes = record { journal = bytes; out = member_bytes }
+lent_back bytes = record { journal = bytes; out = outgoing_size }
 
 -- the step of a board that is b before it
 abbrev pub step_of : Instance → Board → Action → Step
 step_of v b (sets_up i) = calls i (set_up v.n v.t i v.agreement v.plan)
-step_of v b (starts i z) = calls i (start b.member (plain z) (lent b.journal) (length b.journal))
-step_of v b (starts_count i g c) = calls i (start b.member (by_count g c) (lent b.journal) (length b.journal))
-step_of v b (takes i s p) = calls i (take_message b.member s (packet_bytes p) (lent b.journal) (length b.journal))
-step_of v b (reads i) = calls i (read_answer b.member)
-step_of v b (reads_count i g c) = calls i (read_count b.member g c)
-step_of v b (sends i p) = hands i (packet_bytes p)
+step_of v b (starts i z) = calls i (start b.party (plain z) (lent b.journal) (length b.journal))
+step_of v b (starts_count i g c) = calls i (start b.party (by_count g c) (lent b.journal) (length b.journal))
+step_of v b (takes i s m) = calls i (take_message_lem b.party s (message_bytes m) (lent b.journal) (length b.journal))
+step_of v b (reads i) = calls i (read_answer b.party)
+step_of v b (reads_count i g c) = calls i (read_count b.party g c)
+step_of v b (sends i m) = hands i (message_bytes m)
 step_of v b (cuts i k) = cut i k
 step_of v b (restores i) = calls i (restore v.n v.t i v.agreement v.plan (lent_back b.journal))
 step_of v b (restores_torn i tail) = calls i (restore v.n v.t i v.agreement v.plan (lent_back (b.journal ++ tail)))
@@ -86,10 +86,10 @@ abbrev pub RefusedIn : Board → Action → Type 0
 RefusedIn b (sets_up i) = Unit {0}
 RefusedIn b (starts i z) = Unit {0}
 RefusedIn b (starts_count i g c) = Unit {0}
-RefusedIn b (takes i s p) = Unit {0}
+RefusedIn b (takes i s m) = Unit {0}
 RefusedIn b (reads i) = Unit {0}
 RefusedIn b (reads_count i g c) = Unit {0}
-RefusedIn b (sends i p) = Unit {0}
+RefusedIn b (sends i m) = Unit {0}
 RefusedIn b (cuts i k) = Unit {0}
 RefusedIn b (restores i) = Unit {0}
 RefusedIn b (restores_torn i tail) = Unit {0}
@@ -104,9 +104,8 @@ Refusing v h (a ∷ rest) = RefusedIn (board_after h (actor a)) a × Refusing v 
 abbrev pub history_of : Instance → List Action → History
 history_of v script = followed v [] script
 
--- the premises hold, all is delivered, every sound board is closed, and the boards 0, 1, .. have these answers
+-- the premises hold, all is delivered, and the boards 0, 1, .. have these answers
 pub record Concludes (v : Instance) (plan : Plan) (bad : Set) (h : History) (answers : List Answer) : Type 0 where
   pub premises : Premises v plan bad h
   pub complete : Complete v bad h
-  pub closed : (i : ℕ) → Sound v bad i → Closed v h i
   pub answer : (i : ℕ) → i < length answers → answer_now v h i ≡ get_or answers i Answer.None

@@ -1,4 +1,4 @@
--- The levels of a board alone (n 1, t 0) that takes its own messages until none is left: of the messages that can still come or wait, each call leaves one less.
+-- A board alone (n 1, t 0) takes its own messages until none is left: of the messages that can still come or wait, each call leaves one less.
 use mathlib.Core.Path.{◌≡◌, refl, sym, subst}
 use mathlib.Core.Logic.{◌⊎◌, inl, inr}
 use mathlib.Core.Bool.{Bool, true, false}
@@ -15,9 +15,11 @@ use Rattle.plan.specs.Valid.{plan_valid}
 use Rattle.message.specs.declared.Message.{Message}
 use Rattle.message.specs.Message.{in_table}
 use Rattle.level.specs.Level.{Level}
+use Rattle.journal.specs.declared.Record.{Record}
+use Rattle.journal.specs.declared.Record.TheVariants.{Start, Taken}
 use Rattle.party.specs.Party.{Party, new_party, held_by}
 use Rattle.party_laws.proofs.Calls.{new_level}
-use Rattle.party_life.specs.Life.{Record, Start, Taken, replayed, lived, Fits, Life, made_along}
+use Rattle.party_life.specs.Life.{replayed, lived, Fits, Life, made_along}
 use Rattle.party_life.proofs.Fits.{fitting_start, fitting_taken}
 use Rattle.party_bounds.proofs.Laws.{sized_new, sized_lived, messages_left, replayed_within}
 use Rattle.vote_machine.specs.Machine.{Heard, Sent}

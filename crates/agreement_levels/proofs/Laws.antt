@@ -14,7 +14,6 @@ use Rattle.plan.specs.Plan.{Plan}
 use Rattle.plan.specs.Positions.{range_plan}
 use Rattle.plan.specs.Reading.{plan_from, plan_of}
 use Rattle.component.specs.Component.{size_of}
-use Rattle.packet.specs.declared.Packet.{Packet}
 use Rattle.party.specs.Party.{Party, component_of, sending}
 use Rattle.party.specs.Valid.{party_valid}
 use Rattle.party_laws.proofs.Laws.{Formed, sending_level}
@@ -38,7 +37,7 @@ sending_needs p v full i h =
 -- 0 to L. (It starts at the last position, and takes the messages that it makes.)
 pub range_uses : (a : ℕ) (bytes : List ℕ) (plan : Plan) → Shared (alone_instance a bytes) plan → plan.kind ≡ 2 → (L : ℕ) → 3 * 2 ^ L ≤ plan.count
     → (h : History) × Premises (alone_instance a bytes) plan nobody h
-    × ((i : ℕ) → i ≤ L → Made h 0 (Packet.Level (echo_of a plan (plan.count - 1) i)))
+    × ((i : ℕ) → i ≤ L → Made h 0 (echo_of a plan (plan.count - 1) i))
 range_uses a bytes plan f range L big =
     let r = reaches a bytes plan f (plan.count - 1) (omega (arith, smaller 0 (omega arith))) in
     (r.history, r.premises, λ i k. r.made i (range_deep plan range (plan_valid_lem (alone_instance a bytes) plan f 0 (omega arith)) i (smaller i k)))
@@ -53,6 +52,6 @@ reads_widest = refl
 -- "65,536 positions need all 15": on the widest range it makes one at each of the levels 0 to 14.
 pub all_fifteen : (a : ℕ) → a ≤ max_number
     → (h : History) × Premises (alone_instance a widest) (range_plan offset_zero max_width) nobody h
-    × ((i : ℕ) → i ≤ last_level → Made h 0 (Packet.Level (echo_of a (range_plan offset_zero max_width) max_width i)))
+    × ((i : ℕ) → i ≤ last_level → Made h 0 (echo_of a (range_plan offset_zero max_width) max_width i))
 all_fifteen a number =
     range_uses a widest (range_plan offset_zero max_width) (record { boards = omega arith; faults = omega arith; number = number; reads = reads_widest }) refl last_level (omega arith)

@@ -1,6 +1,5 @@
 pub mod Chains
 pub mod Alone
-pub mod Levels
 pub mod Histories
 pub mod Unanimous
 pub mod Reaches

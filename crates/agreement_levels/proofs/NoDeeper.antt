@@ -8,9 +8,8 @@ use Rattle.plan_levels.proofs.Theorem.{nested_levels}
 use Rattle.party.specs.Party.{Party, sending}
 use Rattle.party_laws.proofs.Laws.{Formed, sending_entered, sending_three, entered_nested}
 use Rattle.party_laws.proofs.Valid.{valid→}
-use Rattle.packet.specs.declared.Packet.{Packet}
 use Rattle.vote_machine.specs.Machine.{Sent}
-use Rattle.agreement.proofs.Boards.{state_of, state_inv, state_seated, makes_state}
+use Rattle.agreement.proofs.Boards.{state_of, state_formed, state_plan, makes_state}
 use Rattle.agreement.proofs.Words.{made_records}
 use Rattle.agreement_levels.specs.Statement.{NoDeeper}
 
@@ -21,7 +20,6 @@ sends_above p w L h =
 
 pub no_deeper : NoDeeper
 no_deeper v plan bad h f a i m g made =
-    let p : Party = (state_of v plan h i).party in
-    let s : Sent p m = (makes_state v plan bad f h a i g.0 (Packet.Level m)).0 ((made_records v plan bad f h a i (Packet.Level m)).0 made) in
-    subst (λ (q : Plan). m.level < levels_of q) (state_seated v plan bad f h a i g.0).on
-    (sends_above p (state_inv v plan bad f h a i g.0).party.regular.formed m.level s.sends)
+    let s : Sent (state_of v plan h i) m = (makes_state v plan bad f h a i g.0 m).0 ((made_records v plan bad f h a i m).0 made) in
+    subst (λ (q : Plan). m.level < levels_of q) (state_plan v plan bad f h a i g.0)
+    (sends_above (state_of v plan h i) (state_formed v plan bad f h a i g.0) m.level s.sends)

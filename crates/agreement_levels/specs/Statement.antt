@@ -3,7 +3,6 @@ use Rattle.std.specs.Prelude.{List, ℕ, ◌<◌}
 use Rattle.base.specs.Sets.{Set}
 use Rattle.message.specs.declared.Body.TheVariants.{FirstEcho}
 use Rattle.message.specs.declared.Message.{Message}
-use Rattle.packet.specs.declared.Packet.{Packet}
 use Rattle.plan.specs.Plan.{Plan}
 use Rattle.plan.specs.Positions.{reading_of}
 use Rattle.component.specs.Component.{port_of}
@@ -14,11 +13,11 @@ use Rattle.agreement.specs.Allowed.{Sound, Allowed}
 use Rattle.agreement.specs.Demand.{Started, Made, Shared, Premises}
 use Rattle.agreement_levels.specs.Alone.{alone_instance, nobody}
 
--- no sound board makes a message of kinds 1 to 6 at a level at or beyond it, whoever is faulty
+-- no sound board makes a message at a level at or beyond it, whoever is faulty
 abbrev pub NoDeeper : Type 0
 NoDeeper =
     (v : Instance) (plan : Plan) (bad : Set) (h : History) → Shared v plan → Allowed v bad h
-    → (i : ℕ) (m : Message) → Sound v bad i → Made h i (Packet.Level m) → m.level < levels_of plan
+    → (i : ℕ) (m : Message) → Sound v bad i → Made h i m → m.level < levels_of plan
 
 -- the first echo at level L of a board that goes down the chain of sides of x
 abbrev pub echo_of : ℕ → Plan → ℕ → ℕ → Message
@@ -29,7 +28,7 @@ pub record AloneMakes (a : ℕ) (bytes : List ℕ) (plan : Plan) (x : ℕ) : Typ
   pub history : History
   pub premises : Premises (alone_instance a bytes) plan nobody history
   pub started : Started history 0 x (reading_of plan x)
-  pub made : (L : ℕ) → Deep plan x L → Made history 0 (Packet.Level (echo_of a plan x L))
+  pub made : (L : ℕ) → Deep plan x L → Made history 0 (echo_of a plan x L)
 
 -- there is one, whatever the plan
 abbrev pub Reaches : Type 0

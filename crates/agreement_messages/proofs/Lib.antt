@@ -1,9 +1,7 @@
 pub mod Bodies
-pub mod Echoed
 pub mod Echoes
 pub mod Messages
 pub mod Once
-pub mod Parts
 pub mod Restored
 pub mod Theorem
 pub mod Tied

@@ -4,8 +4,8 @@ use mathlib.Core.Logic.{inl, inr}
 use Prim.Native.Nat.{ℕ}
 use native.Mathlib.Omega.{arith}
 use Rattle.base.specs.Found.{found, refused}
-use Rattle.member.specs.Member.{Member}
-use Rattle.member_life.specs.Life.{made_along}
+use Rattle.party.specs.Party.{Party}
+use Rattle.party_life.specs.Life.{made_along}
 use Rattle.board_calls.specs.Restore.{Replay}
 use Rattle.agreement.specs.History.{restore_finds, board_after}
 use Rattle.agreement.specs.Inner.{records_of}
@@ -22,7 +22,7 @@ given_again v plan bad h i n t own agreement bytes lent r f ((o, inl (k, (at, e)
     let y : refused k at ≡ found r = sym e ∙ g in
     let z : ◌≡◌ {A = ℕ} 0 1 = cc in absurd (omega arith)
 given_again v plan bad h i n t own agreement bytes lent r f ((o, inr (up, s, given)), a) g =
-    let p : Member = new_board v plan i in
+    let p : Party = new_board v plan i in
     let w : TiedAfter v plan bad f h i = tied v plan bad f h a i o.0 in
     let x : r ≡ lived_replay p w.records =
     restored_found v.n v.t i v.agreement v.plan plan f.boards f.faults o.0 f.reads w.records w.life lent.journal

@@ -28,7 +28,7 @@ use Rattle.agreement_pair.specs.History.{Coordinate, first, second, history_in, 
 use Rattle.agreement_pair.specs.Demand.{SoundInBoth}
 use Rattle.agreement_pair.specs.Example.{both}
 use Rattle.agreement_pair.specs.Example as example
-use Rattle.agreement_pair.specs.Claims.{without_pair_readings, guarding_one, OwnRecords, OneJournal, vote, plan, bad, begins, begun, record_of, power_goes, starts_anew, lost, SameReading, OneComplete, closes, half}
+use Rattle.agreement_pair.specs.Claims.{without_pair_readings, guarding_one, OwnRecords, OneJournal, vote, plan, bad, begins, begun, record_of, power_goes, starts_anew, lost, SameReading, OneComplete, half}
 use Rattle.agreement_pair.proofs.Theorem.{now_each}
 use Rattle.agreement_pair.proofs.Example.{off_the_line}
 
@@ -75,7 +75,7 @@ own_records : OwnRecords lost
 unfolding computing history_in without_pair_readings
 own_records = (each, tt)
   where
-    each : (c : Coordinate) → ((board_after (guarding_one c (in_both begun)) 0).stage ≡ running) × (record_of c ≡ (board_after (guarding_one c (in_both begun)) 0).member)
+    each : (c : Coordinate) → ((board_after (guarding_one c (in_both begun)) 0).stage ≡ running) × (record_of c ≡ (board_after (guarding_one c (in_both begun)) 0).party)
     each first = (refl, refl)
     each second = (refl, refl)
 
@@ -113,20 +113,20 @@ same_reading claim =
 
 -- ---- one vote complete
 
-abbrev halves : Coordinate → List Action
-halves first = closes 1
-halves second = []
+abbrev started : Coordinate → List Action
+started first = begins
+started second = []
 
-halves_pass : (c : Coordinate) → passes (vote c) (bad c) (halves c) ≡ true
+started_passes : (c : Coordinate) → passes (vote c) (bad c) (started c) ≡ true
 unfolding computing
-halves_pass first = refl
-halves_pass second = refl
+started_passes first = refl
+started_passes second = refl
 
-all_taken_lem : full (vote first) (bad first) (ending (vote first) (closes 1)) ≡ true
+all_taken_lem : full (vote first) (bad first) (ending (vote first) begins) ≡ true
 unfolding computing
 all_taken_lem = refl
 
-half_in : (c : Coordinate) → history_in c half ≡ history_of (vote c) (halves c)
+half_in : (c : Coordinate) → history_in c half ≡ history_of (vote c) (started c)
 unfolding computing history_in
 half_in first = refl
 half_in second = refl
@@ -135,8 +135,8 @@ pub one_complete : OneComplete → ⊥
 unfolding computing
 one_complete claim =
     let r = claim vote plan bad half
-    (record { votes = λ c. subst (Premises (vote c) (plan c) (bad c)) (sym (half_in c)) (premises halves halves_pass c); ranges = ranges; numbers = numbers })
-    (subst (Complete (vote first) (bad first)) (sym (half_in first)) (complete (vote first) (bad first) (closes 1) (halves_pass first) all_taken_lem)) (both 0) sound in
+    (record { votes = λ c. subst (Premises (vote c) (plan c) (bad c)) (sym (half_in c)) (premises started started_passes c); ranges = ranges; numbers = numbers })
+    (subst (Complete (vote first) (bad first)) (sym (half_in first)) (complete (vote first) (bad first) begins (started_passes first) all_taken_lem)) (both 0) sound in
     let y = r.0 in
     let n : Answer.None ≡ Answer.At (y second) =
     sym answered_none ∙ subst (λ (h : History). answer_now (vote second) h 0 ≡ Answer.At (y second)) (half_in second) (now_each vote half (both 0) y r.1 second) in

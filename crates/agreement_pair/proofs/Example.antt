@@ -9,7 +9,7 @@ use lib.Dec.{leb→le}
 use lib.IntN.{ℤ, pos, nat_abs}
 use Rattle.base.specs.Found.{found}
 use Rattle.plan.specs.Positions.{reading_of}
-use Rattle.member.specs.Member.{Member}
+use Rattle.party.specs.Party.{Party}
 use Rattle.board_calls.specs.declared.Answer.{Answer}
 use Rattle.board_pair.specs.declared.PairAnswer.{PairAnswer}
 use Rattle.board_pair.specs.Pair.{pair_questions}
@@ -46,8 +46,8 @@ judged second = refl
 
 conclusion : (c : Coordinate) → Concludes (vote c) (plan c) (bad c) (history_of (vote c) (whole c)) (answers c)
 unfolding computing
-conclusion first = concludes (vote first) (plan first) (bad first) (whole first) (answers first) (judged first) refl refl
-conclusion second = concludes (vote second) (plan second) (bad second) (whole second) (answers second) (judged second) refl refl
+conclusion first = concludes (vote first) (plan first) (bad first) (whole first) _ (judged first) refl refl
+conclusion second = concludes (vote second) (plan second) (bad second) (whole second) _ (judged second) refl refl
 
 -- ---- the pair readings
 
@@ -57,11 +57,11 @@ passing first = refl
 passing second = refl
 
 -- board i's record, as the run of the script shows it
-abbrev shown_record : ℕ → Coordinate → Member
-shown_record i c = (board_of (ending (vote c) (script c)) i).member
+abbrev shown_record : ℕ → Coordinate → Party
+shown_record i c = (board_of (ending (vote c) (script c)) i).party
 
 shows_record : (i : ℕ) (c : Coordinate) → shown_record i c ≡ record_of i c
-shows_record i c = ap (λ (b : Board). b.member) ((shown (vote c) (bad c) (script c) (passing c)).board i)
+shows_record i c = ap (λ (b : Board). b.party) ((shown (vote c) (bad c) (script c) (passing c)).board i)
 
 shown_reading : (i : ℕ) → i < 2 → pair_questions (shown_record i first) (shown_record i second) ≡ found (PairAnswer.At (answer i first) (answer i second))
 unfolding computing pair_questions grades.script
@@ -71,7 +71,7 @@ shown_reading (suc (suc i)) l = absurd (omega arith)
 
 reading : (i : ℕ) → i < 2 → pair_questions (record_of i first) (record_of i second) ≡ found (PairAnswer.At (answer i first) (answer i second))
 reading i l =
-    subst₂ (λ (p q : Member). pair_questions p q ≡ found (PairAnswer.At (answer i first) (answer i second))) (shows_record i first) (shows_record i second)
+    subst₂ (λ (p q : Party). pair_questions p q ≡ found (PairAnswer.At (answer i first) (answer i second))) (shows_record i first) (shows_record i second)
     (shown_reading i l)
 
 read : (i : ℕ) → i < 2 → Memᴰ (reads_pair (both i) (record_of i)) history

@@ -1,4 +1,4 @@
-pub mod Members
+pub mod Parties
 pub mod Steps
 pub mod Theorem
 pub mod Completion

@@ -7,7 +7,7 @@ use mathlib.Core.List.{[], ◌∷◌, ◌++◌, append-nil, append_assoc, Memᴰ
 use lib.IntN.{ℤ}
 use Rattle.base.specs.Pick.{pick}
 use Rattle.base.specs.Found.{found}
-use Rattle.member.specs.Member.{Member}
+use Rattle.party.specs.Party.{Party}
 use Rattle.board_pair.specs.declared.PairAnswer.{PairAnswer}
 use Rattle.board_pair.specs.Pair.{pair_questions}
 use Rattle.agreement.specs.History.{read_answer, Step, calls, History}
@@ -15,7 +15,7 @@ use Rattle.agreement_pair.specs.History.{Coordinate, first, second, same, Seats,
 
 -- ---- a pair reading
 
-module _ (c : Coordinate) (own : Seats) (p : Coordinate → Member) (y z : ℤ) (e : pair_questions (p first) (p second) ≡ found (PairAnswer.At y z)) where
+module _ (c : Coordinate) (own : Seats) (p : Coordinate → Party) (y z : ℤ) (e : pair_questions (p first) (p second) ≡ found (PairAnswer.At y z)) where
   -- in each vote, what one that gives an answer is
   abbrev reading : Step
   reading = calls (own c) (read_answer (p c))

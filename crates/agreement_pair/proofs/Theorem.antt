@@ -15,34 +15,35 @@ use Rattle.base.specs.Sets.{Set}
 use Rattle.base.specs.Found.{Found, found, refused}
 use Rattle.base.proofs.Bools.{T→true}
 use Rattle.plan.specs.Plan.{Plan}
-use Rattle.member.specs.Member.{Member}
+use Rattle.party.specs.Party.{Party}
+use Rattle.party_laws.specs.Inner.{SameBoard}
 use Rattle.board_calls.specs.declared.Answer.{Answer}
 use Rattle.board_calls.specs.Calls.{answered_of}
 use Rattle.board_pair.specs.declared.PairAnswer.{PairAnswer}
 use Rattle.board_pair.specs.Pair.{pair_questions, pair_gives}
 use Rattle.board_pair.proofs.Theorem.{exact}
-use Rattle.log_agreement.proofs.Joint.{Seated}
 use Rattle.agreement.specs.History.{Instance, read_answer, calls, History, Board, after_own, board_after}
-use Rattle.agreement.specs.Demand.{member_now, answer_now, Answers}
+use Rattle.agreement.specs.Demand.{party_now, answer_now, Answers}
 use Rattle.agreement.specs.Ranges.{HoldsOnRange}
+use Rattle.agreement.proofs.Tied.{new_board}
 use Rattle.agreement.proofs.Boards.{answer_now_lem}
 use Rattle.agreement.proofs.Answers.{answers_state}
 use Rattle.agreement.proofs.Theorem.{demand3}
 use Rattle.agreement.proofs.Ranges.{demand3_range}
 use Rattle.agreement_pair.specs.History.{Coordinate, first, second, Seats, PairHistory, read_steps, history_in}
 use Rattle.agreement_pair.specs.Demand.{SoundInBoth, pair_now, PairAnswers, PairHolds, PairPremises, PairDemand, PairExactly, PairStays, PairGuards}
-use Rattle.agreement_pair.proofs.Members.{answering_seated}
+use Rattle.agreement_pair.proofs.Parties.{answering_board}
 use Rattle.agreement_pair.proofs.Steps.{read_now, read_in}
 
 -- ---- a pair answer, in one vote
 
 -- a board's own reading that gives an answer guards its journal
-own_reading : (b : Board) (i : ℕ) (p : Member) (z : ℤ) → (answered_of p).answer ≡ Answer.At z
+own_reading : (b : Board) (i : ℕ) (p : Party) (z : ℤ) → (answered_of p).answer ≡ Answer.At z
     → (pick (eqb i i) (after_own b (calls i (read_answer p))) b).guarded ≡ length b.journal
 own_reading b i p z e = rw (T→true (eqb i i) (eqb_refl i), e)
 
--- each of the records answers its reading
-of_each : (p : Coordinate → Member) (y : Coordinate → ℤ) → pair_questions (p first) (p second) ≡ found (PairAnswer.At (y first) (y second))
+-- each of the parties answers its reading
+of_each : (p : Coordinate → Party) (y : Coordinate → ℤ) → pair_questions (p first) (p second) ≡ found (PairAnswer.At (y first) (y second))
     → (c : Coordinate) → (answered_of (p c)).answer ≡ Answer.At (y c)
 of_each p y e first = ((exact (p first) (p second) (y first) (y second)).0 e).first
 of_each p y e second = ((exact (p first) (p second) (y first) (y second)).0 e).second
@@ -54,7 +55,7 @@ gives_found (refused number place) y z e = let o : ◌≡◌ {A = ℕ} 0 1 = cc 
 
 pub now_each : (v : Coordinate → Instance) (h : PairHistory) (own : Seats) (y : Coordinate → ℤ) → pair_now v h own ≡ PairAnswer.At (y first) (y second)
     → (c : Coordinate) → answer_now (v c) (history_in c h) (own c) ≡ Answer.At (y c)
-now_each v h own y e = of_each (λ c. member_now (v c) (history_in c h) (own c)) y (gives_found _ (y first) (y second) e)
+now_each v h own y e = of_each (λ c. party_now (v c) (history_in c h) (own c)) y (gives_found _ (y first) (y second) e)
 
 -- held then or read earlier, it is so in the vote
 pub pair_answers : (v : Coordinate → Instance) (h : PairHistory) (own : Seats) (y : Coordinate → ℤ) → PairAnswers v h own y
@@ -72,18 +73,18 @@ module _ (v : Coordinate → Instance) (plan : Coordinate → Plan) (bad : Coord
       ((exact (p first) (p second) (y first) (y second)).1 (record {
         first = a first;
         second = a second;
-        numbers = λ e. given.numbers (sym (seated first).number ∙ e ∙ (seated second).number);
+        numbers = λ e. given.numbers (sym (board first).agreement ∙ e ∙ (board second).agreement);
         ranges = (kind first, kind second);
       }))
     where
-      p : Coordinate → Member
-      p c = member_now (v c) (history_in c h) (own c)
+      p : Coordinate → Party
+      p c = party_now (v c) (history_in c h) (own c)
 
-      seated : (c : Coordinate) → Seated (v c).n (v c).t (v c).agreement (plan c) (p c).party
-      seated c = answering_seated (v c) (plan c) (bad c) (history_in c h) (given.votes c) (own c) (g c) (y c) (a c)
+      board : (c : Coordinate) → SameBoard (new_board (v c) (plan c) (own c)) (p c)
+      board c = answering_board (v c) (plan c) (bad c) (history_in c h) (given.votes c) (own c) (g c) (y c) (a c)
 
-      kind : (c : Coordinate) → (p c).party.plan.kind ≡ 2
-      kind c = ap (λ (x : Plan). x.kind) (seated c).on ∙ given.ranges c
+      kind : (c : Coordinate) → (p c).plan.kind ≡ 2
+      kind c = ap (λ (x : Plan). x.kind) (board c).plan ∙ given.ranges c
 
   -- a reading of the pair is still the vote's answer, in each of them
   stays : (own : Seats) (y : Coordinate → ℤ) → SoundInBoth v bad own → PairAnswers v h own y → pair_now v h own ≡ PairAnswer.At (y first) (y second)
@@ -102,13 +103,11 @@ module _ (v : Coordinate → Instance) (plan : Coordinate → Plan) (bad : Coord
 
   holds : PairHolds v plan bad h
   holds = record {
-    near = λ own own' y z g g' a b c.
-        (on_range_lem c).near (own c) (own' c) (y c) (z c) (g c) (g' c) (inl (pair_answers v h own y a c)) (inl (pair_answers v h own' z b c));
-    validity = λ own y g a c. (on_range_lem c).validity (own c) (y c) (g c) (inl (pair_answers v h own y a c));
+    near = λ own own' y z g g' a b c. (on_range_lem c).near (own c) (own' c) (y c) (z c) (g c) (g' c) (pair_answers v h own y a c) (pair_answers v h own' z b c);
+    validity = λ own y g a c. (on_range_lem c).validity (own c) (y c) (g c) (pair_answers v h own y a c);
     ending = λ full own g.
-        let r : (c : Coordinate) → (z : ℤ) × (answer_now (v c) (history_in c h) (own c) ≡ Answer.At z) = λ c.
-        let d = demand3 (v c) (plan c) (bad c) (history_in c h) (given.votes c) in
-        d.answered (own c) (g c) (d.ending (full c) (own c) (g c)) in
+        let r : (c : Coordinate) → (z : ℤ) × (answer_now (v c) (history_in c h) (own c) ≡ Answer.At z) =
+        λ c. (demand3 (v c) (plan c) (bad c) (history_in c h) (given.votes c)).ending (full c) (own c) (g c) in
         (λ c. (r c).0, pair_now_lem own g (λ c. (r c).0) (λ c. (r c).1));
   }
 
@@ -124,7 +123,7 @@ pub pair_stays : PairStays
 pair_stays = stays
 
 -- A pair reading that gives an answer guards both journals.
-pub pair_guards : (own : Seats) (p : Coordinate → Member) (h : PairHistory) → PairGuards own p h
+pub pair_guards : (own : Seats) (p : Coordinate → Party) (h : PairHistory) → PairGuards own p h
 unfolding history_in board_after
 pair_guards own p h = record {
   guards = λ y e c.
@@ -137,7 +136,7 @@ pair_guards own p h = record {
     part y z first = y
     part y z second = z
 
-    no_steps : (f : Found PairAnswer) → ((y : Coordinate → ℤ) → f ≡ found (PairAnswer.At (y first) (y second)) → ⊥) → (i : ℕ) (r : Member) → read_steps i r f ≡ []
+    no_steps : (f : Found PairAnswer) → ((y : Coordinate → ℤ) → f ≡ found (PairAnswer.At (y first) (y second)) → ⊥) → (i : ℕ) (r : Party) → read_steps i r f ≡ []
     no_steps (found PairAnswer.None) d i r = refl
     no_steps (found (PairAnswer.At y z)) d i r = absurd (d (part y z) refl)
     no_steps (refused number place) d i r = refl

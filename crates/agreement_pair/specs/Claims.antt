@@ -6,14 +6,13 @@ use Rattle.base.specs.Sets.{Set}
 use Rattle.base.specs.Found.{found}
 use Rattle.plan.specs.Plan.{Plan}
 use Rattle.plan.specs.Positions.{range_plan}
-use Rattle.packet.specs.declared.Packet.TheVariants.{Echo, Ready}
-use Rattle.member.specs.Member.{Member, new_member}
+use Rattle.party.specs.Party.{Party, new_party}
 use Rattle.board_pair.specs.declared.PairAnswer.{PairAnswer}
 use Rattle.board_pair.specs.Pair.{pair_questions}
 use Rattle.agreement.specs.History.{Instance, plain, start, restore, calls, cut, History, running, board_after}
 use Rattle.agreement.specs.Demand.{Complete, Premises}
 use Rattle.agreement.specs.Ranges.{apart, Input}
-use Rattle.agreement_histories.specs.Scripts.{Action, sets_up, starts, takes, sends, lent, lent_back, history_of}
+use Rattle.agreement_histories.specs.Scripts.{Action, sets_up, starts, lent, lent_back, history_of}
 use Rattle.agreement_histories.specs.Grades as grades
 use Rattle.agreement_pair.specs.History.{Coordinate, first, second, Seats, PairHistory, in_vote, reads_pair, history_in, within, in_both}
 use Rattle.agreement_pair.specs.Demand.{SoundInBoth, pair_now, PairAnswers, PairPremises}
@@ -35,7 +34,7 @@ abbrev pub OwnRecords : PairHistory → Type 0
 OwnRecords [] = Unit {0}
 OwnRecords (in_vote c s ∷ h) = OwnRecords h
 OwnRecords (reads_pair own p ∷ h) =
-    ((c : Coordinate) → ((board_after (guarding_one c h) (own c)).stage ≡ running) × (p c ≡ (board_after (guarding_one c h) (own c)).member)) × OwnRecords h
+    ((c : Coordinate) → ((board_after (guarding_one c h) (own c)).stage ≡ running) × (p c ≡ (board_after (guarding_one c h) (own c)).party)) × OwnRecords h
 
 -- a pair answer that was read lies between sound readings
 abbrev pub OneJournal : Type 0
@@ -43,7 +42,7 @@ OneJournal =
     (v : Coordinate → Instance) (plan : Coordinate → Plan) (bad : Coordinate → Set) (h : PairHistory)
     → ((c : Coordinate) → Premises (v c) (plan c) (bad c) (guarding_one c h)) → OwnRecords h → ((c : Coordinate) → (plan c).kind ≡ 2)
     → ((v first).agreement ≡ (v second).agreement → ⊥) → (own : Seats) (y : Coordinate → ℤ) → SoundInBoth v bad own
-    → (p : Coordinate → Member) → Memᴰ (reads_pair own p) h → pair_questions (p first) (p second) ≡ found (PairAnswer.At (y first) (y second))
+    → (p : Coordinate → Party) → Memᴰ (reads_pair own p) h → pair_questions (p first) (p second) ≡ found (PairAnswer.At (y first) (y second))
     → (c : Coordinate)
     → (a : ℤ) × (b : ℤ) × Input (v c) (plan c) (bad c) (guarding_one c h) a × Input (v c) (plan c) (bad c) (guarding_one c h) b × (a ≤ℤ y c) × (y c ≤ℤ b)
 
@@ -68,8 +67,8 @@ begins = sets_up 0 ∷ starts 0 (pos 0) ∷ []
 abbrev pub begun : Coordinate → History
 begun c = history_of (vote c) begins
 
-abbrev pub record_of : Coordinate → Member
-record_of c = (board_after (begun c) 0).member
+abbrev pub record_of : Coordinate → Party
+record_of c = (board_after (begun c) 0).party
 
 abbrev pub power_goes : Coordinate → History
 power_goes first = cut 0 3 ∷ []
@@ -78,7 +77,7 @@ power_goes second = cut 0 0 ∷ []
 abbrev pub starts_anew : Coordinate → History
 starts_anew first = calls 0 (restore 1 0 0 1 (vote first).plan (lent_back (take 3 (board_after (begun first) 0).journal))) ∷ []
 starts_anew second =
-    calls 0 (start (new_member 1 0 0 2 (plan second)) (plain (pos 1)) (lent []) 0)
+    calls 0 (start (new_party 1 0 0 2 (plan second)) (plain (pos 1)) (lent []) 0)
     ∷ calls 0 (restore 1 0 0 2 (vote second).plan (lent_back []))
     ∷ []
 
@@ -101,13 +100,9 @@ OneComplete =
     → Complete (v first) (bad first) (history_in first h) → (own : Seats) → SoundInBoth v bad own
     → (y : Coordinate → ℤ) × (pair_now v h own ≡ PairAnswer.At (y first) (y second))
 
--- in the vote with the number a, the board alone starts at 0, takes the closing echo of its answer and then its ready, and is closed
-abbrev pub closes : ℕ → List Action
-closes a = begins ++ (sends 0 (Echo a 0) ∷ takes 0 0 (Echo a 0) ∷ sends 0 (Ready a) ∷ takes 0 0 (Ready a) ∷ [])
-
--- it closes in the first vote, and has not set up the second
+-- the board alone starts the first vote, and has not set up the second
 abbrev pub half : PairHistory
-half = within first (history_of (vote first) (closes 1))
+half = within first (begun first)
 
 -- ---- inputs_of_both: each reading lies between those of boards that are sound in both votes, of boards with the same number in both
 

@@ -1,16 +1,16 @@
 -- Document 02, Q-13: "Answers are at most 1 apart in each reading, and each reading lies between sound ones", of histories of both votes together.
-use Rattle.std.specs.Prelude.{◌≡◌, ◌⊎◌, ◌↔◌, ◌≤◌, ℤ, length, ◌≤ℤ◌}
+use Rattle.std.specs.Prelude.{◌≡◌, ◌⊎◌, ◌↔◌, ℕ, ◌≤◌, ℤ, length, ◌≤ℤ◌}
 use mathlib.Core.List.{◌∷◌, Memᴰ}
 use Rattle.base.specs.Sets.{Set}
 use Rattle.base.specs.Found.{found}
 use Rattle.plan.specs.Plan.{Plan}
-use Rattle.member.specs.Member.{Member}
+use Rattle.party.specs.Party.{Party}
 use Rattle.board_calls.specs.declared.Answer.{Answer}
 use Rattle.board_pair.specs.declared.PairAnswer.{PairAnswer}
 use Rattle.board_pair.specs.Pair.{pair_questions, pair_gives}
-use Rattle.agreement.specs.History.{Instance, board_after}
+use Rattle.agreement.specs.History.{Instance, History, board_after}
 use Rattle.agreement.specs.Allowed.{Sound}
-use Rattle.agreement.specs.Demand.{member_now, answer_now, Complete, Premises}
+use Rattle.agreement.specs.Demand.{party_now, answer_now, Complete, Premises}
 use Rattle.agreement.specs.Ranges.{apart, Input}
 use Rattle.agreement_pair.specs.History.{Coordinate, first, second, Seats, PairHistory, reads_pair, history_in}
 
@@ -22,13 +22,13 @@ SoundInBoth v bad own = (c : Coordinate) → Sound (v c) (bad c) (own c)
 
 abbrev pub pair_now : (Coordinate → Instance) → PairHistory → Seats → PairAnswer
 pair_now v h own =
-    (pair_gives (pair_questions (member_now (v first) (history_in first h) (own first)) (member_now (v second) (history_in second h) (own second)))).answer
+    (pair_gives (pair_questions (party_now (v first) (history_in first h) (own first)) (party_now (v second) (history_in second h) (own second)))).answer
 
 -- a board answers with the readings y: held then or read earlier
 abbrev pub PairAnswers : (Coordinate → Instance) → PairHistory → Seats → (Coordinate → ℤ) → Type 0
 PairAnswers v h own y =
     (pair_now v h own ≡ PairAnswer.At (y first) (y second))
-    ⊎ ((p : Coordinate → Member) × Memᴰ (reads_pair own p) h × (pair_questions (p first) (p second) ≡ found (PairAnswer.At (y first) (y second))))
+    ⊎ ((p : Coordinate → Party) × Memᴰ (reads_pair own p) h × (pair_questions (p first) (p second) ≡ found (PairAnswer.At (y first) (y second))))
 
 -- ---- the demand
 
@@ -40,7 +40,7 @@ pub record PairHolds (v : Coordinate → Instance) (plan : Coordinate → Plan) 
   -- "and each reading lies between sound ones": two readings with which boards sound in that vote started it, which may be the same one
   pub validity : (own : Seats) (y : Coordinate → ℤ) → SoundInBoth v bad own → PairAnswers v h own y → (c : Coordinate)
       → (p : ℤ) × (q : ℤ) × Input (v c) (plan c) (bad c) (history_in c h) p × Input (v c) (plan c) (bad c) (history_in c h) q × (p ≤ℤ y c) × (y c ≤ℤ q)
-  -- when both votes are complete, so that every sound board is closed in both, it has a pair answer
+  -- when both votes are complete every sound board has a pair answer
   pub ending : ((c : Coordinate) → Complete (v c) (bad c) (history_in c h)) → (own : Seats) → SoundInBoth v bad own
       → (y : Coordinate → ℤ) × (pair_now v h own ≡ PairAnswer.At (y first) (y second))
 
@@ -70,7 +70,7 @@ PairStays =
 
 -- What is guarded right after a pair reading: if it gave an answer, every byte that either journal then had; otherwise nothing new, since it is a step of neither
 -- vote. `PairStays` says that the pair stays.
-pub record PairGuards (own : Seats) (p : Coordinate → Member) (h : PairHistory) : Type 0 where
+pub record PairGuards (own : Seats) (p : Coordinate → Party) (h : PairHistory) : Type 0 where
   pub guards : (y : Coordinate → ℤ) → pair_questions (p first) (p second) ≡ found (PairAnswer.At (y first) (y second)) → (c : Coordinate)
       → (board_after (history_in c (reads_pair own p ∷ h)) (own c)).guarded ≡ length (board_after (history_in c h) (own c)).journal
   pub otherwise : ((y : Coordinate → ℤ) → pair_questions (p first) (p second) ≡ found (PairAnswer.At (y first) (y second)) → ⊥) → (c : Coordinate)

@@ -9,14 +9,13 @@ use Rattle.base.specs.Sets.{Set}
 use Rattle.base.specs.Found.{found}
 use Rattle.plan.specs.Plan.{Plan}
 use Rattle.plan.specs.Positions.{range_plan}
-use Rattle.member.specs.Member.{Member}
+use Rattle.party.specs.Party.{Party}
 use Rattle.board_pair.specs.declared.PairAnswer.{PairAnswer}
 use Rattle.board_pair.specs.Pair.{pair_questions}
 use Rattle.agreement.specs.History.{Instance, History, board_after}
 use Rattle.agreement.specs.Demand.{StartedWith, Complete}
 use Rattle.agreement.specs.Ranges.{Between}
 use Rattle.agreement_histories.specs.Scripts.{Action, sets_up, starts, history_of}
-use Rattle.agreement_histories.specs.Closings.{closing_apart_in}
 use Rattle.agreement_histories.specs.Grades as grades
 use Rattle.agreement_pair.specs.History.{Coordinate, first, second, Seats, PairHistory, reads_pair, history_in, in_both}
 use Rattle.agreement_pair.specs.Demand.{SoundInBoth, pair_now, PairPremises}
@@ -45,7 +44,7 @@ pub record OffTheLine (v : Coordinate → Instance) (plan : Coordinate → Plan)
   pub complete : (c : Coordinate) → Complete (v c) (bad c) (history_in c h)
   pub sound : SoundInBoth v bad (both i)
   pub held : pair_now v h (both i) ≡ PairAnswer.At (y first) (y second)
-  pub read : (p : Coordinate → Member) × Memᴰ (reads_pair (both i) p) h × (pair_questions (p first) (p second) ≡ found (PairAnswer.At (y first) (y second)))
+  pub read : (p : Coordinate → Party) × Memᴰ (reads_pair (both i) p) h × (pair_questions (p first) (p second) ≡ found (PairAnswer.At (y first) (y second)))
   pub off : (p q : Coordinate → ℤ) → InputPair v plan bad h p → InputPair v plan bad h q → OnLine p q y → ⊥
 
 -- ---- the votes
@@ -65,14 +64,14 @@ bad c = λ _. false
 
 abbrev pub script : Coordinate → List Action
 script first = grades.script
-script second = sets_up 0 ∷ sets_up 1 ∷ starts 0 (pos 0) ∷ starts 1 (pos 1) ∷ closing_apart_in 2 0 1 []
+script second = sets_up 0 ∷ sets_up 1 ∷ starts 0 (pos 0) ∷ starts 1 (pos 1) ∷ []
 
 abbrev pub before : Coordinate → History
 before c = history_of (vote c) (script c)
 
 -- board i's records
-abbrev pub record_of : ℕ → Coordinate → Member
-record_of i c = (board_after (before c) i).member
+abbrev pub record_of : ℕ → Coordinate → Party
+record_of i c = (board_after (before c) i).party
 
 -- at last both boards read the pair
 abbrev pub history : PairHistory

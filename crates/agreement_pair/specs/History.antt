@@ -2,7 +2,7 @@
 use Rattle.std.specs.Prelude.{Bool, true, false, List, [], ◌∷◌, ◌++◌, map, ℕ}
 use Rattle.base.specs.Pick.{pick}
 use Rattle.base.specs.Found.{Found, found, refused}
-use Rattle.member.specs.Member.{Member}
+use Rattle.party.specs.Party.{Party}
 use Rattle.board_pair.specs.declared.PairAnswer.{PairAnswer}
 use Rattle.board_pair.specs.Pair.{pair_questions}
 use Rattle.agreement.specs.History.{read_answer, Step, calls, History}
@@ -26,7 +26,7 @@ Seats = Coordinate → ℕ
 -- a step of one of the votes, "each started and restored by itself"; a board reads its two records as a pair
 pub data PairStep : Type 0 where
   in_vote : (c : Coordinate) (s : Step) → PairStep
-  reads_pair : (own : Seats) (p : Coordinate → Member) → PairStep
+  reads_pair : (own : Seats) (p : Coordinate → Party) → PairStep
 
 -- the latest step first
 abbrev pub PairHistory : Type 0
@@ -34,7 +34,7 @@ PairHistory = List PairStep
 
 -- What a pair reading is in a vote where the board has the number i and p is the record read: if it gives an answer, a reading of the answer, which guards the
 -- journal's records written before it, so it guards both journals. One that gives none, or is refused, guards nothing, which covers more cuts.
-abbrev pub read_steps : ℕ → Member → Found PairAnswer → History
+abbrev pub read_steps : ℕ → Party → Found PairAnswer → History
 read_steps i p (found PairAnswer.None) = []
 read_steps i p (found (PairAnswer.At y z)) = calls i (read_answer p) ∷ []
 read_steps i p (refused number place) = []

@@ -9,7 +9,7 @@ use Rattle.agreement.specs.Demand.{Complete, Premises}
 use Rattle.agreement_histories.specs.Scripts.{history_of}
 use Rattle.agreement_pair.specs.History.{Coordinate, first, second, Seats, PairHistory, history_in, in_both}
 use Rattle.agreement_pair.specs.Demand.{SoundInBoth, pair_now}
-use Rattle.agreement_pair.specs.Claims.{alone, closes}
+use Rattle.agreement_pair.specs.Claims.{alone, begins}
 
 -- `ending` of `PairHolds`
 abbrev pub Ends : (Coordinate → Instance) → (Coordinate → Set) → PairHistory → Type 0
@@ -17,9 +17,9 @@ Ends v bad h =
     ((c : Coordinate) → Complete (v c) (bad c) (history_in c h)) → (own : Seats) → SoundInBoth v bad own
     → (y : Coordinate → ℤ) × (pair_now v h own ≡ PairAnswer.At (y first) (y second))
 
--- a board alone starts both votes at 0 and is closed in both
-abbrev pub closed : (Coordinate → Instance) → PairHistory
-closed v = in_both (λ c. history_of (v c) (closes (v c).agreement))
+-- a board alone starts both votes at 0
+abbrev pub started : (Coordinate → Instance) → PairHistory
+started v = in_both (λ c. history_of (v c) begins)
 
 -- ---- without `numbers`: two votes under the number 1 are refused with 27
 

@@ -1,37 +1,32 @@
--- Answers and closing values that are not equal, an answer that is nobody's input, one that stands for one position, and one that is not the closing value.
+-- Answers that are not equal, that are nobody's input, and that stand for one position.
 use mathlib.Core.Path.{◌≡◌, refl, sym, ap, ◌∙◌}
-use mathlib.Core.Logic.{inl, inr}
+use mathlib.Core.Logic.{inl}
 use mathlib.Core.Bool.{true, not}
-use mathlib.Core.List.{[]}
 use Prim.Native.Nat.{ℕ, zero, suc, ◌<◌}
 use native.Mathlib.Omega.{arith}
 use lib.Dec.{T, eqb}
 use lib.IntN.{pos, nat_abs}
 use Rattle.base.proofs.Bools.{true→T}
 use Rattle.plan.specs.Positions.{reading_of}
-use Rattle.board_calls.specs.declared.Answer.{Answer}
-use Rattle.agreement.specs.Allowed.{Sound}
 use Rattle.agreement_histories.specs.Scripts.{history_of}
 use Rattle.agreement_histories.specs.Neighbours as neighbours
 use Rattle.agreement_histories.specs.Grades as grades
-use Rattle.agreement_histories.specs.Liar as liar
 use Rattle.agreement_histories.proofs.Neighbours as neighbours-run
 use Rattle.agreement_histories.proofs.Grades as grades-run
-use Rattle.agreement_histories.proofs.Liar as liar-run
 use Rattle.agreement_histories.proofs.Passing.{passes, ending, shown, premises_of}
 use Rattle.agreement_histories.proofs.Computing.{computing}
 use Rattle.agreement_premises.specs.Examples.{two, two_plan, alone, nobody}
-use Rattle.agreement_premises.specs.Claims.{NearIsEqual, AnswerIsAnInput, ReadingsOffByOne, AnswerIsClosingValue, begins}
+use Rattle.agreement_premises.specs.Claims.{NearIsEqual, AnswerIsAnInput, ReadingsOffByOne, begins}
 use Rattle.agreement_premises.proofs.Starts.{all_in, starts_at, started_in, apart→}
 use Rattle.agreement_premises.proofs.Failing.{sound_alone, script_answers}
 use Rattle.agreement_premises.proofs.Premises.{begins_passes, begins_answers}
 
--- board 0 of `Neighbours` answers 3, and board 1 has the closing value 2
+-- the boards of `Neighbours` answer 3 and 2
 pub near_is_equal : NearIsEqual → ⊥
 near_is_equal claim =
     let c = neighbours-run.conclusion in
     let r = claim neighbours.vote neighbours.plan neighbours.bad (history_of neighbours.vote neighbours.script) c.premises 0 1 (pos 3) (pos 2)
-    (omega arith, tt) (omega arith, tt) (inl (inl (c.answer 0 (omega arith)))) (inr ([], history_of neighbours.vote neighbours.script, refl, neighbours-run.closing_values 1 (omega arith))) in
+    (omega arith, tt) (omega arith, tt) (inl (c.answer 0 (omega arith))) (inl (c.answer 1 (omega arith))) in
     let e : ◌≡◌ {A = ℕ} 3 2 = ap nat_abs (sym r.2.1 ∙ ap (reading_of neighbours.plan) r.4 ∙ r.3.1) in
     omega arith
 
@@ -54,7 +49,7 @@ reads_1 (suc (suc (suc x))) l e d = absurd (omega arith)
 pub answer_is_an_input : AnswerIsAnInput → ⊥
 answer_is_an_input claim =
     let c = grades-run.conclusion in
-    let r = claim grades.vote grades.plan grades.bad (history_of grades.vote grades.script) c.premises 0 (pos 1) (omega arith, tt) (inl (inl (c.answer 0 (omega arith)))) in
+    let r = claim grades.vote grades.plan grades.bad (history_of grades.vote grades.script) c.premises 0 (pos 1) (omega arith, tt) (inl (c.answer 0 (omega arith))) in
     reads_1 r.0 r.1.0 r.1.1
     (started_in grades.vote (ending grades.vote grades.script) (history_of grades.vote grades.script) (shown grades.vote grades.bad grades.script grades_pass)
     (λ x. not (eqb x 1)) (true→T grades_start) r.2.0 r.0 r.2.1 r.2.2.0 r.2.3.started)
@@ -70,16 +65,5 @@ pub readings_off_by_one : ReadingsOffByOne → ⊥
 unfolding computing
 readings_off_by_one claim =
     let r = claim (alone two) two_plan nobody (history_of (alone two) begins) (premises_of (alone two) nobody begins begins_passes two_plan refl refl) 0 (pos 0)
-    (sound_alone two) (inl (script_answers (alone two) nobody begins begins_passes (pos 0) begins_answers)) in
+    (sound_alone two) (script_answers (alone two) nobody begins begins_passes (pos 0) begins_answers) in
     not_next r.0 r.1 r.2
-
--- board 1 of `Liar` answers 3, and its closing value is 2
-pub answer_is_closing_value : AnswerIsClosingValue → ⊥
-answer_is_closing_value claim =
-    let c = liar-run.conclusion in
-    let o : Sound liar.vote liar.bad 1 = (omega arith, tt) in
-    let r = claim liar.vote liar.plan liar.bad (history_of liar.vote liar.script) c.premises 1 o (c.closed 1 o) in
-    let a : Answer.At r.0 ≡ Answer.At (pos 3) = sym r.1 ∙ c.answer 1 (omega arith) in
-    let b : Answer.At r.0 ≡ Answer.At (pos 2) = sym r.2 ∙ liar-run.closing_values 1 (omega arith) in
-    let e : ◌≡◌ {A = ℕ} 0 1 = cc in
-    omega arith

@@ -1,5 +1,5 @@
--- Examples that fail, by tests: an answer is not between inputs, or all is delivered and the board is not closed.
-use mathlib.Core.Path.{◌≡◌, refl, sym, ap, ◌∙◌, subst}
+-- Examples that fail, by tests: an answer is not between inputs, or all is delivered and there is none.
+use mathlib.Core.Path.{◌≡◌, refl, sym, ◌∙◌, subst}
 use mathlib.Core.Logic.{inl, inr}
 use mathlib.Core.Bool.{Bool, true, false, ◌&&◌}
 use mathlib.Core.List.{List, []}
@@ -13,15 +13,15 @@ use Rattle.base.proofs.Bools.{T-left, T-right, true→T}
 use Rattle.plan.specs.Plan.{Plan}
 use Rattle.plan.specs.Reading.{plan_of}
 use Rattle.board_calls.specs.declared.Answer.{Answer}
-use Rattle.board_calls.specs.Calls.{answered_of, closing_read_of}
+use Rattle.board_calls.specs.Calls.{answered_of}
 use Rattle.agreement.specs.History.{Instance, set_up, calls, History, Stage, waiting, running, Board, board_after}
 use Rattle.agreement.specs.Allowed.{Sound, May}
-use Rattle.agreement.specs.Demand.{member_by, answer_now, Answers, closing_now, Closed, Holds}
+use Rattle.agreement.specs.Demand.{party_by, answer_now, Answers, Holds}
 use Rattle.agreement_histories.specs.Scripts.{Action, history_of}
 use Rattle.agreement_histories.proofs.Worlds.{World, sound, is_running}
 use Rattle.agreement_histories.proofs.Tests.{sound→}
 use Rattle.agreement_histories.proofs.Shows.{Shows}
-use Rattle.agreement_histories.proofs.Passing.{member_at, answer_in, settled, passes, ending, shown, ours, sharing}
+use Rattle.agreement_histories.proofs.Passing.{answer_in, settled, passes, ending, shown, ours, sharing}
 use Rattle.agreement_histories.proofs.Delivery.{full}
 use Rattle.agreement_histories.proofs.Delivered.{completed}
 use Rattle.agreement_premises.specs.Edits.{Edit}
@@ -46,25 +46,19 @@ pub may_set_up : (v : Instance) (bad : Set) (i : ℕ) → Sound v bad i → May 
 unfolding board_after
 may_set_up v bad i o = (o, inr (refl, ours v i))
 
--- ---- answers, and closed boards
+-- ---- answers
 
 -- what a board has at the end
 pub now : (v : Instance) (w : World) (h : History) → Shows v w h → (i : ℕ) (a : Answer) → answer_in v w i ≡ a → answer_now v h i ≡ a
-now v w h s i a e = subst (λ (b : Board). (answered_of (member_by v i b b.stage)).answer ≡ a) (s.board i) e
+now v w h s i a e = subst (λ (b : Board). (answered_of (party_by v i b b.stage)).answer ≡ a) (s.board i) e
 
--- whether it is closed
-abbrev pub closed_in : Instance → World → ℕ → Bool
-closed_in v w i = (closing_read_of (member_at v w i)).closed
+abbrev is_none : Answer → Bool
+is_none Answer.None = true
+is_none (Answer.At z) = false
 
-module _ (v : Instance) (w : World) (h : History) (s : Shows v w h) (i : ℕ) where
-  closed_same : closed_in v w i ≡ (closing_now v h i).closed
-  closed_same = ap (λ (b : Board). (closing_read_of (member_by v i b b.stage)).closed) (s.board i)
-
-  pub is_closed : closed_in v w i ≡ true → Closed v h i
-  is_closed e = true→T (sym closed_same ∙ e)
-
-  pub not_closed : closed_in v w i ≡ false → Closed v h i → ⊥
-  not_closed e c = subst T (sym closed_same ∙ e) c
+-- no answer is none
+pub unanswered : {a : Answer} → a ≡ Answer.None → (z : ℤ) × (a ≡ Answer.At z) → ⊥
+unanswered e r = subst (λ (a : Answer). T (is_none a)) (sym e ∙ r.1) tt
 
 -- after a script that passes, where board 0 has an answer
 module _ (v : Instance) (bad : Set) (script : List Action) (f : passes v bad script ≡ true) (z : ℤ) (a : answer_in v (ending v script) 0 ≡ Answer.At z) where
@@ -117,7 +111,8 @@ module _ (e : Edit) (x : Example) (f : passing x ≡ true) (g : plan_of x.vote.p
   pub invalid_now : (y : ℕ) (z : ℤ) → misplaced v x.plan (world_at_end x) y z ≡ true → answer_in v (world_at_end x) i ≡ Answer.At z → Fails e x
   invalid_now y z k a = invalid y z k (inl (now v (world_at_end x) h run.shows i (Answer.At z) a))
 
-  -- all is delivered, and it is not closed
-  pub unended : full v x.bad (world_at_end x) ≡ true → closed_in v (world_at_end x) i ≡ false → Fails e x
+  -- all is delivered, and it has none
+  pub unended : full v x.bad (world_at_end x) ≡ true → answer_in v (world_at_end x) i ≡ Answer.None → Fails e x
   unended k a = failing (λ q.
-      not_closed v (world_at_end x) h run.shows i a (q.ending (completed v x.bad (world_at_end x) h run.shows (true→T k)) i o))
+      unanswered (now v (world_at_end x) h run.shows i Answer.None a)
+      (q.ending (completed v x.bad (world_at_end x) h run.shows (true→T k)) i o))

@@ -24,7 +24,7 @@ overwritten_fails = invalid_now journal_overwritten (example_of journal_overwrit
 
 altered_strays : Strays record_altered (example_of record_altered)
 unfolding computing
-altered_strays = altered (board_after (history_before (example_of record_altered)) 0).member (sound_alone two) (record { up = refl; same = refl; at = refl; kept = refl })
+altered_strays = altered (board_after (history_before (example_of record_altered)) 0).party (sound_alone two) (record { up = refl; same = refl; at = refl; kept = refl })
 
 pub altered_fails : Fails record_altered (example_of record_altered)
 unfolding computing all_in
@@ -32,7 +32,7 @@ altered_fails = invalid_now record_altered (example_of record_altered) refl refl
 
 misread_strays : Strays other_record_read (example_of other_record_read)
 unfolding computing
-misread_strays = misread (board_after (history_before (example_of other_record_read)) 0).member (sound_alone two) (refl, refl)
+misread_strays = misread (board_after (history_before (example_of other_record_read)) 0).party (sound_alone two) (refl, refl)
 
 pub misread_fails : Fails other_record_read (example_of other_record_read)
 unfolding computing all_in
@@ -40,7 +40,7 @@ misread_fails = invalid other_record_read (example_of other_record_read) refl re
 
 miscounted_strays : Strays other_record_counted (example_of other_record_counted)
 unfolding computing
-miscounted_strays = miscounted (board_after (history_before (example_of other_record_counted)) 0).member (sound_alone two) (refl, refl)
+miscounted_strays = miscounted (board_after (history_before (example_of other_record_counted)) 0).party (sound_alone two) (refl, refl)
 
 pub miscounted_fails : Fails other_record_counted (example_of other_record_counted)
 unfolding computing all_in

@@ -9,7 +9,4 @@ pub mod Needed
 pub mod Premises
 pub mod Conclusions
 pub mod Ends
-pub mod Taken
-pub mod Unrecorded
-pub mod Never
 pub mod Machines

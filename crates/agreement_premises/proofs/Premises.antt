@@ -1,6 +1,6 @@
--- Too many faulty boards, an agreement number that no message can have, and a plan that is not the vote's.
+-- Too many faulty boards, an agreement number that no record can have, and a plan that is not the vote's.
 use mathlib.Core.Path.{◌≡◌, refl}
-use mathlib.Core.Bool.{true, false}
+use mathlib.Core.Bool.{true}
 use native.Mathlib.Omega.{arith}
 use lib.IntN.{pos}
 use Rattle.board_calls.specs.declared.Answer.{Answer}
@@ -10,9 +10,9 @@ use Rattle.agreement_histories.proofs.Delivery.{full}
 use Rattle.agreement_histories.proofs.Delivered.{complete}
 use Rattle.agreement_histories.proofs.Computing.{computing}
 use Rattle.agreement_premises.specs.Examples.{two, three, two_plan, three_plan, elsewhere_plan, alone, four, nobody}
-use Rattle.agreement_premises.specs.Claims.{TwiceTheFaults, half, deceived, NumberTooLarge, unreadable, unheard, PlanNotRead, begins}
+use Rattle.agreement_premises.specs.Claims.{TwiceTheFaults, half, deceived, NumberTooLarge, unreadable, cut_after, PlanNotRead, begins}
 use Rattle.agreement_premises.proofs.Starts.{all_in, misplaced}
-use Rattle.agreement_premises.proofs.Failing.{sound_alone, closed_in, not_closed, script_fails}
+use Rattle.agreement_premises.proofs.Failing.{sound_alone, now, unanswered, script_fails}
 
 -- ---- twice the faults
 
@@ -37,24 +37,24 @@ twice_the_faults claim =
 
 -- ---- a number that is too large
 
-unheard_passes : passes unreadable nobody unheard ≡ true
-unfolding computing unheard
-unheard_passes = refl
+unreadable_passes : passes unreadable nobody cut_after ≡ true
+unfolding computing cut_after
+unreadable_passes = refl
 
-unheard_full : full unreadable nobody (ending unreadable unheard) ≡ true
-unfolding computing unheard
-unheard_full = refl
+unreadable_full : full unreadable nobody (ending unreadable cut_after) ≡ true
+unfolding computing cut_after
+unreadable_full = refl
 
-unheard_open : closed_in unreadable (ending unreadable unheard) 0 ≡ false
-unfolding computing unheard
-unheard_open = refl
+unreadable_answers : answer_in unreadable (ending unreadable cut_after) 0 ≡ Answer.None
+unfolding computing cut_after
+unreadable_answers = refl
 
 pub number_too_large : NumberTooLarge → ⊥
 unfolding computing
 number_too_large claim =
-    not_closed unreadable (ending unreadable unheard) (history_of unreadable unheard) (shown unreadable nobody unheard unheard_passes) 0 unheard_open
-    ((claim unreadable two_plan nobody (history_of unreadable unheard) (omega arith) (omega arith) (omega arith) refl (omega arith) (allowed unreadable nobody unheard unheard_passes)
-    ).ending (complete unreadable nobody unheard unheard_passes unheard_full) 0 (omega arith, tt))
+    unanswered (now unreadable (ending unreadable cut_after) (history_of unreadable cut_after) (shown unreadable nobody cut_after unreadable_passes) 0 Answer.None unreadable_answers)
+    ((claim unreadable two_plan nobody (history_of unreadable cut_after) (omega arith) (omega arith) (omega arith) refl (omega arith) (allowed unreadable nobody cut_after unreadable_passes)
+    ).ending (complete unreadable nobody cut_after unreadable_passes unreadable_full) 0 (omega arith, tt))
 
 -- ---- another plan than the bytes give
 

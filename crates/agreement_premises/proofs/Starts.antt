@@ -22,18 +22,18 @@ use Rattle.agreement_histories.proofs.Shows.{Shows}
 use Rattle.agreement_histories.proofs.Delivery.{starts_in}
 use Rattle.agreement_histories.proofs.Delivered.{in_starts}
 
--- everything in the list passes
-unfoldable pub all_in : {A : Type 0} → (A → Bool) → List A → Bool
+-- every number of the list is in the set
+unfoldable pub all_in : Set → List ℕ → Bool
 all_in S [] = true
 all_in S (x ∷ l) = S x && all_in S l
 
-pub all_in→ : {A : Type 0} (S : A → Bool) (x : A) (l : List A) → T (all_in S l) → Memᴰ x l → T (S x)
+all_in→ : (S : Set) (x : ℕ) (l : List ℕ) → T (all_in S l) → Memᴰ x l → T (S x)
 unfolding all_in
 all_in→ S x [] h m = absurd (Memᴰ.not-nil m)
 all_in→ S x (y ∷ l) h m = go (all_in→ S x l (T-right (S y) (all_in S l) h)) (Memᴰ.cases_cons m)
   where
     go : (Memᴰ x l → T (S x)) → (x ≡ y) ⊎ Memᴰ x l → T (S x)
-    go below (inl e) = subst (λ z. T (S z)) (sym e) (T-left (S y) (all_in S l) h)
+    go below (inl e) = subst (λ (z : ℕ). T (S z)) (sym e) (T-left (S y) (all_in S l) h)
     go below (inr r) = below r
 
 abbrev starts_of : World → Set → ℕ → Bool
@@ -66,7 +66,7 @@ misplaced v plan w x z = starts_at v w (eqb x) && apart plan x z
 pub not_between : (v : Instance) (plan : Plan) (bad : Set) (w : World) (h : History) → Shows v w h → (x : ℕ) (z : ℤ) → T (misplaced v plan w x z)
     → (i : ℕ) → Sound v bad i → Answers v h i z → Holds v plan bad h → ⊥
 not_between v plan bad w h s x z f i o a q =
-    let r = q.validity i z o (inl a) in
+    let r = q.validity i z o a in
     let b = r.2 in
     let e : x ≡ b.2 = at b.0 b.2 b.4 b.6.0 b.8.started in
     let g : x ≡ b.3 = at b.1 b.3 b.5 b.7.0 b.9.started in

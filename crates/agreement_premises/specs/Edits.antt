@@ -3,10 +3,10 @@ use Rattle.std.specs.Prelude.{◌≡◌, ◌⊎◌, Bool, true, false, List, [],
 use Rattle.base.specs.Pick.{pick}
 use Rattle.base.specs.Sets.{Set, count}
 use Rattle.plan.specs.Plan.{Plan}
-use Rattle.packet.specs.declared.Packet.{Packet}
-use Rattle.packet.specs.Packet.{packet_bytes}
-use Rattle.member.specs.Member.{Member}
-use Rattle.agreement.specs.History.{Instance, Lent, StartInput, set_up, start, take_message, read_answer, read_count, restore, Step, calls, hands, cut, whose, History, running, board_after}
+use Rattle.message.specs.declared.Message.{Message}
+use Rattle.message.specs.Message.{message_bytes}
+use Rattle.party.specs.Party.{Party}
+use Rattle.agreement.specs.History.{Instance, Lent, StartInput, set_up, start, take_message_lem, read_answer, read_count, restore, Step, calls, hands, cut, whose, History, running, board_after}
 use Rattle.agreement.specs.Allowed.{Sound, Continues, Ours, Accepts, May}
 use Rattle.agreement.specs.Demand.{Holds, Shared}
 
@@ -37,20 +37,20 @@ is_handing (cut i left) = false
 
 abbrev pub is_reading : Step → Bool
 is_reading (calls i (set_up n t own agreement plan)) = false
-is_reading (calls i (start m input lent used)) = false
-is_reading (calls i (take_message m sender bytes lent used)) = false
-is_reading (calls i (read_answer m)) = true
-is_reading (calls i (read_count m g c)) = true
+is_reading (calls i (start p input lent used)) = false
+is_reading (calls i (take_message_lem p sender bytes lent used)) = false
+is_reading (calls i (read_answer p)) = true
+is_reading (calls i (read_count p g c)) = true
 is_reading (calls i (restore n t own agreement plan lent)) = false
 is_reading (hands i bytes) = false
 is_reading (cut i left) = false
 
 abbrev pub is_counting : Step → Bool
 is_counting (calls i (set_up n t own agreement plan)) = false
-is_counting (calls i (start m input lent used)) = false
-is_counting (calls i (take_message m sender bytes lent used)) = false
-is_counting (calls i (read_answer m)) = false
-is_counting (calls i (read_count m g c)) = true
+is_counting (calls i (start p input lent used)) = false
+is_counting (calls i (take_message_lem p sender bytes lent used)) = false
+is_counting (calls i (read_answer p)) = false
+is_counting (calls i (read_count p g c)) = true
 is_counting (calls i (restore n t own agreement plan lent)) = false
 is_counting (hands i bytes) = false
 is_counting (cut i left) = false
@@ -70,10 +70,10 @@ without f (s ∷ h) = pick (f s) (without f h) (s ∷ without f h)
 -- holds of them too (by reading: the edit and the clause side by side).
 pub data Lets (v : Instance) (bad : Set) (h : History) : Edit → Step → Type 0 where
   -- without "a message taken as a sound board's was handed over earlier by it for that vote"
-  unsent : {i sender used : ℕ} {m : Member} {bytes : List ℕ} {lent : Lent} → Sound v bad i → Continues (board_after h i) m lent used
-      → Lets v bad h taken_unsent (calls i (take_message m sender bytes lent used))
+  unsent : {i sender used : ℕ} {p : Party} {bytes : List ℕ} {lent : Lent} → Sound v bad i → Continues (board_after h i) p lent used
+      → Lets v bad h taken_unsent (calls i (take_message_lem p sender bytes lent used))
   -- a board hands over what its calls made; without that, any message
-  unmade : {i : ℕ} {bytes : List ℕ} (p : Packet) → Sound v bad i → (board_after h i).stage ≡ running → bytes ≡ packet_bytes p
+  unmade : {i : ℕ} {bytes : List ℕ} (m : Message) → Sound v bad i → (board_after h i).stage ≡ running → bytes ≡ message_bytes m
       → Lets v bad h handed_unmade (hands i bytes)
   -- without "before the last handing over of a message": the cut may come where nothing was handed over
   unhanded : {i left : ℕ} → May v bad (cut i left) (without is_handing h) → Lets v bad h hands_guard_nothing (cut i left)
@@ -82,16 +82,16 @@ pub data Lets (v : Instance) (bad : Set) (h : History) : Edit → Step → Type 
   -- the same where it was read as a count
   uncounted : {i left : ℕ} → May v bad (cut i left) (without is_counting h) → Lets v bad h count_guards_nothing (cut i left)
   -- without "with nobody else writing them": the take would be accepted if another journal were lent
-  overwritten : {i sender used : ℕ} {m : Member} {bytes : List ℕ} {lent : Lent} (kept : Lent) → Sound v bad i
-      → Accepts v bad i h (board_after h i) (take_message m sender bytes kept used) → Lets v bad h journal_overwritten (calls i (take_message m sender bytes lent used))
+  overwritten : {i sender used : ℕ} {p : Party} {bytes : List ℕ} {lent : Lent} (kept : Lent) → Sound v bad i
+      → Accepts v bad i h (board_after h i) (take_message_lem p sender bytes kept used) → Lets v bad h journal_overwritten (calls i (take_message_lem p sender bytes lent used))
   -- without "each later call gets the record .. as the call before left": the start would be accepted if another record were given
-  altered : {i used : ℕ} {m : Member} {input : StartInput} {lent : Lent} (left : Member) → Sound v bad i
-      → Accepts v bad i h (board_after h i) (start left input lent used) → Lets v bad h record_altered (calls i (start m input lent used))
+  altered : {i used : ℕ} {p : Party} {input : StartInput} {lent : Lent} (left : Party) → Sound v bad i
+      → Accepts v bad i h (board_after h i) (start left input lent used) → Lets v bad h record_altered (calls i (start p input lent used))
   -- the same for a reading
-  misread : {i : ℕ} {m : Member} (left : Member) → Sound v bad i → Accepts v bad i h (board_after h i) (read_answer left)
-      → Lets v bad h other_record_read (calls i (read_answer m))
-  miscounted : {i g : ℕ} {c : ℤ} {m : Member} (left : Member) → Sound v bad i → Accepts v bad i h (board_after h i) (read_count left g c)
-      → Lets v bad h other_record_counted (calls i (read_count m g c))
+  misread : {i : ℕ} {p : Party} (left : Party) → Sound v bad i → Accepts v bad i h (board_after h i) (read_answer left)
+      → Lets v bad h other_record_read (calls i (read_answer p))
+  miscounted : {i g : ℕ} {c : ℤ} {p : Party} (left : Party) → Sound v bad i → Accepts v bad i h (board_after h i) (read_count left g c)
+      → Lets v bad h other_record_counted (calls i (read_count p g c))
   -- without "from what the cut left": the restore would be accepted if another journal were lent
   restored : {i n t own agreement : ℕ} {plan : List ℕ} {lent : Lent} (left : Lent) → Sound v bad i
       → Accepts v bad i h (board_after h i) (restore n t own agreement plan left)

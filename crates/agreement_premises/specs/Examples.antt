@@ -5,11 +5,10 @@ use Rattle.base.specs.Sets.{Set, count}
 use Rattle.plan.specs.Plan.{Plan}
 use Rattle.plan.specs.Positions.{range_plan}
 use Rattle.message.specs.declared.Body.TheVariants.{FirstEcho, FirstProposal, SecondEcho, SecondProposal, Centre}
-use Rattle.packet.specs.declared.Packet.TheVariants.{Echo}
-use Rattle.packet.specs.Packet.{packet_bytes}
-use Rattle.member.specs.Member.{new_member}
-use Rattle.member.specs.Run.{starting}
-use Rattle.agreement.specs.History.{Instance, plain, Call, set_up, start, take_message, read_answer, read_count, restore, History, Board}
+use Rattle.message.specs.Message.{message_bytes}
+use Rattle.party.specs.Party.{new_party}
+use Rattle.party.specs.Run.{starting}
+use Rattle.agreement.specs.History.{Instance, plain, Call, set_up, start, take_message_lem, read_answer, read_count, restore, History, Board}
 use Rattle.agreement.specs.Demand.{Holds, Shared}
 use Rattle.agreement_histories.specs.Scripts.{Action, sets_up, starts, takes, reads, reads_count, sends, cuts, restores, tries, lent, lent_back, says, followed}
 use Rattle.agreement_premises.specs.Edits.{Edit, AllowedWith, taken_unsent, handed_unmade, hands_guard_nothing, answer_guards_nothing, count_guards_nothing, journal_overwritten, record_altered, other_record_read, other_record_counted, other_journal_restored, second_set_up, other_boards, other_faults, other_number, other_plan}
@@ -127,7 +126,7 @@ example_of journal_overwritten = record {
   plan = two_plan;
   bad = last;
   before = sets_up 0 ∷ starts 0 (pos 0) ∷ [];
-  stray = calls_with 0 (λ b. take_message b.member 3 (packet_bytes (says (FirstEcho 0))) (lent (1 ∷ 1 ∷ 1 ∷ [])) (length b.journal));
+  stray = calls_with 0 (λ b. take_message_lem b.party 3 (message_bytes (says (FirstEcho 0))) (lent (1 ∷ 1 ∷ 1 ∷ [])) (length b.journal));
   after = cuts 0 9 ∷ [];
 }
 -- The board is set up for the readings 0 and 1, and starts with a record of the readings 5 and 6: it answers 5.
@@ -136,7 +135,7 @@ example_of record_altered = record {
   plan = two_plan;
   bad = nobody;
   before = sets_up 0 ∷ [];
-  stray = calls_with 0 (λ b. start (new_member 1 0 0 1 elsewhere_plan) (plain (pos 5)) (lent b.journal) (length b.journal));
+  stray = calls_with 0 (λ b. start (new_party 1 0 0 1 elsewhere_plan) (plain (pos 5)) (lent b.journal) (length b.journal));
   after = [];
 }
 -- The board has not started, and the answer is read from a record that has.
@@ -145,7 +144,7 @@ example_of other_record_read = record {
   plan = two_plan;
   bad = nobody;
   before = sets_up 0 ∷ [];
-  stray = calls_with 0 (λ b. read_answer (starting b.member 0).member);
+  stray = calls_with 0 (λ b. read_answer (starting b.party 0).party);
   after = [];
 }
 -- The same, read as the count 0 in steps of 2.
@@ -154,7 +153,7 @@ example_of other_record_counted = record {
   plan = two_plan;
   bad = nobody;
   before = sets_up 0 ∷ [];
-  stray = calls_with 0 (λ b. read_count (starting b.member 0).member 2 (pos 0));
+  stray = calls_with 0 (λ b. read_count (starting b.party 0).party 2 (pos 0));
   after = [];
 }
 -- The board starts at 0, and is restored from a journal whose record says 1: it answers 1.
@@ -168,7 +167,7 @@ example_of other_journal_restored = record {
 }
 -- The answer 0 is read, and the board set up again.
 example_of second_set_up = record { vote = alone two; plan = two_plan; bad = nobody; before = answered; stray = sets_up 0; after = [] }
--- The board is set up for a vote of two boards, and all is delivered: it waits for the other one, and is not closed.
+-- The board is set up for a vote of two boards, and all is delivered: it waits for the other one, and has no answer.
 example_of other_boards = record {
   vote = alone three;
   plan = three_plan;
@@ -192,15 +191,14 @@ example_of other_faults = record {
   stray = calls_with 0 (λ b. set_up 4 0 0 1 three);
   after = starts 0 (pos 0) ∷ takes 0 3 (says Centre) ∷ [];
 }
--- The board is set up for vote 2, starts, and hands its closing echo over. Power is cut, and no record is lost: as a board of vote 1 it is not restored, and is
--- not closed.
+-- The board is set up for vote 2 and starts. Power is cut, and no record is lost: as a board of vote 1 it is not restored, and has no answer.
 example_of other_number = record {
   vote = alone two;
   plan = two_plan;
   bad = nobody;
   before = [];
   stray = calls_with 0 (λ b. set_up 1 0 0 2 two);
-  after = starts 0 (pos 0) ∷ sends 0 (Echo 2 0) ∷ cuts 0 3 ∷ [];
+  after = starts 0 (pos 0) ∷ cuts 0 3 ∷ [];
 }
 -- The board is set up for the readings 5 and 6 where the vote is on 0 and 1: it answers 5.
 example_of other_plan = record {

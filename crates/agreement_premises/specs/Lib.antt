@@ -1,5 +1,4 @@
 pub mod Edits
 pub mod Examples
 pub mod Claims
-pub mod Recorded
 pub mod Machines

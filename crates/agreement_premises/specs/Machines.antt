@@ -10,6 +10,7 @@ use Rattle.party.specs.Valid.{party_valid}
 use Rattle.level_laws.specs.Inner.{heard_from}
 use Rattle.execution.specs.Machine.{start, take}
 use Rattle.vote_machine.specs.Machine.{called}
+use Rattle.agreement_histories.specs.Scripts.{says}
 use Rattle.agreement_premises.specs.Examples.{two_plan, three_plan}
 
 -- start_off_the_plan: position 3 is below the number of boards, and a start there gives a record that question 19 refuses
@@ -21,7 +22,7 @@ unfoldable pub follower : Party
 follower = tells (tells (tells (called (new_party 1 0 0 1 three_plan) (start 0)).party (FirstEcho none_value)) (SecondProposal none_value)) (Side 2)
   where
     tells : Party → Body → Party
-    tells p b = (called p (take 0 (record { number = 1; level = 0; body = b }))).party
+    tells p b = (called p (take 0 (says b))).party
 
 pub record OneSenderMore : Type 0 where
   pub unsure : (level_at follower 0).result ≡ none_value

@@ -1,9 +1,7 @@
 pub mod Making
 pub mod Seven
 pub mod Liar
-pub mod Closing
 pub mod OneLevel
-pub mod OneBoard
 pub mod Standing
 pub mod Following
 pub mod Unbounded

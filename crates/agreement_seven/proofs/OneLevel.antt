@@ -1,5 +1,5 @@
--- A party of the vote on the star that has entered level 0 only, at the centre: its runs by the level's record alone, what the rules see there being fixed.
-use mathlib.Core.Path.{◌≡◌, refl, ap, ap₂, ◌∙◌, subst}
+-- A board of the vote on the star that has entered level 0 only, at the centre: its runs by the level's record alone, what the rules see there being fixed.
+use mathlib.Core.Path.{◌≡◌, refl, sym, ap, ap₂, ◌∙◌, subst}
 use mathlib.Core.Bool.{Bool, true, false, ◌&&◌}
 use mathlib.Core.List.{List, [], ◌∷◌}
 use Prim.Native.Nat.{ℕ, zero, suc}
@@ -7,21 +7,20 @@ use native.Mathlib.Omega.{arith}
 use lib.Dec.{T, eqb, leb, ltb, eqb→eq}
 use lib.ListN.{get_or, replicate}
 use Rattle.base.specs.Pick.{pick}
-use Rattle.base.specs.Limits.{level_count}
+use Rattle.base.specs.Limits.{level_count, max_rules}
 use Rattle.base.proofs.Bools.{T-left, T-right, T→true, true→T}
 use Rattle.base.proofs.Smallest.{smallest_is}
 use Rattle.message.specs.declared.Body.{Body}
-use Rattle.packet.specs.declared.Packet.{Packet}
+use Rattle.message.specs.declared.Message.{Message}
 use Rattle.level.specs.declared.Context.{Context}
 use Rattle.level.specs.declared.Effect.{Effect}
 use Rattle.level.specs.declared.Effect.TheVariants.{Nothing, Quiet, Send, Enter, SendEnter}
-use Rattle.level.specs.Level.{Level, no_level, blank_level, no_output}
+use Rattle.level.specs.Level.{Level, no_level, blank_level, no_output, held, with_heard, with_entry}
 use Rattle.level.specs.Rules.{Applied, lowest_rule, applies}
 use Rattle.component.specs.Component.{whole_of, size_of, centre_of, degree_of, port_of}
-use Rattle.party.specs.Party.{Party, level_at, with_level, component_of, sending, context_of}
-use Rattle.party.specs.Run.{Ran, rule_at, open_at, open_level, after_rule, step_at, made_by, resting, one_more, run_up_to}
+use Rattle.party.specs.Party.{Party, new_party, level_at, with_level, component_of, sending, context_of, entering, entered, held_by, hearing}
+use Rattle.party.specs.Run.{Ran, rule_at, open_at, open_level, after_rule, step_at, made_by, resting, one_more, run_up_to, run, starting, taking}
 use Rattle.party_bounds.proofs.Runs.{levels_quiescent}
-use Rattle.member.specs.Run.{level_packets}
 use Rattle.agreement_histories.specs.Scripts.{says}
 use Rattle.agreement_histories.proofs.Computing.{computing}
 use Rattle.agreement_seven.specs.Unbounded.{star, plan}
@@ -53,7 +52,7 @@ centre_is : centre_of plan (whole_of plan) ≡ 0
 unfolding computing star
 centre_is = refl
 
-pub size_is : size_of plan (whole_of plan) ≡ 16
+size_is : size_of plan (whole_of plan) ≡ 16
 unfolding computing star
 size_is = refl
 
@@ -117,7 +116,7 @@ module _ (f : ℕ) (l : Level) (h : T (okay l)) where
   step_quiet e =
       step_on (ap applies e) ∙ ap (λ (x : Effect). one_more (made_by 1 0 x) (run_up_to f (after_rule (at l) 0 (lowest_rule seen l).level x))) e
 
-  step_send : (b : Body) → (lowest_rule seen l).effect ≡ Send b → run_up_to (suc f) (at l) ≡ one_more (record { number = 1; level = 0; body = b } ∷ []) (run_up_to f (at (lowest_rule seen l).level))
+  step_send : (b : Body) → (lowest_rule seen l).effect ≡ Send b → run_up_to (suc f) (at l) ≡ one_more (says b ∷ []) (run_up_to f (at (lowest_rule seen l).level))
   unfolding after_rule with_level
   step_send b e =
       step_on (ap applies e) ∙ ap (λ (x : Effect). one_more (made_by 1 0 x) (run_up_to f (after_rule (at l) 0 (lowest_rule seen l).level x))) e
@@ -126,7 +125,7 @@ module _ (f : ℕ) (l : Level) (h : T (okay l)) where
 
 pub record Rest : Type 0 where
   pub level : Level
-  pub made : List Packet
+  pub made : List Message
   pub fine : Bool
 
 abbrev onward : Effect → Level → Rest → Rest
@@ -146,26 +145,43 @@ level_run (suc f) l = guarded (okay l) (onward (lowest_rule seen l).effect l (le
 -- the party's run is the level's
 pub record Follows (r : Ran) (next : Rest) : Type 0 where
   pub party : r.party ≡ at next.level
-  pub made : level_packets r.made ≡ next.made
+  pub made : r.made ≡ next.made
 
 follows_by : (f : ℕ) (l : Level) → T (okay l) → (e : Effect) → (lowest_rule seen l).effect ≡ e → (next : Rest)
     → (T next.fine → Follows (run_up_to f (at (lowest_rule seen l).level)) next) → T (onward e l next).fine → Follows (run_up_to (suc f) (at l)) (onward e l next)
-unfolding level_packets
-follows_by f l o Nothing e next below h = let s = step_rest f l o e in record { party = ap (λ (r : Ran). r.party) s; made = ap (λ (r : Ran). level_packets r.made) s }
+follows_by f l o Nothing e next below h = let s = step_rest f l o e in record { party = ap (λ (r : Ran). r.party) s; made = ap (λ (r : Ran). r.made) s }
 follows_by f l o Quiet e next below h =
     let s = step_quiet f l o e in
-    record { party = ap (λ (r : Ran). r.party) s ∙ (below h).party; made = ap (λ (r : Ran). level_packets r.made) s ∙ (below h).made }
+    record { party = ap (λ (r : Ran). r.party) s ∙ (below h).party; made = ap (λ (r : Ran). r.made) s ∙ (below h).made }
 follows_by f l o (Send b) e next below h =
     let s = step_send f l o b e in
-    record { party = ap (λ (r : Ran). r.party) s ∙ (below h).party; made = ap (λ (r : Ran). level_packets r.made) s ∙ ap (λ (ps : List Packet). says b ∷ ps) (below h).made }
+    record { party = ap (λ (r : Ran). r.party) s ∙ (below h).party; made = ap (λ (r : Ran). r.made) s ∙ ap (λ (ms : List Message). says b ∷ ms) (below h).made }
 follows_by f l o (Enter k keep) e next below h = absurd h
 follows_by f l o (SendEnter k) e next below h = absurd h
 
-pub run_follows : (f : ℕ) (l : Level) → T (level_run f l).fine → Follows (run_up_to f (at l)) (level_run f l)
-unfolding run_up_to level_run level_packets
+run_follows : (f : ℕ) (l : Level) → T (level_run f l).fine → Follows (run_up_to f (at l)) (level_run f l)
+unfolding run_up_to level_run
 run_follows zero l h = record { party = refl; made = refl }
 run_follows (suc f) l h =
     let next : Rest = level_run f (lowest_rule seen l).level in
     let g : Bool = (onward (lowest_rule seen l).effect l next).fine in
     let k = follows_by f l (T-left (okay l) g h) (lowest_rule seen l).effect refl next (run_follows f (lowest_rule seen l).level) (T-right (okay l) g h) in
     record { party = k.party; made = k.made }
+
+-- ---- a start at the centre, a message taken
+
+abbrev pub begun : Level
+begun = with_entry blank_level 0 0 no_output
+
+pub start_follows : T (level_run max_rules begun).fine → Follows (starting (new_party 2 0 0 1 plan) 0) (level_run max_rules begun)
+unfolding starting run entered entering with_level level_at
+start_follows h =
+    subst (λ (p : Party). Follows (run_up_to max_rules p) (level_run max_rules begun))
+    (sym (ap (λ (k : ℕ). at (with_entry blank_level 0 0 (pick (leb 3 k) no_output 0))) size_is)) (run_follows max_rules begun h)
+
+pub take_follows : (l : Level) (s : ℕ) (b : Body) → held l b s ≡ false → T (level_run max_rules (with_heard l b s)).fine
+    → Follows (taking (at l) s (says b)) (level_run max_rules (with_heard l b s))
+unfolding taking run held_by hearing with_level level_at
+take_follows l s b e h =
+    subst (λ (q : Bool). Follows (pick q (resting (at l)) (run_up_to max_rules (at (with_heard l b s)))) (level_run max_rules (with_heard l b s))) (sym e)
+    (run_follows max_rules (with_heard l b s) h)

@@ -9,12 +9,12 @@ use Rattle.agreement.specs.Demand.{Premises}
 use Rattle.agreement_histories.specs.Scripts.{history_of}
 use Rattle.agreement_histories.proofs.Passing.{premises_of}
 use Rattle.agreement_histories.proofs.Computing.{computing}
-use Rattle.agreement_messages.specs.Statement.{Different, at_level, Each}
-use Rattle.agreement_seven.specs.Seven.{vote, plan, bad, script, messages, AtMost}
-use Rattle.agreement_seven.proofs.Making.{all_differ, all_pass, making, Makes, all_pass_lem, passing, different}
+use Rattle.agreement_messages.specs.Statement.{Different}
+use Rattle.agreement_seven.specs.Seven.{vote, plan, bad, script, messages, AtLevel, AtMost}
+use Rattle.agreement_seven.proofs.Making.{all_differ, all_at, all_among, making, Makes, at_level, passing, different}
 
 makes : Makes vote bad script 0 messages
-unfolding computing making all_pass script
+unfolding computing making all_among script
 makes = refl
 
 pub premises : Premises vote plan bad (history_of vote script)
@@ -28,9 +28,9 @@ pub seven : Different (history_of vote script) 0 messages
 unfolding computing all_differ
 seven = different vote bad script 0 messages makes refl
 
-pub at_0 : Each (at_level 0) messages
-unfolding all_pass
-at_0 = all_pass_lem (at_level 0) messages tt
+pub at_0 : AtLevel 0 messages
+unfolding all_at
+at_0 = at_level 0 messages tt
 
 -- as many as the bound has
 pub reached : length messages ≡ level_messages

@@ -3,8 +3,8 @@
 -- board 0 makes both of them too, and comes to side 2 at grade 1, before it proposes none.
 use Rattle.std.specs.Prelude.{List, [], ◌∷◌, pos}
 use Rattle.message.specs.declared.Body.TheVariants.{FirstEcho, FirstProposal, SecondEcho, SecondProposal, Side}
+use Rattle.message.specs.declared.Message.{Message}
 use Rattle.message.specs.Message.{none_value}
-use Rattle.packet.specs.declared.Packet.{Packet}
 use Rattle.agreement_histories.specs.Scripts.{Action, sets_up, starts, takes, sends, says}
 pub use Rattle.agreement_histories.specs.Refusals.{vote, plan, bad}
 
@@ -41,7 +41,7 @@ script =
     ∷ []
 
 -- what board 0's calls made at level 0, in order
-abbrev pub messages : List Packet
+abbrev pub messages : List Message
 messages =
     says (FirstEcho 0)
     ∷ says (FirstEcho none_value)

@@ -1,4 +1,3 @@
 pub mod Seven
 pub mod Liar
 pub mod Unbounded
-pub mod Closing

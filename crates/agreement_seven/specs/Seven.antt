@@ -1,11 +1,12 @@
 -- The bound of seven different messages at a level is reached. Two boards, none of them faulty, vote on the readings 0 to 2, centre 1. Board 0 starts at 1 and
 -- board 1 at 2. Board 0 first-echoes its port 0 and then none, proposes 2, has the first result 2 and echoes it, and proposes it again; then it relays a second
 -- echo of none from board 1, whose first result is none, and comes to side 2 at grade 1, which it tells: seven messages at level 0.
-use Rattle.std.specs.Prelude.{List, [], ◌∷◌, ℕ, pos}
+use Rattle.std.specs.Prelude.{◌≡◌, ℕ, pos}
+use mathlib.Core.List.{List, [], ◌∷◌, Memᴰ}
 use Rattle.base.specs.Sets.{Set}
 use Rattle.message.specs.declared.Body.TheVariants.{FirstEcho, FirstProposal, SecondEcho, SecondProposal, Side}
+use Rattle.message.specs.declared.Message.{Message}
 use Rattle.message.specs.Message.{none_value}
-use Rattle.packet.specs.declared.Packet.{Packet}
 use Rattle.plan.specs.Plan.{Plan}
 use Rattle.agreement.specs.History.{Instance, History}
 use Rattle.agreement.specs.Demand.{Premises}
@@ -35,7 +36,7 @@ script =
     ∷ []
 
 -- what board 0's calls made at level 0, in order
-abbrev pub messages : List Packet
+abbrev pub messages : List Message
 messages =
     says (FirstEcho 0)
     ∷ says (FirstEcho none_value)
@@ -45,6 +46,10 @@ messages =
     ∷ says (SecondEcho none_value)
     ∷ says (Side 2)
     ∷ []
+
+-- all of level L
+abbrev pub AtLevel : ℕ → List Message → Type 0
+AtLevel L ms = (m : Message) → Memᴰ m ms → m.level ≡ L
 
 -- that so many are the most, with demand 3's premises
 abbrev pub AtMost : ℕ → Type 0

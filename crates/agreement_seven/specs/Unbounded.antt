@@ -1,15 +1,14 @@
 -- The bound needs that at most t boards are faulty. Two boards vote on a star of 16 vertices, centre 0, with t 0, and board 1 is faulty. Board 0 starts at the
 -- centre. Board 1 tells it first echoes of 1 and of none, so that it first-echoes none, proposes 1 and has the first result none; then a second echo and a second
--- proposal of none, so that it tells the centre, which is its answer; then second echoes of all values 0 to 15, which it relays: 22 different messages at level 0,
--- and a closing echo besides.
+-- proposal of none, so that it tells the centre; then second echoes of all values 0 to 15, which it relays: 22 different messages at level 0.
 use Rattle.std.specs.Prelude.{List, [], ◌∷◌, ℕ, zero, suc, ◌≤◌, eqb, pos}
 use Rattle.base.specs.Sets.{Set, count}
 use Rattle.tree.specs.Edges.{Edges}
 use Rattle.plan.specs.Plan.{Plan}
 use Rattle.plan.specs.Positions.{tree_plan}
 use Rattle.message.specs.declared.Body.TheVariants.{FirstEcho, FirstProposal, SecondEcho, SecondProposal, Centre}
+use Rattle.message.specs.declared.Message.{Message}
 use Rattle.message.specs.Message.{none_value}
-use Rattle.packet.specs.declared.Packet.{Packet}
 use Rattle.agreement.specs.History.{Instance, History}
 use Rattle.agreement.specs.Allowed.{Allowed}
 use Rattle.agreement.specs.Demand.{Shared}
@@ -51,7 +50,7 @@ unfoldable pub told : List ℕ → List Action
 told [] = []
 told (w ∷ ws) = takes 0 1 (says (SecondEcho w)) ∷ told ws
 
-unfoldable pub relays : List ℕ → List Packet
+unfoldable pub relays : List ℕ → List Message
 relays [] = []
 relays (w ∷ ws) = says (SecondEcho w) ∷ relays ws
 
@@ -70,7 +69,7 @@ abbrev pub script : List Action
 script = sets_up 0 ∷ starts 0 (pos 0) ∷ hearing
 
 -- what board 0's calls made at level 0, in order
-abbrev pub messages : List Packet
+abbrev pub messages : List Message
 messages =
     says (FirstEcho 0)
     ∷ says (FirstEcho none_value)

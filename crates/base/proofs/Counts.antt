@@ -6,7 +6,7 @@ use Prim.Native.Nat.{ℕ, zero, suc, ◌+◌, ◌-◌, ◌*◌, ◌≤◌, ◌<�
 use native.Mathlib.Nat.{le_refl, le_trans, not-suc-le-zero, le-suc, lt_irrefl}
 use native.Mathlib.Omega.{arith}
 use native.Mathlib.Decide.{dec_lt, ℕ_discrete}
-use lib.Dec.{T, not_T, T_not, eqb, eqb_refl}
+use lib.Dec.{T, not_T}
 use Rattle.base.specs.Sets.{Set, bit, count}
 use Rattle.base.proofs.Bools.{T_and, T-left, T-right, T-dec, T-ext, T→true, not-T→false}
 
@@ -191,45 +191,3 @@ pub count_low : (n : ℕ) (f : Set) → count (suc n) f ≡ bit (f 0) + count n 
 unfolding count
 count_low zero f = refl
 count_low (suc n) f = omega (arith, count_low n f)
-
--- more than 2t members with at most two values: more than t share one
-pub count_shared : (n t : ℕ) (S : Set) (o : ℕ → ℕ) → 2 * t < count n S
-    → ((i j k : ℕ) → i < n → j < n → k < n → T (S i) → T (S j) → T (S k) → (o i ≡ o j) ⊎ (o j ≡ o k) ⊎ (o i ≡ o k))
-    → (a : ℕ) × (a < n) × T (S a) × (t < count n (λ i. S i && eqb (o i) (o a)))
-count_shared n t S o h two = go (dec_lt 0 (count n rest))
-  where
-    m : (i : ℕ) × (i < n) × T (S i)
-    m = member n S (omega arith)
-
-    has : ℕ → Set
-    has a i = S i && eqb (o i) (o a)
-
-    rest : Set
-    rest i = S i && not (eqb (o i) (o m.0))
-
-    split : count n S ≡ count n (has m.0) + count n rest
-    split = count_split n S (λ i. eqb (o i) (o m.0))
-
-    -- one without the value of the first
-    other : (b : ℕ) → b < n → T (rest b) → (i : ℕ) → i < n → T (rest i) → T (has b i)
-    other b l p i k q = by (two m.0 b i m.1 l k m.2 (T-left (S b) (not (eqb (o b) (o m.0))) p) s)
-      where
-        s : T (S i)
-        s = T-left (S i) (not (eqb (o i) (o m.0))) q
-
-        differs : (j : ℕ) → T (rest j) → o m.0 ≡ o j → ⊥
-        differs j r e = T_not (eqb (o j) (o m.0)) (T-right (S j) (not (eqb (o j) (o m.0))) r) (subst (λ (x : ℕ). T (eqb (o j) x)) (sym e) (eqb_refl (o j)))
-
-        by : (o m.0 ≡ o b) ⊎ (o b ≡ o i) ⊎ (o m.0 ≡ o i) → T (has b i)
-        by (inl e) = absurd (differs b p e)
-        by (inr (inl e)) = T_and (S i) (eqb (o i) (o b)) s (subst (λ (x : ℕ). T (eqb (o i) x)) (sym e) (eqb_refl (o i)))
-        by (inr (inr e)) = absurd (differs i q e)
-
-    more : (b : ℕ) → b < n → T (rest b) → Dec (t < count n (has m.0)) → (a : ℕ) × (a < n) × T (S a) × (t < count n (has a))
-    more b l p (yes k) = (m.0, m.1, m.2, k)
-    more b l p (no k) =
-        (b, l, T-left (S b) (not (eqb (o b) (o m.0))) p, omega (arith, split, count_mono n rest (has b) (λ i r q. other b l p i r q)))
-
-    go : Dec (0 < count n rest) → (a : ℕ) × (a < n) × T (S a) × (t < count n (has a))
-    go (yes k) = let b = member n rest k in more b.0 b.1 b.2 (dec_lt t (count n (has m.0)))
-    go (no k) = (m.0, m.1, m.2, omega (arith, split))

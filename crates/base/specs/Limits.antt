@@ -39,7 +39,7 @@ offset_zero = 2147483648
 abbrev pub max_reading : ℕ
 max_reading = offset_zero + (offset_zero - 1)
 
--- "position (0 to 65,535)" of a start's record, and of a closing echo: those of the widest range
+-- "position (0 to 65,535)" of a start's record: those of the widest range
 abbrev pub max_position : ℕ
 max_position = max_width
 
@@ -64,25 +64,14 @@ level_messages_worst = 22
 abbrev pub level_messages : ℕ
 level_messages = 7
 
--- the bytes of a level's message at most
+-- the bytes of a message at most
 abbrev pub message_size : ℕ
 message_size = 8
 
--- the bytes of any message at most, closing ones too: those of a closing echo
-abbrev pub packet_size : ℕ
-packet_size = 10
-
--- "over all starts and takes from set-up .. that is at most 390": of the rules at the levels
+-- "over all starts and takes from set-up .. that is at most 390"
 abbrev pub max_rules : ℕ
 max_rules = sending_levels * level_rules
 
--- "2,640 bytes (15 × 22 × 8)": the messages of the levels
+-- "2,640 bytes (15 × 22 × 8)"
 abbrev pub outgoing_size : ℕ
 outgoing_size = sending_levels * level_messages_worst * message_size
-
--- Document 02, Q-1, of a board that closes too: "a party's rule count stays within 430", "Question 18 wants 3,000 bytes"
-abbrev pub member_rules : ℕ
-member_rules = 430
-
-abbrev pub member_bytes : ℕ
-member_bytes = 3000

@@ -1,5 +1,5 @@
 -- How the code's limits stand for the definitions'.
-use Rattle.base.specs.Limits.{max_number, max_boards, max_sender, max_vertices, max_rows, max_degree, none_value, max_width, offset_zero, max_reading, max_position, sending_levels, last_level, level_count, message_size, packet_size}
+use Rattle.base.specs.Limits.{max_number, max_boards, max_sender, max_vertices, max_rows, max_degree, none_value, max_width, offset_zero, max_reading, max_position, sending_levels, last_level, level_count, message_size}
 use Rattle.base.specs.declared.Limits as Code
 
 -- the limits that the code has by name
@@ -20,5 +20,4 @@ limits = record {
   last_level = last_level;
   levels = level_count;
   message_size = message_size;
-  packet_size = packet_size;
 }

@@ -40,11 +40,8 @@ pub const LAST_LEVEL: u32 = SENDING_LEVELS - 1;
 
 pub const LEVELS: usize = SENDING_LEVELS as usize + 1;
 
-// The bytes of a level's message at most.
+// The bytes of a message at most.
 pub const MESSAGE_SIZE: usize = 8;
-
-// The bytes of any message at most, closing ones too.
-pub const PACKET_SIZE: usize = 10;
 
 // The limits as the code has them. Those of a level, and of a party's life, stand with the level's record (crates level and level_limits).
 #[derive(Clone, Copy)]
@@ -64,7 +61,6 @@ pub struct Limits {
     pub last_level: u32,
     pub levels: usize,
     pub message_size: usize,
-    pub packet_size: usize,
 }
 
 // They are those of the definitions.
@@ -87,7 +83,6 @@ pub fn all_limits() -> Limits
         last_level: LAST_LEVEL,
         levels: LEVELS,
         message_size: MESSAGE_SIZE,
-        packet_size: PACKET_SIZE,
     }
 }
 

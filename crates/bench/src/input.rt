@@ -1,17 +1,20 @@
 // Standard input as steps of a script.
-use libc::STDIN_FILENO;
+ghost use Rattle.std.specs.Prelude.{◌≤◌};
+
 use script::{Line, Step};
+use std::io;
+use std::io::Read;
 
 // How many bytes one read of standard input brings at most.
 pub const BYTES: usize = 4096;
 
-// The step that was read last, if it was one; the line that is being read; what the last read of standard input answered, how many of its bytes are
+// The step that was read last, if it was one; the line that is being read; what the last read of standard input brought, how many of its bytes are
 // used, and whether there may be more.
 #[derive(Clone, Copy)]
 pub struct Input {
     pub step: Step,
     line: Line,
-    got: isize,
+    got: usize,
     at: usize,
     pub open: bool,
 }
@@ -31,9 +34,9 @@ impl Input {
     }
 
     // After a read of standard input. Where it brought nothing, the last line ends, which may lack its newline.
-    fn filled(self, got: isize) -> Input {
+    fn filled(self, got: usize) -> Input {
         let line = self.line;
-        if got <= 0 {
+        if got == 0 {
             return Input {
                 step: line.step(),
                 line: Line::blank(),
@@ -52,9 +55,16 @@ impl Input {
         }
     }
 
+    // How many bytes the last read brought; there is room for no more than these.
+    fn held(self) -> usize
+        ensures { result ≤ 4096 }
+    {
+        self.got.min(BYTES)
+    }
+
     // Reads on to the end of the line, or of the bytes that the last read brought.
-    fn scanned(self, bytes: &[u8]) -> Input {
-        let n = io::count(self.got, bytes);
+    fn scanned(self, bytes: &[u8; BYTES]) -> Input {
+        let n = self.held();
         let found = script::scan(self.line, &bytes[..n], self.at);
         let step = found.step;
         let line = found.line;
@@ -68,10 +78,11 @@ impl Input {
     }
 
     // Reads on in the bytes; where none are left, standard input brings more.
-    pub fn next(self, bytes: &mut [u8; BYTES]) -> Input {
-        if io::count(self.got, bytes) <= self.at {
-            return self.filled(libc::read(STDIN_FILENO, bytes));
+    pub fn next(self, from: &mut impl Read, bytes: &mut [u8; BYTES]) -> io::Result<Input> {
+        if self.held() <= self.at {
+            let got = from.read(bytes)?;
+            return Ok(self.filled(got));
         }
-        self.scanned(bytes)
+        Ok(self.scanned(bytes))
     }
 }

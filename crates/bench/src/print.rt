@@ -2,12 +2,7 @@
 ghost use Rattle.std.specs.Prelude.{◌^◌, ◌<◌};
 
 use bench_settings::Settings;
-use libc::STDOUT_FILENO;
-
-// One byte.
-fn byte(b: u8) {
-    io::write_all(STDOUT_FILENO, &[b]);
-}
+use std::io;
 
 // z, or -1 - z where it is negative.
 fn magnitude(z: i64) -> u64
@@ -20,41 +15,34 @@ fn magnitude(z: i64) -> u64
 }
 
 // A signed number.
-fn reading(z: i64) {
+fn reading(rt: &impl Print, z: i64) -> io::Result<()> {
     let m = magnitude(z);
     if z < 0 {
-        byte(b'-');
-        io::print_decimal(STDOUT_FILENO, m + 1);
-        return;
+        return print!(rt; "-{}", m + 1);
     }
-    io::print_decimal(STDOUT_FILENO, m);
+    print!(rt; "{m}")
 }
 
 // A board's answer, or `-`.
-fn answer(p: member::Member) {
+fn answer(rt: &impl Print, p: party::Party) -> io::Result<()> {
     let r = board::read_answer(p);
     let a = r.answer;
     match a {
-        board::Answer::None => byte(b'-'),
-        board::Answer::At(z) => reading(z),
+        board::Answer::None => print!(rt; "-"),
+        board::Answer::At(z) => reading(rt, z),
     }
 }
 
 // A board's number and its answer.
-pub fn board(i: usize, p: member::Member) {
-    io::print_decimal(STDOUT_FILENO, i as u64);
-    byte(b' ');
-    answer(p);
-    byte(b'\n');
+pub fn board(rt: &impl Print, i: usize, p: party::Party) -> io::Result<()> {
+    print!(rt; "{i} ")?;
+    answer(rt, p)?;
+    println!(rt)
 }
 
 // Boards, t, and the messages handed over.
-pub fn totals(s: Settings, sent: usize) {
-    io::write_all(STDOUT_FILENO, b"boards ");
-    io::print_decimal(STDOUT_FILENO, s.n as u64);
-    io::write_all(STDOUT_FILENO, b" faults ");
-    io::print_decimal(STDOUT_FILENO, s.t as u64);
-    io::write_all(STDOUT_FILENO, b" sent ");
-    io::print_decimal(STDOUT_FILENO, sent as u64);
-    byte(b'\n');
+pub fn totals(rt: &impl Print, s: Settings, sent: usize) -> io::Result<()> {
+    let n = s.n;
+    let t = s.t;
+    println!(rt; "boards {n} faults {t} sent {sent}")
 }

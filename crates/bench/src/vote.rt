@@ -27,7 +27,7 @@ impl Vote {
     }
 
     // A board, set up by the settings.
-    pub fn set_up(self, own: u32) -> member::Member {
+    pub fn set_up(self, own: u32) -> party::Party {
         let s = self.settings;
         s.set_up(own)
     }
@@ -79,7 +79,7 @@ impl Vote {
         self,
         i: usize,
         v: base::Verdict,
-        out: &[u8; level_limits::MEMBER_BYTES],
+        out: &[u8; level_limits::OUTGOING],
         sent: usize,
         wire: &mut [u8; bench_wire::SIZE],
     ) -> Vote

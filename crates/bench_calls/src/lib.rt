@@ -48,9 +48,9 @@ impl Call {
     // journal, with room for its record.
     pub fn make(
         self,
-        p: member::Member,
+        p: party::Party,
         wire: &[u8; bench_wire::SIZE],
-        out: &mut [u8; level_limits::MEMBER_BYTES],
+        out: &mut [u8; level_limits::OUTGOING],
     ) -> board::Called
         ensures { HasRoom result.verdict }
     {

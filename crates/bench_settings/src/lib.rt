@@ -118,10 +118,10 @@ impl Settings {
     }
 
     // A board, or no party: where a setting is missing, and past the last board.
-    pub fn set_up(self, own: u32) -> member::Member {
+    pub fn set_up(self, own: u32) -> party::Party {
         let mut plan = [0u8; PLAN_SIZE];
         let end = range_plan::write_plan(&mut plan, self.low, self.width);
         let r = board::set_up(self.boards(), self.t, own, self.agreement, &plan[..end]);
-        r.member
+        r.party
     }
 }

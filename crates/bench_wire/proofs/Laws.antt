@@ -4,12 +4,12 @@ use mathlib.Core.List.{List}
 use Prim.Native.Nat.{ℕ, ◌≤◌}
 use native.Mathlib.Omega.{arith}
 use lib.ListN.{length}
-use Rattle.packet.specs.declared.Packet.{Packet}
-use Rattle.packet.specs.declared.PacketRead.{PacketRead}
-use Rattle.packet.specs.Reading.{packet_at}
-use Rattle.packet.proofs.RoundTrip.{packet_place}
+use Rattle.message.specs.declared.Message.{Message}
+use Rattle.message.specs.declared.MessageRead.{MessageRead}
+use Rattle.message.specs.Reading.{message_at}
+use Rattle.message.proofs.RoundTrip.{message_place}
 
-pub message_within : (s : List ℕ) (at : ℕ) (p : Packet) (next : ℕ) → packet_at s at ≡ PacketRead.Read p next → (at ≤ next) × (next ≤ length s)
-message_within s at p next e =
-    let w = packet_place s at p next e in
+pub message_within : (s : List ℕ) (at : ℕ) (m : Message) (next : ℕ) → message_at s at ≡ MessageRead.Read m next → (at ≤ next) × (next ≤ length s)
+message_within s at m next e =
+    let p = message_place s at m next e in
     (omega arith, omega arith)

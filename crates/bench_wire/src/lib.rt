@@ -1,13 +1,14 @@
 // The messages handed over, in order: of each one its maker, then its bytes.
 ghost use Rattle.std.specs.Prelude.{◌≡◌, ◌+◌, ◌<◌, ◌≤◌, length};
-ghost use Rattle.base.specs.Limits.{packet_size};
+ghost use Rattle.base.specs.Limits.{message_size};
 ghost use Rattle.bench_wire.specs.Wire.{message_room, wire_size};
 
-// The messages of all boards, whoever is faulty: a rule makes at most one.
-const MESSAGES: usize = base::MAX_BOARDS as usize * level_limits::MEMBER_RULES as usize;
-
+// The messages of all boards, whoever is faulty.
+const MESSAGES: usize = base::MAX_BOARDS as usize
+    * base::SENDING_LEVELS as usize
+    * level::Level::MESSAGES_WORST as usize;
 // The maker, and a message's bytes.
-const ENTRY: usize = 1 + base::PACKET_SIZE;
+const ENTRY: usize = 1 + base::MESSAGE_SIZE;
 
 // All of them.
 pub const SIZE: usize = ENTRY * MESSAGES;
@@ -21,19 +22,19 @@ pub struct Kept {
 }
 
 // The message is written from a place on, where the longest has room.
-fn write_message(wire: &mut [u8], from: usize, p: packet::Packet)
-    requires { from + packet_size ≤ length wire.old }
+fn write_message(wire: &mut [u8], from: usize, m: message::Message)
+    requires { from + message_size ≤ length wire.old }
 {
-    let end = from + base::PACKET_SIZE;
-    packet::write(&mut wire[from..end], p);
+    let end = from + base::MESSAGE_SIZE;
+    message::write(&mut wire[from..end], m);
 }
 
 // Message k is kept, with its maker.
-fn keep(wire: &mut [u8], k: usize, maker: u8, p: packet::Packet)
+fn keep(wire: &mut [u8], k: usize, maker: u8, m: message::Message)
     requires { (k < message_room) × (length wire.old ≡ wire_size) }
 {
     let at = ENTRY * k;
-    write_message(wire, at + 1, p);
+    write_message(wire, at + 1, m);
     wire[at] = maker;
 }
 
@@ -45,10 +46,10 @@ pub fn keep_all(wire: &mut [u8; SIZE], k: usize, maker: u8, out: &[u8], end: usi
         if end <= at {
             return count;
         }
-        let packet::PacketRead::Read { packet: p, next } = packet::read_at(out, at) else {
+        let message::MessageRead::Read { message: m, next } = message::read_at(out, at) else {
             return count;
         };
-        keep(wire, count, maker, p);
+        keep(wire, count, maker, m);
         at = next;
         count += 1;
     }
@@ -60,7 +61,7 @@ fn message_end(wire: &[u8], a: usize) -> usize
     requires { a ≤ length wire.now }
     ensures { (a ≤ result) × (result ≤ length wire.now) }
 {
-    let packet::PacketRead::Read { packet: _, next } = packet::read_at(wire, a) else {
+    let message::MessageRead::Read { message: _, next } = message::read_at(wire, a) else {
         return a;
     };
     next

@@ -1,1 +1,1 @@
-pub mod NoMember
+pub mod NoParty

@@ -6,8 +6,8 @@ use Rattle.base.specs.Found.{Found, found, refused, ask}
 use Rattle.rounding.specs.Rounding.{size_passes, nearest_step, remainder, count_answer}
 use Rattle.plan.specs.Plan.{Plan}
 use Rattle.level.specs.Level.{no_output}
-use Rattle.member.specs.Member.{Member, answer_position}
-use Rattle.member.specs.Valid.{member_valid}
+use Rattle.party.specs.Party.{Party, output_of}
+use Rattle.party.specs.Valid.{party_valid}
 use Rattle.board_calls.specs.declared.Answered.{Answered}
 use Rattle.board_calls.specs.declared.Answer.{Answer}
 use Rattle.board_calls.specs.Answers.{position_of, answer_of}
@@ -19,11 +19,11 @@ abbrev pub count_position : Plan → ℕ → ℤ → ℕ
 count_position p g c = pick (eqb p.kind 2) (position_of p (nearest_step g c)) no_output
 
 -- "25 when g is odd or out of its limits, asked before 13"; the other questions are a start's
-unfoldable pub start_count_questions : Member → ℕ → ℤ → ℕ → ℕ → ℕ → Found Entry
-start_count_questions m g c room used out =
-    at_door m room used out
+unfoldable pub start_count_questions : Party → ℕ → ℤ → ℕ → ℕ → ℕ → Found Entry
+start_count_questions p g c room used out =
+    at_door p room used out
     (ask (size_passes g) 25 0
-    (start_at m (count_position m.party.plan g c) room used))
+    (start_at p (count_position p.plan g c) room used))
 
 -- "with the remainder reported"; a refused start reports 0
 abbrev pub remainder_in : ℕ → ℤ → Found Entry → ℤ
@@ -36,12 +36,12 @@ count_of g c Answer.None = Answer.None
 count_of g c (Answer.At y) = Answer.At (count_answer g c y)
 
 -- "The count answer's call, on a party, asks 19, 25, 12 as a start does"
-unfoldable pub count_questions : Member → ℕ → ℤ → Found Answer
-count_questions m g c =
-    ask (member_valid m) 19 0
+unfoldable pub count_questions : Party → ℕ → ℤ → Found Answer
+count_questions p g c =
+    ask (party_valid p) 19 0
     (ask (size_passes g) 25 0
-    (ask (not (eqb (count_position m.party.plan g c) no_output)) 12 0
-    (found (count_of g c (answer_of m.party.plan (answer_position m))))))
+    (ask (not (eqb (count_position p.plan g c) no_output)) 12 0
+    (found (count_of g c (answer_of p.plan (output_of p))))))
 
 -- what that call gives
 abbrev pub count_gives : Found Answer → Answered

@@ -17,8 +17,8 @@ use Rattle.plan.specs.Plan.{Plan}
 use Rattle.plan.proofs.Listed.{ask_yes}
 use Rattle.plan.proofs.Answers.{ask_no}
 use Rattle.level.specs.Level.{no_output}
-use Rattle.member.specs.Member.{Member, answer_position}
-use Rattle.member.specs.Valid.{member_valid}
+use Rattle.party.specs.Party.{Party, output_of}
+use Rattle.party.specs.Valid.{party_valid}
 use Rattle.board_calls.specs.declared.Answer.{Answer}
 use Rattle.board_calls.specs.declared.Answered.{Answered}
 use Rattle.board_calls.specs.Answers.{position_of, range_position, answer_of}
@@ -58,25 +58,25 @@ module _ (q : Plan) where
 
 -- ---- question 19, by a party's own reading
 
-abbrev read_of : Member → Bool → Answered
-read_of p valid = pick valid (record { verdict = Verdict.Accepted; answer = answer_of p.party.plan (answer_position p) }) (record { verdict = Verdict.Refused 19 0; answer = Answer.None })
+abbrev read_of : Party → Bool → Answered
+read_of p valid = pick valid (record { verdict = Verdict.Accepted; answer = answer_of p.plan (output_of p) }) (record { verdict = Verdict.Refused 19 0; answer = Answer.None })
 
-module _ (p : Member) {a : Answered} (e : a ≡ answered_of p) where
-  pub valid_told : is_accepted a.verdict ≡ member_valid p
+module _ (p : Party) {a : Answered} (e : a ≡ answered_of p) where
+  pub valid_told : is_accepted a.verdict ≡ party_valid p
   unfolding answered_of
-  valid_told = ap (λ (x : Answered). is_accepted x.verdict) e ∙ go (member_valid p)
+  valid_told = ap (λ (x : Answered). is_accepted x.verdict) e ∙ go (party_valid p)
     where
       go : (b : Bool) → is_accepted (read_of p b).verdict ≡ b
       go true = refl
       go false = refl
 
-  pub valid_read : a.verdict ≡ Verdict.Accepted → T (member_valid p)
+  pub valid_read : a.verdict ≡ Verdict.Accepted → T (party_valid p)
   valid_read h = true→T (sym valid_told ∙ ap is_accepted h)
 
 -- ---- a start by count
 
 -- where the size does not pass
-module _ {valid : Bool} {room used out number : ℕ} (d : AtDoor valid room used out number) (p : Member) (e : valid ≡ member_valid p) where
+module _ {valid : Bool} {room used out number : ℕ} (d : AtDoor valid room used out number) (p : Party) (e : valid ≡ party_valid p) where
   pub shut_before : (number ≡ 0 → ⊥) → RefusedAt p room used out number
   shut_before n = d.fails n p e (refused 25 0)
 
@@ -84,17 +84,17 @@ module _ {valid : Bool} {room used out number : ℕ} (d : AtDoor valid room used
   shut_25 z = let h = d.passes z in door_yes p room used out (refused 25 0) (true→T (sym e ∙ h.0)) h.1 h.2
 
 -- the remainder of a start that was asked
-remainder_told : (p : Member) (g : ℕ) (c : ℤ) (used : ℕ) (q : Found Entry) {b : Bool} {rest : ℤ} → b ≡ is_accepted (called_of p used q).verdict
+remainder_told : (p : Party) (g : ℕ) (c : ℤ) (used : ℕ) (q : Found Entry) {b : Bool} {rest : ℤ} → b ≡ is_accepted (called_of p used q).verdict
     → rest ≡ pick b (remainder g c) (pos 0) → rest ≡ remainder_in g c q
 remainder_told p g c used (found again) e i = i ∙ rw e
 remainder_told p g c used (found (fresh r ran)) e i = i ∙ rw e
 remainder_told p g c used (refused number place) e i = i ∙ rw e
 
-module _ (p : Member) (g : ℕ) (c : ℤ) (used : ℕ) {j out : List ℕ} where
+module _ (p : Party) (g : ℕ) (c : ℤ) (used : ℕ) {j out : List ℕ} where
   -- a refused start reports no remainder
   pub refused_starts : (room out_room : ℕ) {number : ℕ} → size_passes g ≡ false → RefusedAt p room used out_room number
       → CountStarts g c (start_count_questions p g c room used out_room) p used j out
-      (record { verdict = Verdict.Refused number 0; member = p; used = used; sent = 0; rules = 0 }) (pos 0) j out
+      (record { verdict = Verdict.Refused number 0; party = p; used = used; sent = 0; rules = 0 }) (pos 0) j out
   unfolding start_count_questions
   refused_starts room out_room {number} s r =
       let q : Found Entry = start_count_questions p g c room used out_room in
@@ -125,10 +125,10 @@ module _ (p : Member) (g : ℕ) (c : ℤ) (used : ℕ) {j out : List ℕ} where
 pub no_position : (q : Plan) (g : ℕ) (c : ℤ) → (q.kind ≡ 2 → ⊥) → count_position q g c ≡ no_output
 no_position q g c d = rw (ne_eqb q.kind 2 d)
 
-module _ (p : Member) (g : ℕ) (c : ℤ) {a : Answered} (e : a ≡ answered_of p) where
+module _ (p : Party) (g : ℕ) (c : ℤ) {a : Answered} (e : a ≡ answered_of p) where
   pub count_19 : {number place : ℕ} → a.verdict ≡ Verdict.Refused number place → count_questions p g c ≡ refused number place
   unfolding answered_of count_questions
-  count_19 {number} {place} h = go (member_valid p) (sym (ap (λ (x : Answered). x.verdict) e) ∙ h) _
+  count_19 {number} {place} h = go (party_valid p) (sym (ap (λ (x : Answered). x.verdict) e) ∙ h) _
     where
       go : (b : Bool) → (read_of p b).verdict ≡ Verdict.Refused number place → (more : Found Answer) → ask b 19 0 more ≡ refused number place
       go true i more = let z : ◌≡◌ {A = ℕ} 0 1 = cc in absurd (omega arith)
@@ -140,8 +140,8 @@ module _ (p : Member) (g : ℕ) (c : ℤ) {a : Answered} (e : a ≡ answered_of 
   module _ (h : a.verdict ≡ Verdict.Accepted) where
     pub count_25 : size_passes g ≡ false → count_questions p g c ≡ refused 25 0
     unfolding count_questions
-    count_25 s = ask_yes (member_valid p) 19 0 _ (valid_read p e h) ∙ ask_no (size_passes g) 25 0 _ (false→not-T s)
+    count_25 s = ask_yes (party_valid p) 19 0 _ (valid_read p e h) ∙ ask_no (size_passes g) 25 0 _ (false→not-T s)
 
-    pub count_12 : T (size_passes g) → count_position p.party.plan g c ≡ no_output → count_questions p g c ≡ refused 12 0
+    pub count_12 : T (size_passes g) → count_position p.plan g c ≡ no_output → count_questions p g c ≡ refused 12 0
     unfolding count_questions
-    count_12 s i = ask_yes (member_valid p) 19 0 _ (valid_read p e h) ∙ ask_yes (size_passes g) 25 0 _ s ∙ rw (eq-eqb (count_position p.party.plan g c) no_output i)
+    count_12 s i = ask_yes (party_valid p) 19 0 _ (valid_read p e h) ∙ ask_yes (size_passes g) 25 0 _ s ∙ rw (eq-eqb (count_position p.plan g c) no_output i)

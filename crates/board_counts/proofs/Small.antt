@@ -1,16 +1,15 @@
--- The answer of a board that passes question 19 is a reading of a plan.
+-- The answer of a party that passes question 19 is a reading of a plan.
 use mathlib.Core.Path.{◌≡◌, refl, sym, ap, ◌∙◌, subst}
 use mathlib.Core.Logic.{◌⊎◌, inl, inr}
-use mathlib.Core.Bool.{Bool, true, false, ◌&&◌}
+use mathlib.Core.Bool.{Bool, true, false}
 use Prim.Native.Nat.{ℕ, ◌+◌, ◌-◌, ◌^◌, ◌<◌}
 use native.Mathlib.Omega.{arith}
-use lib.Dec.{T, leb, ltb, eqb, eqb→eq, ltb→lt}
+use lib.Dec.{T, leb, eqb}
 use lib.IntN.{ℤ, pos, negsuc}
 use lib.Signed.{mag}
 use borrow.Author.Tests.{eq-eqb, ne_eqb}
 use Rattle.base.specs.Pick.{pick}
 use Rattle.base.specs.Limits.{offset_zero}
-use Rattle.base.proofs.Bools.{T-left, T-right, or_split}
 use Rattle.signed.specs.Signed.{from_offset}
 use Rattle.plan.specs.Plan.{Plan}
 use Rattle.plan.specs.Positions.{reading_of}
@@ -18,15 +17,9 @@ use Rattle.plan.specs.Valid.{plan_valid}
 use Rattle.plan_laws.proofs.Parts.{tree_parts, range_parts}
 use Rattle.plan_laws.proofs.Shape.{Kinds, tree, range, kinds}
 use Rattle.level.specs.Level.{no_output}
-use Rattle.member.specs.Member.{Member, answer_position}
-use Rattle.member.specs.Valid.{member_valid}
-use Rattle.senders.specs.Senders.{only_below}
-use Rattle.party.specs.Party.{output_of}
+use Rattle.party.specs.Party.{Party, output_of}
 use Rattle.party.specs.Valid.{party_valid}
 use Rattle.party_laws.proofs.Valid.{Output, valid→}
-use Rattle.closing.specs.declared.Closing.{Closing}
-use Rattle.closing.specs.Closing.{place_count}
-use Rattle.closing.specs.Valid.{on_plan_or_none, places_pass, closing_valid}
 use Rattle.board_calls.specs.declared.Answer.{Answer}
 use Rattle.board_calls.specs.Answers.{answer_of}
 use Rattle.board_calls.specs.Calls.{answered_of}
@@ -61,39 +54,7 @@ module _ (q : Plan) (v : T (plan_valid q)) (x : ℕ) where
       go true i = let z : ◌≡◌ {A = ℕ} 0 1 = cc in absurd (omega arith)
       go false i = let e : reading_of q x ≡ y = cc in subst (λ (z : ℤ). mag z < 2 ^ 33) e (reading_small h)
 
--- the answer of a board that passes question 19 is on its plan
-on_plan_lem : (positions x : ℕ) → T (on_plan_or_none positions x) → Output positions x
-on_plan_lem positions x h = go (or_split (eqb x no_output) (ltb x positions) h)
-  where
-    go : T (eqb x no_output) ⊎ T (ltb x positions) → Output positions x
-    go (inl e) = inl (eqb→eq x no_output e)
-    go (inr l) = inr (ltb→lt x positions l)
-
-answer_output : (m : Member) → T (member_valid m) → Output m.party.plan.count (answer_position m)
-unfolding member_valid closing_valid
-answer_output m v = go m.closing.closed
-  where
-    k : ℕ
-    k = m.party.plan.count
-
-    c : Closing
-    c = m.closing
-
-    places : Bool
-    places = places_pass m.party.n k c place_count && only_below c.ready m.party.n
-
-    values : Bool
-    values = on_plan_or_none k c.value && on_plan_or_none k c.answer
-
-    kept : T (on_plan_or_none k c.answer)
-    kept = T-right (on_plan_or_none k c.value) (on_plan_or_none k c.answer) (T-right places values (T-right (party_valid m.party) (places && values) v))
-
-    go : (b : Bool) → Output k (pick b c.answer (output_of m.party))
-    go true = on_plan_lem k c.answer kept
-    go false = ((valid→ m.party (T-left (party_valid m.party) (places && values) v)).holds 0 (omega arith)).output
-
-pub answered_small : (m : Member) → T (member_valid m) → Small (answered_of m).answer
-unfolding member_valid
-answered_small m v y i =
-    let w = valid→ m.party (T-left (party_valid m.party) (closing_valid m.party.n m.party.plan.count m.closing) v) in
-    answer_small m.party.plan w.plan (answer_position m) (answer_output m v) y (sym (answered_valid m v) ∙ i)
+pub answered_small : (p : Party) → T (party_valid p) → Small (answered_of p).answer
+answered_small p v y i =
+    let w = valid→ p v in
+    answer_small p.plan w.plan (output_of p) (w.holds 0 (omega arith)).output y (sym (answered_valid p v) ∙ i)

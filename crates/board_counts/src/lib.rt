@@ -5,7 +5,7 @@ ghost use Rattle.base.specs.Found.{refused};
 ghost use Rattle.rounding.specs.Rounding.{size_passes};
 ghost use Rattle.plan.specs.Tie.{as_plan};
 ghost use Rattle.level.specs.Level.{no_output};
-ghost use Rattle.member.specs.Tie.{as_member};
+ghost use Rattle.party.specs.Tie.{as_party};
 ghost use Rattle.board_calls.specs.Answers.{position_of};
 ghost use Rattle.board_calls.specs.Counts.{start_count_questions, count_of, count_questions, count_gives};
 ghost use Rattle.board_calls.specs.Tie.{as_called};
@@ -57,10 +57,10 @@ fn step_input(plan: plan::Plan, step: i64) -> i64
 }
 
 // The number that refuses a start by count whose size does not pass: 19, 18 and 20 are asked before 25.
-fn size_refusal(m: member::Member, room: usize, used: usize, out: usize) -> u8
-    ensures { RefusedAt (as_member m) room used out result }
+fn size_refusal(p: party::Party, room: usize, used: usize, out: usize) -> u8
+    ensures { RefusedAt (as_party p) room used out result }
 {
-    let a = board_ends::read_answer(m);
+    let a = board_ends::read_answer(p);
     let v = a.verdict;
     let number = board_questions::at_door(accepted(v), room, used, out);
     if number != 0 {
@@ -71,21 +71,21 @@ fn size_refusal(m: member::Member, room: usize, used: usize, out: usize) -> u8
 
 // The start of the count's nearest step, in steps of `size` counts.
 pub fn start_count(
-    m: member::Member,
+    p: party::Party,
     size: u32,
     count: i64,
     journal: &mut [u8],
     used: usize,
     out: &mut [u8],
 ) -> CountStarted
-    ensures { CountStarts size count (start_count_questions (as_member m) size count (length journal.old) used (length out.old)) (as_member m) used journal.old out.old (as_called result.called) result.remainder journal.new out.new }
+    ensures { CountStarts size count (start_count_questions (as_party p) size count (length journal.old) used (length out.old)) (as_party p) used journal.old out.old (as_called result.called) result.remainder journal.new out.new }
 {
     if !rounding::size_passes(size) {
-        let number = size_refusal(m, journal.len(), used, out.len());
+        let number = size_refusal(p, journal.len(), used, out.len());
         let v = base::Verdict::Refused { number, place: 0 };
         let c = Called {
             verdict: v,
-            member: m,
+            party: p,
             used: used,
             sent: 0,
             rules: 0,
@@ -96,9 +96,9 @@ pub fn start_count(
         };
     }
     let r = rounding::round(size, count);
-    let plan = m.party.plan;
+    let plan = p.plan;
     let input = step_input(plan, r.step);
-    let c = board_door::start(m, input, journal, used, out);
+    let c = board_door::start(p, input, journal, used, out);
     let v = c.verdict;
     let rest = kept(accepted(v), r.remainder);
     CountStarted {
@@ -131,13 +131,13 @@ fn count_of(size: u32, count: i64, a: Answer) -> Answer
 }
 
 // The answer as a count, for a board that started from this count, or that there is none yet.
-pub fn read_count(m: member::Member, size: u32, count: i64) -> Answered
-    ensures { result ≡ count_gives (count_questions (as_member m) size count) }
+pub fn read_count(p: party::Party, size: u32, count: i64) -> Answered
+    ensures { result ≡ count_gives (count_questions (as_party p) size count) }
 {
     // taken out before the record goes to its reading
-    let plan = m.party.plan;
-    let kind = plan.kind;
-    let a = board_ends::read_answer(m);
+    let kind = p.plan.kind;
+    let plan = p.plan;
+    let a = board_ends::read_answer(p);
     let passes = rounding::size_passes(size);
     let v = a.verdict;
     if let base::Verdict::Refused { number, place } = v {

@@ -1,7 +1,7 @@
 // Start and take: their questions, and what these found carried out. Neither asks anything of the caller.
 ghost use Rattle.std.specs.Prelude.{length};
 ghost use Rattle.plan.specs.Tie.{shaped};
-ghost use Rattle.member.specs.Tie.{member_in, as_member};
+ghost use Rattle.party.specs.Tie.{party_in, as_party};
 ghost use Rattle.board_calls.specs.Calls.{start_questions, take_questions};
 ghost use Rattle.board_calls.specs.Results.{CallGives};
 ghost use Rattle.board_calls.specs.Tie.{as_called};
@@ -16,7 +16,6 @@ use board_questions::{Asked, ask_start, ask_take};
 struct Carried {
     verdict: base::Verdict,
     levels: party::Levels,
-    closing: closing::Closing,
     used: usize,
     sent: usize,
     rules: u32,
@@ -32,14 +31,13 @@ fn carry_out(
     levels: party::Levels,
     chart: party::Chart,
     ports: &mut [u8; base::MAX_VERTICES],
-    c: closing::Closing,
     a: Asked,
     journal: &mut [u8],
     used: usize,
     out: &mut [u8],
 ) -> Carried
-    requires { Carriable (member_in v (shaped shape ps.now cs.now) levels sets.old c) chart ports.old (length journal.old) used (length out.old) a }
-    ensures { CallGives (found_by (member_in v (shaped shape ps.now cs.now) levels sets.old c) a) (member_in v (shaped shape ps.now cs.now) levels sets.old c) used journal.old out.old (carried_by v (shaped shape ps.now cs.now) sets.new result) journal.new out.new }
+    requires { Carriable (party_in v (shaped shape ps.now cs.now) levels sets.old) chart ports.old (length journal.old) used (length out.old) a }
+    ensures { CallGives (found_by (party_in v (shaped shape ps.now cs.now) levels sets.old) a) (party_in v (shaped shape ps.now cs.now) levels sets.old) used journal.old out.old (carried_by v (shaped shape ps.now cs.now) sets.new result) journal.new out.new }
 {
     match a {
         Asked::Refused { number, place } => {
@@ -47,7 +45,6 @@ fn carry_out(
             Carried {
                 verdict: verdict,
                 levels: levels,
-                closing: c,
                 used: used,
                 sent: 0,
                 rules: 0,
@@ -58,7 +55,6 @@ fn carry_out(
             Carried {
                 verdict: verdict,
                 levels: levels,
-                closing: c,
                 used: used,
                 sent: 0,
                 rules: 0,
@@ -66,16 +62,12 @@ fn carry_out(
         }
         Asked::Fresh(r) => {
             let end = journal::append(journal, used, r);
-            let ran = member_replay::replay(
-                v, shape, ps, cs, sets, levels, chart, ports, c, r, out, 0,
-            );
+            let ran = party_replay::replay(v, shape, ps, cs, sets, levels, chart, ports, r, out, 0);
             let verdict = base::Verdict::Accepted;
             let ls = ran.levels;
-            let d = ran.closing;
             Carried {
                 verdict: verdict,
                 levels: ls,
-                closing: d,
                 used: end,
                 sent: ran.sent,
                 rules: ran.rules,
@@ -86,16 +78,14 @@ fn carry_out(
 
 // A start: its questions, and what they found carried out.
 pub fn start(
-    m: member::Member,
+    mut p: party::Party,
     input: i64,
     journal: &mut [u8],
     used: usize,
     out: &mut [u8],
 ) -> Called
-    ensures { CallGives (start_questions (as_member m) input (length journal.old) used (length out.old)) (as_member m) used journal.old out.old (as_called result) journal.new out.new }
+    ensures { CallGives (start_questions (as_party p) input (length journal.old) used (length out.old)) (as_party p) used journal.old out.old (as_called result) journal.new out.new }
 {
-    let mut p = m.party;
-    let c = m.closing;
     let v = p.vote();
     let plan = p.plan;
     let shape = plan.shape();
@@ -105,18 +95,9 @@ pub fn start(
     let cs = &child;
     let levels = p.levels;
     let mut ports = [0u8; base::MAX_VERTICES];
-    let i = member_inspect::inspect(v, shape, ps, cs, levels, &p.sets, &mut ports, c);
+    let i = party_inspect::inspect(v, shape, ps, cs, levels, &p.sets, &mut ports);
     let x = board_positions::position_of(plan, input);
-    let first = levels[0];
-    let a = ask_start(
-        i.ok,
-        member_finish::begins(c.closed, first.entered),
-        v.agreement,
-        x,
-        journal.len(),
-        used,
-        out.len(),
-    );
+    let a = ask_start(i.ok, v, levels, x, journal.len(), used, out.len());
     let g = carry_out(
         v,
         shape,
@@ -126,7 +107,6 @@ pub fn start(
         levels,
         i.chart,
         &mut ports,
-        c,
         a,
         journal,
         used,
@@ -134,15 +114,10 @@ pub fn start(
     );
     let ls = g.levels;
     p.levels = ls;
-    let d = g.closing;
     let verdict = g.verdict;
-    let next = member::Member {
-        party: p,
-        closing: d,
-    };
     Called {
         verdict: verdict,
-        member: next,
+        party: p,
         used: g.used,
         sent: g.sent,
         rules: g.rules,
@@ -151,17 +126,15 @@ pub fn start(
 
 // A take: its questions, and what they found carried out.
 pub fn take(
-    m: member::Member,
+    mut p: party::Party,
     sender: u32,
     bytes: &[u8],
     journal: &mut [u8],
     used: usize,
     out: &mut [u8],
 ) -> Called
-    ensures { CallGives (take_questions (as_member m) sender bytes.now (length journal.old) used (length out.old)) (as_member m) used journal.old out.old (as_called result) journal.new out.new }
+    ensures { CallGives (take_questions (as_party p) sender bytes.now (length journal.old) used (length out.old)) (as_party p) used journal.old out.old (as_called result) journal.new out.new }
 {
-    let mut p = m.party;
-    let c = m.closing;
     let v = p.vote();
     let plan = p.plan;
     let shape = plan.shape();
@@ -171,13 +144,11 @@ pub fn take(
     let cs = &child;
     let levels = p.levels;
     let mut ports = [0u8; base::MAX_VERTICES];
-    let i = member_inspect::inspect(v, shape, ps, cs, levels, &p.sets, &mut ports, c);
+    let i = party_inspect::inspect(v, shape, ps, cs, levels, &p.sets, &mut ports);
     let a = ask_take(
         i.ok,
         v,
-        shape.count,
         &p.sets,
-        c,
         sender,
         bytes,
         journal.len(),
@@ -193,7 +164,6 @@ pub fn take(
         levels,
         i.chart,
         &mut ports,
-        c,
         a,
         journal,
         used,
@@ -201,15 +171,10 @@ pub fn take(
     );
     let ls = g.levels;
     p.levels = ls;
-    let d = g.closing;
     let verdict = g.verdict;
-    let next = member::Member {
-        party: p,
-        closing: d,
-    };
     Called {
         verdict: verdict,
-        member: next,
+        party: p,
         used: g.used,
         sent: g.sent,
         rules: g.rules,

@@ -13,32 +13,32 @@ use Rattle.journal.specs.declared.Record.{Record}
 use Rattle.journal.specs.declared.RecordRead.{RecordRead}
 use Rattle.journal.specs.Reading.{record_at}
 use Rattle.journal.proofs.RoundTrip.{record_was_written}
-use Rattle.member.specs.Run.{MemberRan}
-use Rattle.member_life.specs.Life.{replayed, following, fault, Fits}
-use Rattle.member_life.proofs.Fits.{fault_fits}
+use Rattle.party.specs.Run.{Ran}
+use Rattle.party_life.specs.Life.{replayed, following, fault, Fits}
+use Rattle.party_life.proofs.Fits.{fault_fits}
 use Rattle.board_calls.specs.Restore.{Replay, replay_from}
 use Rattle.board_laws.proofs.Replays.{replay_end, replay_torn, replay_bad, replay_read}
 
-module _ (Q : MemberRan → Type 0) (j : List ℕ) (all : AllBytes j) (keeps : (r : MemberRan) (x : Record) → Q r → Fits r.member x → Q (following r (replayed r.member x))) where
+module _ (Q : Ran → Type 0) (j : List ℕ) (all : AllBytes j) (keeps : (r : Ran) (x : Record) → Q r → Fits r.party x → Q (following r (replayed r.party x))) where
   -- where the records end
-  ends : (r : MemberRan) (at : ℕ) (x : Replay) → Q r → found (record { ran = r; used = at }) ≡ found x → Q x.ran
+  ends : (r : Ran) (at : ℕ) (x : Replay) → Q r → found (record { ran = r; used = at }) ≡ found x → Q x.ran
   ends r at x w e = let i : record { ran = r; used = at } ≡ x = cc in subst (λ (y : Replay). Q y.ran) i w
 
   -- what the records from some place on make
-  pub replay_keeps : (f at : ℕ) (r : MemberRan) (x : Replay) → Q r → replay_from f j at r ≡ found x → Q x.ran
+  pub replay_keeps : (f at : ℕ) (r : Ran) (x : Replay) → Q r → replay_from f j at r ≡ found x → Q x.ran
   unfolding replay_from
   replay_keeps zero at r x w e = ends r at x w e
   replay_keeps (suc f) at r x w e = go (dec_lt at (length j)) (replay_keeps f)
     where
       Rest : Type 0
-      Rest = (at : ℕ) (r : MemberRan) (x : Replay) → Q r → replay_from f j at r ≡ found x → Q x.ran
+      Rest = (at : ℕ) (r : Ran) (x : Replay) → Q r → replay_from f j at r ≡ found x → Q x.ran
 
       read : at < length j → (y : RecordRead) → record_at j at ≡ y → Rest → Q x.ran
       read h (RecordRead.Read rec next) i rest =
-          let q : MemberRan = following r (replayed r.member rec) in
-          let k : ℕ = fault r.member rec in
+          let q : Ran = following r (replayed r.party rec) in
+          let k : ℕ = fault r.party rec in
           let a = asked (eqb k 0) k at (replay_from f j next q) x (sym (replay_read f j at r h rec next i) ∙ e) in
-          rest next q x (keeps r rec w (fault_fits r.member rec (record_was_written j at rec next all i).limits (eqb→eq k 0 a.0))) a.1
+          rest next q x (keeps r rec w (fault_fits r.party rec (record_was_written j at rec next all i).limits (eqb→eq k 0 a.0))) a.1
       read h RecordRead.Torn i rest = ends r at x w (sym (replay_torn f j at r h i) ∙ e)
       read h RecordRead.Bad i rest =
           let b : refused 21 at ≡ found x = sym (replay_bad f j at r h i) ∙ e in

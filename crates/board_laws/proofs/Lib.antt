@@ -2,8 +2,6 @@ pub mod Inputs
 pub mod Questions
 pub mod Recorded
 pub mod Counts
-pub mod New
-pub mod Started
 pub mod Replays
 pub mod Kept
 pub mod Restored

@@ -5,7 +5,7 @@ use Prim.Native.Nat.{ℕ, ◌≤◌, ◌<◌}
 use native.Mathlib.Omega.{arith}
 use lib.ListN.{length}
 use borrow.Author.Tests.{le-leb, lt-leb}
-use Rattle.base.specs.Limits.{member_bytes}
+use Rattle.base.specs.Limits.{outgoing_size}
 use Rattle.base.specs.declared.Verdict.{Verdict}
 use Rattle.base.specs.Found.{Found, found, refused}
 use Rattle.settings.specs.Settings.{settings_fault, settings_fit}
@@ -13,19 +13,19 @@ use Rattle.plan.specs.Plan.{Plan}
 use Rattle.plan.specs.Reading.{plan_of, settled_plan, PlanRead, answered}
 use Rattle.plan.proofs.Listed.{asked}
 use Rattle.plan_laws.proofs.Given.{found_good}
-use Rattle.member.specs.Member.{new_member}
-use Rattle.member.specs.Run.{resting}
+use Rattle.party.specs.Party.{new_party}
+use Rattle.party.specs.Run.{resting}
 use Rattle.board_calls.specs.Restore.{replay_from, on_plan_read, restore_questions}
 use Rattle.board_laws.specs.Inner.{New}
 
 -- ---- settings and plan
 
 module _ (n t own : ℕ) (s : List ℕ) {plan : Plan} where
-  pub settled_new : (a : ℕ) → settled_plan n t own s ≡ found plan → New (new_member n t own a plan)
+  pub settled_new : (a : ℕ) → settled_plan n t own s ≡ found plan → New (new_party n t own a plan)
   unfolding settled_plan
   settled_new a e =
       let g = asked (settings_fit n t own) (settings_fault n t own) 0 (plan_of s) plan e in
-      record { settings = g.0; plan = (found_good s plan g.1).passes; levels = refl; closing = refl }
+      record { settings = g.0; plan = (found_good s plan g.1).passes; levels = refl }
 
 -- the answer's verdict tells what was found
 module _ {f : Found Plan} {r : PlanRead} (e : r ≡ answered f) where
@@ -54,18 +54,18 @@ module _ {f : Found Plan} {r : PlanRead} (e : r ≡ answered f) where
 -- ---- restore's questions
 
 module _ (n t own a : ℕ) (bytes j : List ℕ) (out : ℕ) where
-  pub restore_short : out < member_bytes → restore_questions n t own a bytes j out ≡ refused 18 0
+  pub restore_short : out < outgoing_size → restore_questions n t own a bytes j out ≡ refused 18 0
   unfolding restore_questions
-  restore_short h = rw (lt-leb member_bytes out h)
+  restore_short h = rw (lt-leb outgoing_size out h)
 
-  module _ (h : member_bytes ≤ out) where
+  module _ (h : outgoing_size ≤ out) where
     room : restore_questions n t own a bytes j out ≡ on_plan_read n t own a j (settled_plan n t own bytes)
     unfolding restore_questions
-    room = rw (le-leb member_bytes out h)
+    room = rw (le-leb outgoing_size out h)
 
     pub restore_refused : {number place : ℕ} → settled_plan n t own bytes ≡ refused number place → restore_questions n t own a bytes j out ≡ refused number place
     restore_refused e = room ∙ ap (on_plan_read n t own a j) e
 
     pub restore_found : {plan : Plan} → settled_plan n t own bytes ≡ found plan
-        → restore_questions n t own a bytes j out ≡ replay_from (length j) j 0 (resting (new_member n t own a plan))
+        → restore_questions n t own a bytes j out ≡ replay_from (length j) j 0 (resting (new_party n t own a plan))
     restore_found e = room ∙ ap (on_plan_read n t own a j) e

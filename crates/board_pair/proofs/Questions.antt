@@ -4,16 +4,16 @@ use Prim.Native.Nat.{ℕ}
 use borrow.Author.Tests.{eq-eqb, ne_eqb}
 use Rattle.base.specs.declared.Verdict.{Verdict}
 use Rattle.base.specs.Found.{found, refused}
-use Rattle.member.specs.Member.{Member}
+use Rattle.party.specs.Party.{Party}
 use Rattle.board_calls.specs.declared.Answered.{Answered}
 use Rattle.board_calls.specs.Calls.{answered_of}
 use Rattle.board_pair.specs.Pair.{pair_of, pair_questions}
 
--- what a board's own reading says
-pub own_verdict : (p : Member) {a : Answered} {v : Verdict} → a ≡ answered_of p → a.verdict ≡ v → (answered_of p).verdict ≡ v
+-- what a party's own reading says
+pub own_verdict : (p : Party) {a : Answered} {v : Verdict} → a ≡ answered_of p → a.verdict ≡ v → (answered_of p).verdict ≡ v
 own_verdict p e h = sym (ap (λ (x : Answered). x.verdict) e) ∙ h
 
-module _ (p q : Member) where
+module _ (p q : Party) where
   pub first_refused : {number place : ℕ} → (answered_of p).verdict ≡ Verdict.Refused number place → pair_questions p q ≡ refused number place
   unfolding pair_questions
   first_refused h = rw h
@@ -24,20 +24,20 @@ module _ (p q : Member) where
     second_refused h = rw (u, h)
 
     module _ (v : (answered_of q).verdict ≡ Verdict.Accepted) where
-      pub equal_numbers : p.party.agreement ≡ q.party.agreement → pair_questions p q ≡ refused 27 0
+      pub equal_numbers : p.agreement ≡ q.agreement → pair_questions p q ≡ refused 27 0
       unfolding pair_questions
-      equal_numbers h = rw (u, v, eq-eqb p.party.agreement q.party.agreement h)
+      equal_numbers h = rw (u, v, eq-eqb p.agreement q.agreement h)
 
-      module _ (d : p.party.agreement ≡ q.party.agreement → ⊥) where
-        pub first_no_range : (p.party.plan.kind ≡ 2 → ⊥) → pair_questions p q ≡ refused 12 0
+      module _ (d : p.agreement ≡ q.agreement → ⊥) where
+        pub first_no_range : (p.plan.kind ≡ 2 → ⊥) → pair_questions p q ≡ refused 12 0
         unfolding pair_questions
-        first_no_range h = rw (u, v, ne_eqb p.party.agreement q.party.agreement d, ne_eqb p.party.plan.kind 2 h)
+        first_no_range h = rw (u, v, ne_eqb p.agreement q.agreement d, ne_eqb p.plan.kind 2 h)
 
-        module _ (k : p.party.plan.kind ≡ 2) where
-          pub second_no_range : (q.party.plan.kind ≡ 2 → ⊥) → pair_questions p q ≡ refused 12 0
+        module _ (k : p.plan.kind ≡ 2) where
+          pub second_no_range : (q.plan.kind ≡ 2 → ⊥) → pair_questions p q ≡ refused 12 0
           unfolding pair_questions
-          second_no_range h = rw (u, v, ne_eqb p.party.agreement q.party.agreement d, eq-eqb p.party.plan.kind 2 k, ne_eqb q.party.plan.kind 2 h)
+          second_no_range h = rw (u, v, ne_eqb p.agreement q.agreement d, eq-eqb p.plan.kind 2 k, ne_eqb q.plan.kind 2 h)
 
-          pub all_pass : q.party.plan.kind ≡ 2 → pair_questions p q ≡ found (pair_of (answered_of p).answer (answered_of q).answer)
+          pub all_pass : q.plan.kind ≡ 2 → pair_questions p q ≡ found (pair_of (answered_of p).answer (answered_of q).answer)
           unfolding pair_questions
-          all_pass h = rw (u, v, ne_eqb p.party.agreement q.party.agreement d, eq-eqb p.party.plan.kind 2 k, eq-eqb q.party.plan.kind 2 h)
+          all_pass h = rw (u, v, ne_eqb p.agreement q.agreement d, eq-eqb p.plan.kind 2 k, eq-eqb q.plan.kind 2 h)

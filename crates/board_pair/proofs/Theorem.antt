@@ -1,4 +1,4 @@
--- The pair's answer is y and z exactly when both boards answer so, on ranges, under two agreement numbers.
+-- The pair's answer is y and z exactly when both parties answer so, on ranges, under two agreement numbers.
 use mathlib.Core.Path.{◌≡◌, refl, ap, ap₂, ◌∙◌}
 use mathlib.Core.Bool.{Bool, true, false, not}
 use Prim.Native.Nat.{ℕ}
@@ -11,8 +11,8 @@ use Rattle.base.specs.declared.Verdict.{Verdict}
 use Rattle.base.specs.Found.{Found, found}
 use Rattle.base.proofs.Bools.{true→T}
 use Rattle.plan.proofs.Listed.{asked}
-use Rattle.member.specs.Member.{Member, answer_position}
-use Rattle.member.specs.Valid.{member_valid}
+use Rattle.party.specs.Party.{Party, output_of}
+use Rattle.party.specs.Valid.{party_valid}
 use Rattle.board_calls.specs.declared.Answer.{Answer}
 use Rattle.board_calls.specs.declared.Answered.{Answered}
 use Rattle.board_calls.specs.Answers.{answer_of}
@@ -22,7 +22,7 @@ use Rattle.board_pair.specs.Pair.{pair_of, asking, pair_questions}
 use Rattle.board_pair.specs.Statement.{BothAnswer, Exact}
 use Rattle.board_pair.proofs.Questions.{all_pass}
 
--- a value is found only where a board's own reading is accepted
+-- a value is found only where a party's own reading is accepted
 accepted : {A : Type 0} (v : Verdict) (go : Found A) (x : A) → asking v go ≡ found x → (v ≡ Verdict.Accepted) × (go ≡ found x)
 accepted Verdict.Accepted go x e = (refl, e)
 accepted (Verdict.Refused number place) go x e = let z : ◌≡◌ {A = ℕ} 0 1 = cc in absurd (omega arith)
@@ -36,36 +36,36 @@ both (Answer.At x) (Answer.At w) y z e =
     let j : w ≡ z = cc in
     (ap Answer.At i, ap Answer.At j)
 
--- a board that answers is not refused
-module _ (p : Member) where
+-- a party that answers is not refused
+module _ (p : Party) where
   abbrev read : Bool → Answered
-  read valid = pick valid (record { verdict = Verdict.Accepted; answer = answer_of p.party.plan (answer_position p) }) (record { verdict = Verdict.Refused 19 0; answer = Answer.None })
+  read valid = pick valid (record { verdict = Verdict.Accepted; answer = answer_of p.plan (output_of p) }) (record { verdict = Verdict.Refused 19 0; answer = Answer.None })
 
   answers_accepted : (y : ℤ) → (answered_of p).answer ≡ Answer.At y → (answered_of p).verdict ≡ Verdict.Accepted
   unfolding answered_of
-  answers_accepted y e = go (member_valid p) e
+  answers_accepted y e = go (party_valid p) e
     where
       go : (valid : Bool) → (read valid).answer ≡ Answer.At y → (read valid).verdict ≡ Verdict.Accepted
       go true e = refl
       go false e = let o : ◌≡◌ {A = ℕ} 0 1 = cc in absurd (omega arith)
 
-module _ (p q : Member) (y z : ℤ) where
+module _ (p q : Party) (y z : ℤ) where
   only_then : pair_questions p q ≡ found (PairAnswer.At y z) → BothAnswer p q y z
   unfolding pair_questions
   only_then e =
       let a = accepted (answered_of p).verdict _ (PairAnswer.At y z) e in
       let b = accepted (answered_of q).verdict _ (PairAnswer.At y z) a.1 in
-      let n = asked (not (eqb p.party.agreement q.party.agreement)) 27 0 _ (PairAnswer.At y z) b.1 in
-      let k = asked (eqb p.party.plan.kind 2) 12 0 _ (PairAnswer.At y z) n.1 in
-      let l = asked (eqb q.party.plan.kind 2) 12 0 _ (PairAnswer.At y z) k.1 in
+      let n = asked (not (eqb p.agreement q.agreement)) 27 0 _ (PairAnswer.At y z) b.1 in
+      let k = asked (eqb p.plan.kind 2) 12 0 _ (PairAnswer.At y z) n.1 in
+      let l = asked (eqb q.plan.kind 2) 12 0 _ (PairAnswer.At y z) k.1 in
       let f : found (pair_of (answered_of p).answer (answered_of q).answer) ≡ found (PairAnswer.At y z) = l.1 in
       let i : pair_of (answered_of p).answer (answered_of q).answer ≡ PairAnswer.At y z = cc in
       let g = both (answered_of p).answer (answered_of q).answer y z i in
       record {
         first = g.0;
         second = g.1;
-        numbers = λ s. T_not (eqb p.party.agreement q.party.agreement) n.0 (true→T (eq-eqb p.party.agreement q.party.agreement s));
-        ranges = (eqb→eq p.party.plan.kind 2 k.0, eqb→eq q.party.plan.kind 2 l.0);
+        numbers = λ s. T_not (eqb p.agreement q.agreement) n.0 (true→T (eq-eqb p.agreement q.agreement s));
+        ranges = (eqb→eq p.plan.kind 2 k.0, eqb→eq q.plan.kind 2 l.0);
       }
 
   then : BothAnswer p q y z → pair_questions p q ≡ found (PairAnswer.At y z)

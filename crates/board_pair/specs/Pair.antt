@@ -2,7 +2,7 @@
 use Rattle.std.specs.Prelude.{not, eqb}
 use Rattle.base.specs.declared.Verdict.{Verdict}
 use Rattle.base.specs.Found.{Found, found, refused, ask}
-use Rattle.member.specs.Member.{Member}
+use Rattle.party.specs.Party.{Party}
 use Rattle.board_calls.specs.declared.Answer.{Answer}
 use Rattle.board_calls.specs.Calls.{answered_of}
 use Rattle.board_pair.specs.declared.PairAnswer.{PairAnswer}
@@ -14,19 +14,19 @@ pair_of Answer.None b = PairAnswer.None
 pair_of (Answer.At y) Answer.None = PairAnswer.None
 pair_of (Answer.At y) (Answer.At z) = PairAnswer.At y z
 
--- a board's own reading asks its questions: where it refuses, so does the pair's, with its number and place
+-- a party's own reading asks its questions: where it refuses, so does the pair's, with its number and place
 abbrev pub asking : {A : Type 0} → Verdict → Found A → Found A
 asking Verdict.Accepted go = go
 asking (Verdict.Refused number place) go = refused number place
 
 -- "Its reading asks the first party's questions, the second's, then 27 for equal numbers and 12 for a plan that is no range."
-unfoldable pub pair_questions : Member → Member → Found PairAnswer
+unfoldable pub pair_questions : Party → Party → Found PairAnswer
 pair_questions p q =
     asking (answered_of p).verdict
     (asking (answered_of q).verdict
-    (ask (not (eqb p.party.agreement q.party.agreement)) 27 0
-    (ask (eqb p.party.plan.kind 2) 12 0
-    (ask (eqb q.party.plan.kind 2) 12 0
+    (ask (not (eqb p.agreement q.agreement)) 27 0
+    (ask (eqb p.plan.kind 2) 12 0
+    (ask (eqb q.plan.kind 2) 12 0
     (found (pair_of (answered_of p).answer (answered_of q).answer))))))
 
 -- what the call gives

@@ -1,7 +1,7 @@
 // The reading of a pair: two range votes under two agreement numbers, read as one. It asks nothing of the caller.
 ghost use Rattle.std.specs.Prelude.{◌≡◌};
 ghost use Rattle.base.specs.Found.{refused};
-ghost use Rattle.member.specs.Tie.{as_member};
+ghost use Rattle.party.specs.Tie.{as_party};
 ghost use Rattle.board_pair.specs.Pair.{pair_of, pair_questions, pair_gives};
 
 use board_calls::{Answer, RANGE};
@@ -44,16 +44,16 @@ fn refuse(number: u8, place: usize) -> PairAnswered
     }
 }
 
-// The pair of both boards' answers, or that there is none yet. "Its reading asks the first party's questions, the second's, then 27 for equal numbers and 12
+// The pair of both parties' answers, or that there is none yet. "Its reading asks the first party's questions, the second's, then 27 for equal numbers and 12
 // for a plan that is no range."
-pub fn read_pair(first: member::Member, second: member::Member) -> PairAnswered
-    ensures { result ≡ pair_gives (pair_questions (as_member first) (as_member second)) }
+pub fn read_pair(first: party::Party, second: party::Party) -> PairAnswered
+    ensures { result ≡ pair_gives (pair_questions (as_party first) (as_party second)) }
 {
     // taken out before the records go to their readings
-    let first_number = first.party.agreement;
-    let first_kind = first.party.plan.kind;
-    let second_number = second.party.agreement;
-    let second_kind = second.party.plan.kind;
+    let first_number = first.agreement;
+    let first_kind = first.plan.kind;
+    let second_number = second.agreement;
+    let second_kind = second.plan.kind;
     let a = board_ends::read_answer(first);
     let v = a.verdict;
     if let base::Verdict::Refused { number, place } = v {

@@ -4,4 +4,3 @@ pub mod Outgoing
 pub mod Refused
 pub mod Restored
 pub mod Starts
-pub mod Typed

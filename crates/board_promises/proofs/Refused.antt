@@ -7,15 +7,15 @@ use Rattle.base.specs.declared.Verdict.{Verdict}
 use Rattle.base.specs.Found.{Found, found, refused}
 use Rattle.plan.specs.Plan.{Plan}
 use Rattle.plan.specs.Reading.{settled_plan}
+use Rattle.party.specs.declared.Party as Code
+use Rattle.party.specs.Party.{Party}
+use Rattle.party.specs.Tie.{as_party}
 use Rattle.party.specs.Inner.{Whole}
 use Rattle.party.proofs.Ties.{party_one}
-use Rattle.member.specs.declared.Member as Code
-use Rattle.member.specs.Member.{Member}
-use Rattle.member.specs.Tie.{as_member}
 use Rattle.board_calls.specs.declared.SetUp as CodeSetUp
 use Rattle.board_calls.specs.declared.Called as CodeCalled
 use Rattle.board_calls.specs.Tie.{as_set_up, as_called}
-use Rattle.board_calls.specs.Calls.{SetUp, Called, Entry, again, fresh, no_member, set_up_answer, set_up_of}
+use Rattle.board_calls.specs.Calls.{SetUp, Called, Entry, again, fresh, no_party, set_up_answer, set_up_of}
 use Rattle.board_calls.specs.Restore.{Replay}
 use Rattle.board_calls.specs.Results.{CallGives, RestoreGives}
 use Rattle.board_promises.specs.Refused.{Untouched}
@@ -23,7 +23,7 @@ use Rattle.board_promises.specs.Refused.{Untouched}
 -- ---- start and take
 
 -- A refused start, start by count or take.
-pub refused_untouched : {q : Found Entry} {p : Member} {used : ℕ} {j out : List ℕ} {r : Called} {jThen out_then : List ℕ}
+pub refused_untouched : {q : Found Entry} {p : Party} {used : ℕ} {j out : List ℕ} {r : Called} {jThen out_then : List ℕ}
     → CallGives q p used j out r jThen out_then → (number place : ℕ) → r.verdict ≡ Verdict.Refused number place → Untouched p used j out r jThen out_then
 refused_untouched {q} {p} {used} {j} {out} {r} {jThen} {out_then} g number place v = go q g
   where
@@ -35,7 +35,7 @@ refused_untouched {q} {p} {used} {j} {out} {r} {jThen} {out_then} g number place
     go (found again) g = absurd (accepted (sym v ∙ ap (λ (c : Called). c.verdict) g.result))
     go (found (fresh x ran)) g = absurd (accepted (sym v ∙ ap (λ (c : Called). c.verdict) g.result))
     go (refused k at) g = record {
-      member = ap (λ (c : Called). c.member) g.result;
+      party = ap (λ (c : Called). c.party) g.result;
       used_then = ap (λ (c : Called). c.used) g.result;
       journal = g.journal;
       outgoing = g.outgoing;
@@ -43,55 +43,49 @@ refused_untouched {q} {p} {used} {j} {out} {r} {jThen} {out_then} g number place
       rules = ap (λ (c : Called). c.rules) g.result;
     }
 
--- a record stands for one board only. `Whole` says how long its arrays are, which every value of the type has (`party_step/proofs/Typed.antt` `typed_whole`)
-member_one : (a b : Code.Member) → Whole a.party → Whole b.party → as_member a ≡ as_member b → a ≡ b
-member_one a b h i e =
-    let p = party_one a.party b.party h i (ap (λ (m : Member). m.party) e) in
-    λ k. record { party = p k; closing = ap (λ (m : Member). m.closing) e k }
-
--- The code's record is the very one that was given.
-pub refused_back : {q : Found Entry} {p : Code.Member} {used : ℕ} {j out : List ℕ} {r : CodeCalled.Called} {jThen out_then : List ℕ} → Whole p.party → Whole r.member.party
-    → CallGives q (as_member p) used j out (as_called r) jThen out_then → (number place : ℕ) → r.verdict ≡ Verdict.Refused number place → r.member ≡ p
-refused_back {p = p} {r = r} h i g number place v = member_one r.member p i h (refused_untouched g number place v).member
+-- The code's record is the very one that was given: a record stands for one party only. `Whole` says how long its arrays are, which every value of the type has (`party_step/proofs/Typed.antt` `typed_whole`).
+pub refused_back : {q : Found Entry} {p : Code.Party} {used : ℕ} {j out : List ℕ} {r : CodeCalled.Called} {jThen out_then : List ℕ} → Whole p → Whole r.party
+    → CallGives q (as_party p) used j out (as_called r) jThen out_then → (number place : ℕ) → r.verdict ≡ Verdict.Refused number place → r.party ≡ p
+refused_back {p = p} {r = r} h i g number place v = party_one r.party p i h (refused_untouched g number place v).party
 
 -- ---- restore
 
 -- A refused restore: it was lent no party, and gives none; its journal is only read.
 pub refused_restore : {q : Found Replay} {out : List ℕ} {r : Called} {out_then : List ℕ}
-    → RestoreGives q out r out_then → (number place : ℕ) → r.verdict ≡ Verdict.Refused number place → (out_then ≡ out) × (r.member ≡ no_member) × (r.used ≡ 0) × (r.sent ≡ 0)
+    → RestoreGives q out r out_then → (number place : ℕ) → r.verdict ≡ Verdict.Refused number place → (out_then ≡ out) × (r.party ≡ no_party) × (r.used ≡ 0) × (r.sent ≡ 0)
 refused_restore {q} {out} {r} {out_then} g number place v = go q g
   where
-    go : (q : Found Replay) → RestoreGives q out r out_then → (out_then ≡ out) × (r.member ≡ no_member) × (r.used ≡ 0) × (r.sent ≡ 0)
+    go : (q : Found Replay) → RestoreGives q out r out_then → (out_then ≡ out) × (r.party ≡ no_party) × (r.used ≡ 0) × (r.sent ≡ 0)
     go (found x) g =
         let e : Verdict.Refused number place ≡ Verdict.Accepted = sym v ∙ ap (λ (c : Called). c.verdict) g.result in
         let z : ◌≡◌ {A = ℕ} 0 1 = cc in absurd (omega arith)
-    go (refused k at) g = (g.outgoing, ap (λ (c : Called). c.member) g.result, ap (λ (c : Called). c.used) g.result, ap (λ (c : Called). c.sent) g.result)
+    go (refused k at) g = (g.outgoing, ap (λ (c : Called). c.party) g.result, ap (λ (c : Called). c.used) g.result, ap (λ (c : Called). c.sent) g.result)
 
 -- ---- set-up
 
 -- A refused set-up: nothing was lent to it but the plan's bytes, which it only reads.
 pub refused_set_up : (n t own a : ℕ) (bytes : List ℕ) (number place : ℕ) → (set_up_of n t own a bytes).verdict ≡ Verdict.Refused number place
-    → (set_up_of n t own a bytes).member ≡ no_member
+    → (set_up_of n t own a bytes).party ≡ no_party
 unfolding set_up_of
 refused_set_up n t own a bytes number place v = go (settled_plan n t own bytes) v
   where
-    go : (f : Found Plan) → (set_up_answer n t own a f).verdict ≡ Verdict.Refused number place → (set_up_answer n t own a f).member ≡ no_member
+    go : (f : Found Plan) → (set_up_answer n t own a f).verdict ≡ Verdict.Refused number place → (set_up_answer n t own a f).party ≡ no_party
     go (found plan) v = let z : ◌≡◌ {A = ℕ} 0 1 = cc in absurd (omega arith)
     go (refused k at) v = refl
 
 -- ---- what a contract says of a result fixes the struct, whose arrays have their type's lengths
 
-pub set_up_one : (r s : CodeSetUp.SetUp) → Whole r.member.party → Whole s.member.party → as_set_up r ≡ as_set_up s → r ≡ s
+pub set_up_one : (r s : CodeSetUp.SetUp) → Whole r.party → Whole s.party → as_set_up r ≡ as_set_up s → r ≡ s
 set_up_one r s h i e =
-    let p = member_one r.member s.member h i (ap (λ (c : SetUp). c.member) e) in
-    λ k. record { verdict = ap (λ (c : SetUp). c.verdict) e k; member = p k }
+    let p = party_one r.party s.party h i (ap (λ (c : SetUp). c.party) e) in
+    λ k. record { verdict = ap (λ (c : SetUp). c.verdict) e k; party = p k }
 
-pub called_one : (r s : CodeCalled.Called) → Whole r.member.party → Whole s.member.party → as_called r ≡ as_called s → r ≡ s
+pub called_one : (r s : CodeCalled.Called) → Whole r.party → Whole s.party → as_called r ≡ as_called s → r ≡ s
 called_one r s h i e =
-    let p = member_one r.member s.member h i (ap (λ (c : Called). c.member) e) in
+    let p = party_one r.party s.party h i (ap (λ (c : Called). c.party) e) in
     λ k. record {
       verdict = ap (λ (c : Called). c.verdict) e k;
-      member = p k;
+      party = p k;
       used = ap (λ (c : Called). c.used) e k;
       sent = ap (λ (c : Called). c.sent) e k;
       rules = ap (λ (c : Called). c.rules) e k;

@@ -1,14 +1,14 @@
 -- An accepted restore gives the life of the journal's whole records and writes that life's messages, each once; the outgoing buffer suffices for every life.
 use mathlib.Core.Path.{◌≡◌, refl, sym, ap, ap₂, ◌∙◌, subst}
 use mathlib.Core.List.{List, [], ◌∷◌}
-use Prim.Native.Nat.{ℕ, zero, suc, ◌-◌, ◌≤◌, ◌<◌}
+use Prim.Native.Nat.{ℕ, zero, suc, ◌+◌, ◌-◌, ◌≤◌, ◌<◌}
 use native.Mathlib.Decide.{dec_lt}
 use native.Mathlib.Omega.{arith}
 use lib.Dec.{leb, eqb, eqb→eq}
 use lib.ListN.{length, drop, length-take, length-drop}
 use lib.Seq.{drop_at}
 use Rattle.base.specs.Distinct.{Distinct}
-use Rattle.base.specs.Limits.{max_number, member_bytes}
+use Rattle.base.specs.Limits.{max_number, last_level, outgoing_size}
 use Rattle.base.specs.Put.{put_at}
 use Rattle.base.specs.Found.{Found, found, refused}
 use Rattle.base.proofs.Puts.{put_zero}
@@ -23,36 +23,31 @@ use Rattle.journal.specs.Reading.{record_at, records_from, records_in}
 use Rattle.journal.proofs.RoundTrip.{record_was_written}
 use Rattle.journal.proofs.Records.{journal_none, journal_length, records_read, records_torn}
 use Rattle.journal.proofs.Torn.{record_at_end}
-use Rattle.member.specs.Member.{Member, new_member}
-use Rattle.member.specs.Run.{MemberRan, bytes_of}
-use Rattle.member.specs.Typed.{Typed}
-use Rattle.member_laws.proofs.Laws.{Sized, sized_valid, typed_sized}
-use Rattle.member_life.specs.Life.{lived, fault, Life}
-use Rattle.member_life.proofs.Fits.{fault_fits}
-use Rattle.member_bounds.proofs.Laws.{life_rules, life_bytes}
-use Rattle.member_once.proofs.Once.{once}
+use Rattle.party.specs.Party.{Party, new_party}
+use Rattle.party.specs.Run.{Ran, bytes_of}
+use Rattle.party.specs.Typed.{Typed}
+use Rattle.party_life.specs.Life.{lived, fault, Life}
+use Rattle.party_life.proofs.Fits.{fault_fits}
+use Rattle.party_bounds.proofs.Laws.{Sized, lived_within, typed_sized}
+use Rattle.party_once.proofs.Once.{once}
 use Rattle.board_calls.specs.Calls.{Called}
 use Rattle.board_calls.specs.Restore.{Replay, replay_from, on_plan_read, restore_questions, restored_of, restore_outgoing}
 use Rattle.board_calls.specs.Results.{RestoreGives}
-use Rattle.board_laws.proofs.New.{new_sized}
-use Rattle.board_laws.proofs.Replays.{replay_end, replay_torn, replay_bad, replay_read}
+use Rattle.board_laws.proofs.Replays.{new_sized, replay_end, replay_torn, replay_bad, replay_read, outgoing_most}
 use Rattle.board_laws.proofs.Restored.{settled_new}
-use Rattle.board_promises.specs.Restored.{LivedAgain, WritesAll, RestoresAll, BufferSuffices, RulesBounded}
+use Rattle.board_promises.specs.Restored.{LivedAgain, WritesAll, RestoresAll, BufferSuffices}
 use Rattle.board_promises.proofs.Outgoing.{restore_outgoing_lem}
 
--- ---- the bounds
+-- ---- the buffer
 
 -- "The buffer suffices": the bound on messages is one for a whole life.
 pub buffer_suffices : BufferSuffices
-buffer_suffices p t v = life_bytes p (typed_sized p t v)
-
--- "a party's rule count stays within 430"
-pub rules_bounded : RulesBounded
-rules_bounded p t v = life_rules p (typed_sized p t v)
+buffer_suffices p t v rs l =
+    outgoing_most p (lived p rs) (lived_within (last_level + 1) (omega arith) p (typed_sized p t v) rs l)
 
 -- ---- the records
 
-module _ (p : Member) (j : List ℕ) (all : AllBytes j) where
+module _ (p : Party) (j : List ℕ) (all : AllBytes j) where
   -- what is replayed is the life of some records, and their bytes are used
   abbrev Gave : List Record → Replay → Type 0
   Gave rs x = Life p rs × (x.ran ≡ lived p rs) × (x.used ≡ length (journal_bytes rs))
@@ -84,11 +79,11 @@ module _ (p : Member) (j : List ℕ) (all : AllBytes j) where
 
       read : at < length j → (y : RecordRead) → record_at j at ≡ y → Rest → Gave (records_from (suc f) j at rs) x
       read b (RecordRead.Read z next) i rest =
-          let r : MemberRan = lived p rs in
-          let k : ℕ = fault r.member z in
+          let r : Ran = lived p rs in
+          let k : ℕ = fault r.party z in
           let a = asked (eqb k 0) k at (replay_from f j next (lived p (z ∷ rs))) x (sym (replay_read f j at r b z next i) ∙ e) in
           let w = record_was_written j at z next all i in
-          let s = fault_fits r.member z w.limits (eqb→eq k 0 a.0) in
+          let s = fault_fits r.party z w.limits (eqb→eq k 0 a.0) in
           subst (λ (ts : List Record). Gave ts x) (sym (records_read f j at rs i))
           (rest next (z ∷ rs) x w.inside (next_used at z next rs i u) (s, l) a.1)
       read b RecordRead.Torn i rest = stops rs (records_from (suc f) j at rs) at x l u (records_torn (suc f) j at rs i) (sym (replay_torn f j at (lived p rs) b i) ∙ e)
@@ -107,11 +102,11 @@ pub restore_lived : (n t own a : ℕ) (bytes j : List ℕ) (out : ℕ) (x : Repl
     → LivedAgain n t own a bytes j x
 unfolding restore_questions lived
 restore_lived n t own a bytes j out x all e =
-    go (settled_plan n t own bytes) refl (asked (leb member_bytes out) 18 0 (on_plan_read n t own a j (settled_plan n t own bytes)) x e).1
+    go (settled_plan n t own bytes) refl (asked (leb outgoing_size out) 18 0 (on_plan_read n t own a j (settled_plan n t own bytes)) x e).1
   where
     go : (f : Found Plan) → settled_plan n t own bytes ≡ f → on_plan_read n t own a j f ≡ found x → LivedAgain n t own a bytes j x
     go (found plan) i e =
-        let w = along (new_member n t own a plan) j all (length j) 0 [] x (omega arith) (ap length (sym journal_none)) tt e in
+        let w = along (new_party n t own a plan) j all (length j) 0 [] x (omega arith) (ap length (sym journal_none)) tt e in
         record { plan = plan; reads = i; life = w.0; ran = w.1; used = w.2 }
     go (refused number place) i e = let z : ◌≡◌ {A = ℕ} 0 1 = cc in absurd (omega arith)
 
@@ -123,14 +118,14 @@ rest_left out bs = ap (drop (length bs)) (put_zero out bs) ∙ drop_at bs (drop 
 
 module _ (n t own a : ℕ) (bytes j out : List ℕ) (c : Called) (out_then : List ℕ) (x : Replay) (h : a ≤ max_number) where
   -- what a life of a board as set up makes is different, and has room
-  fits : LivedAgain n t own a bytes j x → Distinct x.ran.made × (length (bytes_of x.ran.made) ≤ member_bytes)
+  fits : LivedAgain n t own a bytes j x → Distinct x.ran.made × (length (bytes_of x.ran.made) ≤ outgoing_size)
   fits w =
-      let p : Member = new_member n t own a w.plan in
+      let p : Party = new_party n t own a w.plan in
       let z : Sized p = new_sized p (settled_new n t own bytes a w.reads) in
-      let y : Typed p = record { party = record { levels = z.party.formed.full; echoes = z.party.echoes; agreement = h }; kept = z.closing.kept; marks = z.closing.marks } in
+      let y : Typed p = record { levels = z.formed.full; echoes = z.echoes; agreement = h } in
       let rs : List Record = records_in j in
-      subst (λ (r : MemberRan). Distinct r.made × (length (bytes_of r.made) ≤ member_bytes)) (sym w.ran)
-      (once p y (sized_valid p z) rs w.life, buffer_suffices p y (sized_valid p z) rs w.life)
+      subst (λ (r : Ran). Distinct r.made × (length (bytes_of r.made) ≤ outgoing_size)) (sym w.ran)
+      (once p y z.formed.valid rs w.life, buffer_suffices p y z.formed.valid rs w.life)
 
   writes : LivedAgain n t own a bytes j x → AllBytes j → RestoreGives (restore_questions n t own a bytes j (length out)) out c out_then
       → restore_questions n t own a bytes j (length out) ≡ found x → WritesAll x c out out_then

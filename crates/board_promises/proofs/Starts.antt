@@ -10,7 +10,7 @@ use borrow.Author.Tests.{eq-eqb, ne_eqb}
 use mir.Syntax.{w64}
 use mir.Val.{SFits}
 use Rattle.base.specs.Pick.{pick}
-use Rattle.base.specs.Limits.{member_bytes}
+use Rattle.base.specs.Limits.{outgoing_size}
 use Rattle.base.specs.Found.{found}
 use Rattle.base.proofs.Bools.{not-T→false}
 use Rattle.signed.specs.Signed.{from_offset}
@@ -21,11 +21,10 @@ use Rattle.plan_laws.proofs.Parts.{tree_parts, range_parts}
 use Rattle.plan_laws.proofs.Shape.{Kinds, tree, range, kinds, shape}
 use Rattle.journal.specs.declared.Record.TheVariants.{Start}
 use Rattle.journal.specs.Journal.{record_bytes}
+use Rattle.party.specs.Party.{Party, started}
+use Rattle.party.specs.Run.{starting}
+use Rattle.party.specs.Valid.{party_valid}
 use Rattle.party_laws.proofs.Laws.{valid→}
-use Rattle.member.specs.Member.{Member, started}
-use Rattle.member.specs.Run.{starting}
-use Rattle.member.specs.Valid.{member_valid}
-use Rattle.member_laws.proofs.Laws.{party_passes}
 use Rattle.board_calls.specs.Calls.{fresh, start_questions}
 use Rattle.board_laws.proofs.Inputs.{reading_position, offset_fits}
 use Rattle.board_laws.proofs.Questions.{start_fits}
@@ -43,10 +42,10 @@ reading_fits p v x h = go (kinds p v)
         subst (λ (b : Bool). SFits w64 (pick b (pos x) (from_offset (p.low + x)))) (sym (ne_eqb p.kind 1 (λ e. omega arith)))
         (offset_fits (p.low + x) (omega (arith, (range_parts p t).high)))
 
--- A start of a board that has not started, with the reading of a position on its plan, is accepted if there is room, and starts there.
-pub start_anywhere : (p : Member) → T (member_valid p) → (T (started p) → ⊥) → (x room used out : ℕ) → x < p.party.plan.count → member_bytes ≤ out
-    → used + length (record_bytes (Start p.party.agreement x)) ≤ room
-    → start_questions p (reading_of p.party.plan x) room used out ≡ found (fresh (Start p.party.agreement x) (starting p x))
+-- A start of a party that has not started, with the reading of a position on its plan, is accepted if there is room, and starts there.
+pub start_anywhere : (p : Party) → T (party_valid p) → (T (started p) → ⊥) → (x room used out : ℕ) → x < p.plan.count → outgoing_size ≤ out
+    → used + length (record_bytes (Start p.agreement x)) ≤ room
+    → start_questions p (reading_of p.plan x) room used out ≡ found (fresh (Start p.agreement x) (starting p x))
 start_anywhere p v new x room used out h o r =
-    start_fits p (reading_of p.party.plan x) room used out v o (omega arith) (not-T→false (started p) new) x (sym (reading_position p.party.plan x h))
-    (λ e. omega (arith, (shape p.party.plan (valid→ p.party (party_passes p v)).plan).most)) r
+    start_fits p (reading_of p.plan x) room used out v o (omega arith) (not-T→false (started p) new) x (sym (reading_position p.plan x h))
+    (λ e. omega (arith, (shape p.plan (valid→ p v).plan).most)) r

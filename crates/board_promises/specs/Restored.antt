@@ -2,7 +2,7 @@
 use Rattle.std.specs.Prelude.{◌≡◌, List, ℕ, ◌≤◌, T, length, take, drop}
 use Rattle.std.proofs.Math.Option.{some}
 use Rattle.base.specs.Distinct.{Distinct}
-use Rattle.base.specs.Limits.{max_number, member_rules, member_bytes}
+use Rattle.base.specs.Limits.{max_number, outgoing_size}
 use Rattle.base.specs.Found.{found}
 use Rattle.varint.specs.Varint.{AllBytes}
 use Rattle.plan.specs.Plan.{Plan}
@@ -10,11 +10,11 @@ use Rattle.plan.specs.Reading.{settled_plan}
 use Rattle.journal.specs.declared.Record.{Record}
 use Rattle.journal.specs.Reading.{records_in}
 use Rattle.journal.specs.Records.{journal_bytes}
-use Rattle.member.specs.Member.{Member, new_member}
-use Rattle.member.specs.Run.{bytes_of}
-use Rattle.member.specs.Typed.{Typed}
-use Rattle.member.specs.Valid.{member_valid}
-use Rattle.member_life.specs.Life.{Life, lived, made_along}
+use Rattle.party.specs.Party.{Party, new_party}
+use Rattle.party.specs.Run.{bytes_of}
+use Rattle.party.specs.Typed.{Typed}
+use Rattle.party.specs.Valid.{party_valid}
+use Rattle.party_life.specs.Life.{Life, lived, made_along}
 use Rattle.board_calls.specs.Calls.{Called}
 use Rattle.board_calls.specs.Restore.{Replay, restore_questions}
 use Rattle.board_calls.specs.Results.{RestoreGives}
@@ -25,8 +25,8 @@ use Rattle.board_promises.specs.Outgoing.{messages_of}
 pub record LivedAgain (n t own agreement : ℕ) (bytes j : List ℕ) (x : Replay) : Type 0 where
   pub plan : Plan
   pub reads : settled_plan n t own bytes ≡ found plan
-  pub life : Life (new_member n t own agreement plan) (records_in j)
-  pub ran : x.ran ≡ lived (new_member n t own agreement plan) (records_in j)
+  pub life : Life (new_party n t own agreement plan) (records_in j)
+  pub ran : x.ran ≡ lived (new_party n t own agreement plan) (records_in j)
   -- "their length in bytes"
   pub used : x.used ≡ length (journal_bytes (records_in j))
 
@@ -34,7 +34,7 @@ pub record LivedAgain (n t own agreement : ℕ) (bytes j : List ℕ) (x : Replay
 pub record WritesAll (x : Replay) (c : Called) (out out_then : List ℕ) : Type 0 where
   pub messages : messages_of (take c.sent out_then) ≡ some x.ran.made
   pub once : Distinct x.ran.made
-  pub room : c.sent ≤ member_bytes
+  pub room : c.sent ≤ outgoing_size
   pub rest : drop c.sent out_then ≡ drop c.sent out
 
 -- of every accepted restore, whatever the journal holds; the agreement number has the width of its type
@@ -44,10 +44,6 @@ RestoresAll =
     → RestoreGives (restore_questions n t own agreement bytes j (length out)) out c out_then → restore_questions n t own agreement bytes j (length out) ≡ found x
     → LivedAgain n t own agreement bytes j x × WritesAll x c out out_then
 
--- "The buffer suffices": from every record that passes question 19, for every list of records that a restore would accept after it, whoever is faulty
+-- "The buffer suffices": from every party that passes question 19, for every list of records that a restore would accept after it, whoever is faulty
 abbrev pub BufferSuffices : Type 0
-BufferSuffices = (p : Member) → Typed p → T (member_valid p) → (rs : List Record) → Life p rs → length (bytes_of (made_along p rs)) ≤ member_bytes
-
--- Document 02, Q-1: "a party's rule count stays within 430", likewise
-abbrev pub RulesBounded : Type 0
-RulesBounded = (p : Member) → Typed p → T (member_valid p) → (rs : List Record) → Life p rs → (lived p rs).rules ≤ member_rules
+BufferSuffices = (p : Party) → Typed p → T (party_valid p) → (rs : List Record) → Life p rs → length (bytes_of (made_along p rs)) ≤ outgoing_size

@@ -1,2 +1,2 @@
 // What the calls promise, beside their contracts: which records pass question 19, that a refusal changes nothing, what the outgoing bytes are, what a restore
-// hands over, and that the outgoing buffer suffices and few enough rules are counted over a whole life. No code.
+// hands over. No code.

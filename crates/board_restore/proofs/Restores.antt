@@ -1,9 +1,9 @@
--- Restore: what it gives, its questions before the records are replayed, and a new board taken apart.
+-- Restore: what it gives, its questions before the records are replayed, and a new party taken apart.
 use mathlib.Core.Path.{◌≡◌, refl, sym, ap, ◌∙◌, subst}
 use mathlib.Core.List.{List}
 use Prim.Native.Nat.{ℕ, ◌≤◌}
 use lib.ListN.{length}
-use Rattle.base.specs.Limits.{max_rows, member_bytes}
+use Rattle.base.specs.Limits.{max_rows, outgoing_size}
 use Rattle.base.specs.declared.Verdict.{Verdict}
 use Rattle.base.specs.Found.{Found, found, refused}
 use Rattle.plan.specs.Plan.{Plan}
@@ -14,14 +14,10 @@ use Rattle.plan.specs.Tie.{shaped, as_plan}
 use Rattle.level.specs.declared.Level as CodeLevel
 use Rattle.party.specs.declared.Vote.{Vote}
 use Rattle.party.specs.declared.Party as Code
-use Rattle.party.specs.Party.{Party, new_party}
-use Rattle.party.specs.Tie.{as_party}
-use Rattle.closing.specs.Closing.{no_closing}
-use Rattle.closing.specs.declared.Closing.{Closing}
-use Rattle.member.specs.Member.{Member}
-use Rattle.member.specs.Run.{resting}
-use Rattle.member.specs.Tie.{member_in}
-use Rattle.member_finish.specs.declared.Finished as CodeRan
+use Rattle.party.specs.Party.{Party}
+use Rattle.party.specs.Run.{resting}
+use Rattle.party.specs.Tie.{party_in, as_party}
+use Rattle.party_run.specs.declared.Ran as CodeRan
 use Rattle.board_calls.specs.Calls.{Called}
 use Rattle.board_calls.specs.Restore.{Replay, replay_from, restored_of, restore_outgoing}
 use Rattle.board_calls.specs.Results.{RestoreGives}
@@ -41,7 +37,7 @@ regives {out} {out_then} {r} {s} e i g = subst (λ (z : Found Replay). RestoreGi
 
 -- ---- the questions before the records are replayed
 
-module _ (v : Vote) (bytes j : List ℕ) {out : ℕ} (h : member_bytes ≤ out) {r : PlanRead} (e : r ≡ answered (settled_plan v.n v.t v.own bytes)) where
+module _ (v : Vote) (bytes j : List ℕ) {out : ℕ} (h : outgoing_size ≤ out) {r : PlanRead} (e : r ≡ answered (settled_plan v.n v.t v.own bytes)) where
   -- what the settings and the plan find
   pub asked_plan : {number place : ℕ} → r.verdict ≡ Verdict.Refused number place → (plan : Plan) (end : ℕ) → Answers v bytes j out plan end r.verdict
   asked_plan w plan end =
@@ -81,28 +77,24 @@ module _ (v : Vote) (bytes j : List ℕ) {out : ℕ} (h : member_bytes ≤ out) 
             questions,
           )
 
--- ---- a new board's record taken apart
+-- ---- a new party's record taken apart
 
-module _ (v : Vote) {plan : CodePlan.Plan} {s : Shape} (i : shaped s plan.parent plan.child ≡ as_plan plan) (c : Code.Party)
-    (e : as_party c ≡ new_party v.n v.t v.own v.agreement (as_plan plan)) (d : Closing) (f : d ≡ no_closing) where
-  abbrev parts : List CodeLevel.Level → List ℕ → Member
-  parts levels sets = member_in v (shaped s plan.parent plan.child) levels sets d
+module _ (v : Vote) {plan : CodePlan.Plan} {s : Shape} (i : shaped s plan.parent plan.child ≡ as_plan plan) (c : Code.Party) (e : as_party c ≡ new_on v (as_plan plan)) where
+  abbrev parts : List CodeLevel.Level → List ℕ → Party
+  parts levels sets = party_in v (shaped s plan.parent plan.child) levels sets
 
   together : parts c.levels c.sets ≡ new_on v (as_plan plan)
   together =
-      λ k. record {
-        party = record { n = v.n; t = v.t; own = v.own; agreement = v.agreement; plan = i k; levels = ap (λ (p : Party). p.levels) e k };
-        closing = f k;
-      }
+      λ k. record { n = v.n; t = v.t; own = v.own; agreement = v.agreement; plan = i k; levels = ap (λ (p : Party). p.levels) e k }
 
   pub restore_asks : {j : List ℕ} {end out : ℕ} → Replayable (new_on v (as_plan plan)) j end out → Replayable (parts c.levels c.sets) j end out
-  restore_asks {j} {end} {out} h = subst (λ (q : Member). Replayable q j end out) (sym together) h
+  restore_asks {j} {end} {out} h = subst (λ (q : Party). Replayable q j end out) (sym together) h
 
-  pub restore_gives : {q : Found Replay} (j : List ℕ) {out out_then : List ℕ} {end : ℕ} (sets : List ℕ) (g : CodeRan.Finished) {h : Called}
+  pub restore_gives : {q : Found Replay} (j : List ℕ) {out out_then : List ℕ} {end : ℕ} (sets : List ℕ) (g : CodeRan.Ran) {f : Called}
       → q ≡ replay_from (length j) j 0 (resting (new_on v (as_plan plan)))
       → RestoreGives (replay_from (length j) j 0 (resting (parts c.levels c.sets))) out (restored_by v (shaped s plan.parent plan.child) sets end g) out_then
-      → h ≡ restored_by v (as_plan plan) sets end g
-      → RestoreGives q out h out_then
-  restore_gives j {end = end} sets g x w k =
-      regives (x ∙ ap (λ (p : Member). replay_from (length j) j 0 (resting p)) (sym together))
-      (k ∙ (λ z. restored_by v (sym i z) sets end g)) w
+      → f ≡ restored_by v (as_plan plan) sets end g
+      → RestoreGives q out f out_then
+  restore_gives j {end = end} sets g x h k =
+      regives (x ∙ ap (λ (p : Party). replay_from (length j) j 0 (resting p)) (sym together))
+      (k ∙ (λ z. restored_by v (sym i z) sets end g)) h

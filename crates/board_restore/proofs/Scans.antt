@@ -13,32 +13,30 @@ use Rattle.journal.specs.declared.RecordRead.{RecordRead}
 use Rattle.journal.specs.Reading.{record_at}
 use Rattle.journal.proofs.RoundTrip.{record_was_written}
 use Rattle.party.specs.declared.Vote.{Vote}
-use Rattle.member.specs.Member.{Member, started}
-use Rattle.member.specs.Run.{MemberRan, resting}
-use Rattle.member_life.specs.Life.{replayed, following, fault_of, fault}
-use Rattle.member_life.proofs.Fits.{fault_fits}
+use Rattle.party.specs.Party.{Party, started}
+use Rattle.party.specs.Run.{Ran, resting}
+use Rattle.party_life.specs.Life.{replayed, following, fault_of, fault}
+use Rattle.party_life.proofs.Fits.{fault_fits}
 use Rattle.board_calls.specs.Restore.{replay_from}
 use Rattle.board_laws.specs.Inner.{New, started_by, one, Many, none}
 use Rattle.board_restore.specs.Inner.{board_of, OfVote, Scanned}
-use Rattle.board_laws.proofs.New.{new_sized, new_started}
-use Rattle.board_laws.proofs.Started.{started_replayed}
-use Rattle.board_laws.proofs.Replays.{fault_same, many_sized, many_board, many_then, Goes, goes_start, goes_many, goes_end, goes_torn, goes_bad, goes_fault}
+use Rattle.board_laws.proofs.Replays.{fault_same, started_replayed, new_sized, new_started, many_sized, many_board, many_then, Goes, goes_start, goes_many, goes_end, goes_torn, goes_bad, goes_fault}
 
 -- the records before `at` pass and make r of p
-pub record Scanning (p : Member) (j : List ℕ) (flag : Bool) (at : ℕ) : Type 0 where
-  pub r : MemberRan
+pub record Scanning (p : Party) (j : List ℕ) (flag : Bool) (at : ℕ) : Type 0 where
+  pub r : Ran
   pub records : Many j 0 (resting p) at r
-  pub start : flag ≡ started r.member
+  pub start : flag ≡ started r.party
 
-pub scanning_start : (p : Member) → New p → (j : List ℕ) → Scanning p j false 0
+pub scanning_start : (p : Party) → New p → (j : List ℕ) → Scanning p j false 0
 scanning_start p w j = record { r = resting p; records = none; start = sym (new_started p w) }
 
--- the questions are the same of every board of the vote
-fault_board : {v : Vote} {count : ℕ} {p : Member} → OfVote v count p → (flag : Bool) (x : Record) → fault_of (board_of v count) flag x ≡ fault_of p flag x
+-- the questions are the same of every party of the vote
+fault_board : {v : Vote} {count : ℕ} {p : Party} → OfVote v count p → (flag : Bool) (x : Record) → fault_of (board_of v count) flag x ≡ fault_of p flag x
 fault_board o flag (Start a x) = rw (o.agreement, o.positions)
 fault_board o flag (Taken s m) = rw (o.agreement, o.n)
 
-module _ {p : Member} {j : List ℕ} {flag : Bool} {at : ℕ} (w : New p) (s : Scanning p j flag at) where
+module _ {p : Party} {j : List ℕ} {flag : Bool} {at : ℕ} (w : New p) (s : Scanning p j flag at) where
   goes : Goes j (replay_from (length j) j 0 (resting p)) at s.r
   goes = goes_many (goes_start j (resting p)) s.records
 
@@ -60,13 +58,13 @@ module _ {p : Member} {j : List ℕ} {flag : Bool} {at : ℕ} (w : New p) (s : S
 
     module _ {v : Vote} {count : ℕ} (o : OfVote v count p) {x : Record} {next k : ℕ} (e : record_at j at ≡ RecordRead.Read x next)
         (f : k ≡ fault_of (board_of v count) flag x) where
-      -- the fault that is asked for is that of the board so far
-      fault_now : k ≡ fault s.r.member x
+      -- the fault that is asked for is that of the party so far
+      fault_now : k ≡ fault s.r.party x
       fault_now =
           f
           ∙ fault_board o flag x
-          ∙ fault_same p s.r.member (many_board s.records (new_sized p w)) flag x
-          ∙ ap (λ (b : Bool). fault_of s.r.member b x) s.start
+          ∙ fault_same p s.r.party (many_board s.records) flag x
+          ∙ ap (λ (b : Bool). fault_of s.r.party b x) s.start
 
       pub scanned_fault : (k ≡ 0 → ⊥) → Scanned p j (record { number = k; place = at })
       scanned_fault d = record { passes = λ z. absurd (d z); fails = λ _. goes_fault goes h x next k e fault_now d }
@@ -74,9 +72,10 @@ module _ {p : Member} {j : List ℕ} {flag : Bool} {at : ℕ} (w : New p) (s : S
       pub scanning_next : AllBytes j → k ≡ 0 → {flag_then : Bool} → flag_then ≡ started_by x flag → Scanning p j flag_then next
       scanning_next y z i =
           let l = record_was_written j at x next y e in
-          let fits = fault_fits s.r.member x l.limits (sym fault_now ∙ z) in
+          let fits = fault_fits s.r.party x l.limits (sym fault_now ∙ z) in
+          let full = (many_sized s.records (new_sized p w)).formed.full in
           record {
-            r = following s.r (replayed s.r.member x);
+            r = following s.r (replayed s.r.party x);
             records = many_then s.records (one x h e fits);
-            start = i ∙ ap (started_by x) s.start ∙ sym (started_replayed s.r.member (many_sized s.records (new_sized p w)) x fits);
+            start = i ∙ ap (started_by x) s.start ∙ sym (started_replayed s.r.party x (omega arith));
           }

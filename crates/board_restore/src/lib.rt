@@ -1,9 +1,9 @@
-// Restore, a board's record from its journal: the records are read once for their questions, and then replayed.
+// Restore, a party from its journal: the records are read once for their questions, and then replayed.
 ghost use Rattle.std.specs.Prelude.{◌≡◌, length};
 ghost use Rattle.plan.specs.Tie.{shaped, as_plan};
-ghost use Rattle.member.specs.Run.{resting};
-ghost use Rattle.member.specs.Tie.{member_in};
-ghost use Rattle.member_life.specs.Life.{fault_of};
+ghost use Rattle.party.specs.Run.{resting};
+ghost use Rattle.party.specs.Tie.{party_in};
+ghost use Rattle.party_life.specs.Life.{fault_of};
 ghost use Rattle.board_calls.specs.Restore.{replay_from, restore_questions};
 ghost use Rattle.board_calls.specs.Results.{RestoreGives};
 ghost use Rattle.board_calls.specs.Tie.{as_called};
@@ -39,8 +39,8 @@ fn fault(v: party::Vote, count: u32, r: journal::Record, started: bool) -> u8
             }
             0
         }
-        journal::Record::Taken { sender, message: p } => {
-            if packet::number_of(p) != v.agreement {
+        journal::Record::Taken { sender, message: m } => {
+            if m.number != v.agreement {
                 return 16;
             }
             if v.n <= sender as u32 {
@@ -51,7 +51,7 @@ fn fault(v: party::Vote, count: u32, r: journal::Record, started: bool) -> u8
     }
 }
 
-// Is a board started after a record?
+// Is a party started after a record?
 fn started_by(r: journal::Record, started: bool) -> bool
     ensures { result ≡ started_by r started }
 {
@@ -116,45 +116,38 @@ fn replay_all<'a>(
     cs: &'a [u16; base::MAX_ROWS],
     sets: &mut party::Sets,
     levels: party::Levels,
-    closing: closing::Closing,
     journal: &[u8],
     end: usize,
     out: &mut [u8],
-) -> member_finish::Finished
-    requires { Replayable (member_in v (shaped shape ps.now cs.now) levels sets.old closing) journal.now end (length out.old) }
-    ensures { RestoreGives (replay_from (length journal.now) journal.now 0 (resting (member_in v (shaped shape ps.now cs.now) levels sets.old closing))) out.old (restored_by v (shaped shape ps.now cs.now) sets.new end result) out.new }
+) -> party_run::Ran
+    requires { Replayable (party_in v (shaped shape ps.now cs.now) levels sets.old) journal.now end (length out.old) }
+    ensures { RestoreGives (replay_from (length journal.now) journal.now 0 (resting (party_in v (shaped shape ps.now cs.now) levels sets.old))) out.old (restored_by v (shaped shape ps.now cs.now) sets.new end result) out.new }
 {
     let mut ports = [0u8; base::MAX_VERTICES];
     let mut chart = party::Chart::empty();
     let mut ls = levels;
-    let mut c = closing;
     let mut rules: u32 = 0;
     let mut sent: usize = 0;
     let mut at: usize = 0;
     while at < end {
         let journal::RecordRead::Read { record: r, next } = journal::read_at(journal, at) else {
-            return member_finish::Finished {
+            return party_run::Ran {
                 levels: ls,
                 chart: chart,
-                closing: c,
                 rules: rules,
                 sent: sent,
             };
         };
-        let g = member_replay::replay(
-            v, shape, ps, cs, sets, ls, chart, &mut ports, c, r, out, sent,
-        );
+        let g = party_replay::replay(v, shape, ps, cs, sets, ls, chart, &mut ports, r, out, sent);
         ls = g.levels;
         chart = g.chart;
-        c = g.closing;
         rules += g.rules;
         sent = g.sent;
         at = next;
     }
-    member_finish::Finished {
+    party_run::Ran {
         levels: ls,
         chart: chart,
-        closing: c,
         rules: rules,
         sent: sent,
     }
@@ -168,11 +161,11 @@ struct Asked {
     plan: plan::Plan,
 }
 
-// "Start, take, restore: Has the outgoing buffer .. bytes? 18." Then 1 to 11 about the settings and the plan, then the records.
+// "Start, take, restore: Has the outgoing buffer 2,640 bytes (15 × 22 × 8)? 18." Then 1 to 11 about the settings and the plan, then the records.
 fn ask(v: party::Vote, bytes: &[u8], journal: &[u8], room: usize) -> Asked
     ensures { Answers v bytes.now journal.now room (as_plan result.plan) result.end result.verdict }
 {
-    if room < level_limits::MEMBER_BYTES {
+    if room < level_limits::OUTGOING {
         let short = base::Verdict::Refused {
             number: 18,
             place: 0,
@@ -221,7 +214,7 @@ fn ask(v: party::Vote, bytes: &[u8], journal: &[u8], room: usize) -> Asked
 // "Restore gives the party of the whole records, in order, their length in bytes", and, by document 02, Q-5, "hands over every message of the whole
 // records' history, each once, in the first order".
 // A refusal builds a record of no party, and every exit that does so takes room in the frame: all questions are asked first, and one exit refuses.
-// For the same reason the restored board's parts are put together at the end.
+// For the same reason the restored party's parts are put together at the end.
 pub fn restore(
     n: u32,
     t: u32,
@@ -249,7 +242,6 @@ pub fn restore(
     let new = party::Party::new(n, t, own, agreement, plan);
     let levels = new.levels;
     let mut sets = new.sets;
-    let none = closing::Closing::none();
     let g = replay_all(
         v,
         shape,
@@ -257,7 +249,6 @@ pub fn restore(
         &plan.child,
         &mut sets,
         levels,
-        none,
         journal,
         a.end,
         out,
@@ -272,10 +263,5 @@ pub fn restore(
         levels: ls,
         sets: sets,
     };
-    let c = g.closing;
-    let m = member::Member {
-        party: p,
-        closing: c,
-    };
-    accept(m, a.end, g.sent, g.rules)
+    accept(p, a.end, g.sent, g.rules)
 }

@@ -1,17 +1,19 @@
 // Standard input as lines of drawings.
+ghost use Rattle.std.specs.Prelude.{◌≤◌};
+
 use drawing_lines::{Line, Said};
-use libc::STDIN_FILENO;
+use std::io::Read;
 
 // How many bytes one read of standard input brings at most.
 pub const BYTES: usize = 4096;
 
-// The line that was read last, and whether it is whole; what the last read of standard input answered, how many of its bytes are used, whether there may be
+// The line that was read last, and whether it is whole; what the last read of standard input brought, how many of its bytes are used, whether there may be
 // more, and whether it failed.
 #[derive(Clone, Copy)]
 pub struct Input {
     line: Line,
     pub whole: bool,
-    got: isize,
+    got: usize,
     at: usize,
     pub open: bool,
     pub failed: bool,
@@ -40,19 +42,25 @@ impl Input {
         line
     }
 
-    // After a read of standard input. Where it brought nothing, the last line ends, which may lack its newline; a negative answer is a failure.
-    fn filled(self, got: isize) -> Input {
+    // After the last read of standard input, which brought nothing or failed: the last line ends, which may lack its newline.
+    fn ended(self, failed: bool) -> Input {
         let line = self.begun();
-        if got <= 0 {
-            return Input {
-                line: line,
-                whole: true,
-                got: 0,
-                at: 0,
-                open: false,
-                failed: got < 0,
-            };
+        Input {
+            line: line,
+            whole: true,
+            got: 0,
+            at: 0,
+            open: false,
+            failed: failed,
         }
+    }
+
+    // After a read of standard input.
+    fn filled(self, got: usize) -> Input {
+        if got == 0 {
+            return self.ended(false);
+        }
+        let line = self.begun();
         Input {
             line: line,
             whole: false,
@@ -63,9 +71,16 @@ impl Input {
         }
     }
 
+    // How many bytes the last read brought; there is room for no more than these.
+    fn held(self) -> usize
+        ensures { result ≤ 4096 }
+    {
+        self.got.min(BYTES)
+    }
+
     // Reads on to the end of the line, or of the bytes that the last read brought.
-    fn scanned(self, bytes: &[u8]) -> Input {
-        let n = io::count(self.got, bytes);
+    fn scanned(self, bytes: &[u8; BYTES]) -> Input {
+        let n = self.held();
         let found = drawing_lines::scan(self.begun(), &bytes[..n], self.at);
         let line = found.line;
         Input {
@@ -79,9 +94,12 @@ impl Input {
     }
 
     // Reads on in the bytes; where none are left, standard input brings more.
-    pub fn next(self, bytes: &mut [u8; BYTES]) -> Input {
-        if io::count(self.got, bytes) <= self.at {
-            return self.filled(libc::read(STDIN_FILENO, bytes));
+    pub fn next(self, from: &mut impl Read, bytes: &mut [u8; BYTES]) -> Input {
+        if self.held() <= self.at {
+            return match from.read(bytes) {
+                Ok(got) => self.filled(got),
+                Err(_) => self.ended(true),
+            };
         }
         self.scanned(bytes)
     }

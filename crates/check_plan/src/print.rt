@@ -1,13 +1,5 @@
-// Text, numbers and bytes on standard output.
-use libc::STDOUT_FILENO;
-
-pub fn text(s: &[u8]) {
-    io::write_all(STDOUT_FILENO, s);
-}
-
-pub fn number(n: u64) {
-    io::print_decimal(STDOUT_FILENO, n);
-}
+// Bytes on standard output.
+use std::io;
 
 // A hexadecimal digit.
 fn digit(d: u8) -> u8 {
@@ -18,15 +10,14 @@ fn digit(d: u8) -> u8 {
     b'A' + (k - 10)
 }
 
-fn byte(b: u8) {
-    text(&[b' ', digit(b / 16), digit(b)]);
+fn byte(rt: &impl Print, b: u8) -> io::Result<()> {
+    rt.write_all(&[b' ', digit(b / 16), digit(b)])
 }
 
 // A blank and two hexadecimal digits for each byte.
-pub fn bytes(s: &[u8]) {
-    let mut i: usize = 0;
-    while i < s.len() {
-        byte(s[i]);
-        i += 1;
+pub fn bytes(rt: &impl Print, s: &[u8]) -> io::Result<()> {
+    for b in s {
+        byte(rt, *b)?;
     }
+    Ok(())
 }

@@ -4,6 +4,7 @@ use crate::sheet::Sheet;
 use base::Verdict;
 use drawing::{Ends, Lines};
 use range_plan::{Fields, PLAN_SIZE};
+use std::io;
 
 // Whether edge k goes from a vertex to itself.
 fn is_loop(one: &Ends, two: &Ends, k: usize) -> bool {
@@ -14,84 +15,94 @@ fn is_loop(one: &Ends, two: &Ends, k: usize) -> bool {
 }
 
 // An edge refused by 7: a vertex joined to itself, or a number that is too large.
-fn print_ends(is_loop: bool) {
+fn print_ends(rt: &impl Print, is_loop: bool) -> io::Result<()> {
     if is_loop {
-        print::text(b"an edge from a vertex to itself");
-        return;
+        return print!(rt; "an edge from a vertex to itself");
     }
-    print::text(b"a number above the number of edges: ");
-    print::text(b"vertices are numbered from 0 without gaps, or an edge is missing");
+    print!(rt; "a number above the number of edges: ")?;
+    print!(rt; "vertices are numbered from 0 without gaps, or an edge is missing")
 }
 
-fn print_above(most: usize, what: &[u8]) {
-    print::text(b"more than ");
-    print::number(most as u64);
-    print::text(what);
+fn print_above(rt: &impl Print, most: usize, what: &str) -> io::Result<()> {
+    print!(rt; "more than {most}{what}")
 }
 
 // A range refused by 10.
-fn print_wide() {
+fn print_wide(rt: &impl Print) -> io::Result<()> {
     print_above(
+        rt,
         base::MAX_WIDTH as usize + 1,
-        b" positions, or a reading above ",
-    );
-    print::number(base::OFFSET_ZERO as u64 - 1);
+        " positions, or a reading above ",
+    )?;
+    print!(rt; "{}", base::OFFSET_ZERO - 1)
 }
 
 // What usually causes a refusal of a drawing's plan. That a tree gets no number but 6 to 9 is proved (drawing/specs/Statement.antt); a range should get none
 // but 10.
-fn print_cause(number: u8, is_loop: bool) {
+fn print_cause(rt: &impl Print, number: u8, is_loop: bool) -> io::Result<()> {
     match number {
-        6 => print_above(base::MAX_ROWS, b" edges: too large a tree, or a ring in it"),
-        7 => print_ends(is_loop),
-        8 => print::text(b"a ring, or an edge given twice"),
-        9 => print_above(base::MAX_DEGREE as usize, b" edges at one vertex"),
-        10 => print_wide(),
-        _ => print::text(b"see the table of refusals"),
+        6 => print_above(
+            rt,
+            base::MAX_ROWS,
+            " edges: too large a tree, or a ring in it",
+        ),
+        7 => print_ends(rt, is_loop),
+        8 => print!(rt; "a ring, or an edge given twice"),
+        9 => print_above(rt, base::MAX_DEGREE as usize, " edges at one vertex"),
+        10 => print_wide(rt),
+        _ => print!(rt; "see the table of refusals"),
     }
 }
 
-fn print_line(line: u64, a: u32, b: u32) {
-    print::text(b"  line ");
-    print::number(line);
-    print::text(b": ");
-    print::number(a as u64);
-    print::text(b" ");
-    print::number(b as u64);
-    print::text(b"\n");
+fn print_line(rt: &impl Print, line: u64, a: u32, b: u32) -> io::Result<()> {
+    println!(rt; "  line {line}: {a} {b}")
 }
 
 // Edge k as it was drawn, if there is one.
-fn print_edge(count: u16, lines: &Lines, one: &Ends, two: &Ends, k: usize) {
+fn print_edge(
+    rt: &impl Print,
+    count: u16,
+    lines: &Lines,
+    one: &Ends,
+    two: &Ends,
+    k: usize,
+) -> io::Result<()> {
     if k < drawing::kept(count) {
-        print_line(lines[k], one[k], two[k]);
+        return print_line(rt, lines[k], one[k], two[k]);
     }
+    Ok(())
 }
 
 // The edges of the ring that a plan refused by 8 closes.
-fn print_cycle(plan: &[u8], count: u16, lines: &Lines, one: &Ends, two: &Ends) {
+fn print_cycle(
+    rt: &impl Print,
+    plan: &[u8],
+    count: u16,
+    lines: &Lines,
+    one: &Ends,
+    two: &Ends,
+) -> io::Result<()> {
     let c = plan_cycle::cycle_of(plan);
     let numbers = c.numbers;
     let n = c.count;
-    let mut i: usize = 0;
-    while i < n && i < base::MAX_ROWS {
-        print_edge(count, lines, one, two, base::wide(numbers[i]));
-        i += 1;
+    for i in 0..base::MAX_ROWS {
+        if n <= i {
+            break;
+        }
+        print_edge(rt, count, lines, one, two, base::wide(numbers[i]))?;
     }
+    Ok(())
 }
 
-fn print_refused(number: u8, place: usize, is_loop: bool) {
-    print::text(b"refused by ");
-    print::number(number as u64);
-    print::text(b" at place ");
-    print::number(place as u64);
-    print::text(b" of its plan: ");
-    print_cause(number, is_loop);
-    print::text(b"\n");
+fn print_refused(rt: &impl Print, number: u8, place: usize, is_loop: bool) -> io::Result<()> {
+    print!(rt; "refused by {number} at place {place} of its plan: ")?;
+    print_cause(rt, number, is_loop)?;
+    println!(rt)
 }
 
 // The first line, and the edges to look at: the ring where one is closed, else edge k, which is refused, if one is.
 fn print_refusal(
+    rt: &impl Print,
     plan: &[u8],
     count: u16,
     lines: &Lines,
@@ -99,128 +110,130 @@ fn print_refusal(
     two: &Ends,
     number: u8,
     place: usize,
-) {
+) -> io::Result<()> {
     let k = drawing::number_at(count, one, two, place);
-    print_refused(number, place, is_loop(one, two, k));
+    print_refused(rt, number, place, is_loop(one, two, k))?;
     if number == 8 {
-        print_cycle(plan, count, lines, one, two);
-        return;
+        return print_cycle(rt, plan, count, lines, one, two);
     }
-    print_edge(count, lines, one, two, k);
+    print_edge(rt, count, lines, one, two, k)
 }
 
 // How busy a vote on a plan makes the wire, at most.
-fn print_bound(levels: u32, messages: u32) {
-    print::text(b"  sending levels ");
-    print::number(levels as u64);
-    print::text(b", messages at most ");
-    print::number(messages as u64);
-    print::text(b", bytes at most ");
-    print::number(messages as u64 * base::MESSAGE_SIZE as u64);
-    print::text(b"\n");
+fn print_bound(rt: &impl Print, levels: u32, messages: u32) -> io::Result<()> {
+    let bytes = messages as u64 * base::MESSAGE_SIZE as u64;
+    print!(rt; "  sending levels {levels}, messages at most {messages}")?;
+    println!(rt; ", bytes at most {bytes}")
 }
 
 // A plan that passes, with so many positions, which are called so.
-fn print_plan(plan: &[u8], positions: u64, called: &[u8]) {
-    print::text(b"passes, ");
-    print::number(positions);
-    print::text(called);
-    print::text(b", plan");
-    print::bytes(plan);
-    print::text(b"\n");
+fn print_plan(rt: &impl Print, plan: &[u8], positions: u64, called: &str) -> io::Result<()> {
+    print!(rt; "passes, {positions}{called}, plan")?;
+    print::bytes(rt, plan)?;
+    println!(rt)
 }
 
 // What reading the plan of the drawing finds.
-fn print_verdict(plan: &[u8], count: u16, lines: &Lines, one: &Ends, two: &Ends) {
+fn print_verdict(
+    rt: &impl Print,
+    plan: &[u8],
+    count: u16,
+    lines: &Lines,
+    one: &Ends,
+    two: &Ends,
+) -> io::Result<()> {
     let b = plan_messages::bound_of(plan);
     let v = b.verdict;
     match v {
         Verdict::Accepted => {
-            print_plan(plan, drawing::vertices(count) as u64, b" vertices");
-            print_bound(b.levels, b.messages);
+            print_plan(rt, plan, drawing::vertices(count) as u64, " vertices")?;
+            print_bound(rt, b.levels, b.messages)
         }
         Verdict::Refused { number, place } => print_refusal(
-            plan, count, lines, one, two, number, place,
+            rt, plan, count, lines, one, two, number, place,
         ),
     }
 }
 
 // The plan that the drawing makes, and what reading it finds.
-fn print_drawing(count: u16, lines: &Lines, one: &Ends, two: &Ends) {
+fn print_drawing(
+    rt: &impl Print,
+    count: u16,
+    lines: &Lines,
+    one: &Ends,
+    two: &Ends,
+) -> io::Result<()> {
     let mut plan = [0u8; drawing::PLAN_SIZE];
     let n = drawing::write_plan(count, one, two, &mut plan);
-    print_verdict(&plan[..n], count, lines, one, two);
+    print_verdict(rt, &plan[..n], count, lines, one, two)
 }
 
 // What reading the plan of a range of so many positions finds.
-fn print_range_verdict(plan: &[u8], positions: u64) {
+fn print_range_verdict(rt: &impl Print, plan: &[u8], positions: u64) -> io::Result<()> {
     let b = plan_messages::bound_of(plan);
     let v = b.verdict;
     match v {
         Verdict::Accepted => {
-            print_plan(plan, positions, b" positions");
-            print_bound(b.levels, b.messages);
+            print_plan(rt, plan, positions, " positions")?;
+            print_bound(rt, b.levels, b.messages)
         }
-        Verdict::Refused { number, place } => print_refused(number, place, false),
+        Verdict::Refused { number, place } => print_refused(rt, number, place, false),
     }
 }
 
 // The plan that a range makes, and what reading it finds.
-fn print_fields(low: u32, width: u32) {
+fn print_fields(rt: &impl Print, low: u32, width: u32) -> io::Result<()> {
     let mut plan = [0u8; PLAN_SIZE];
     let n = range_plan::write_plan(&mut plan, low, width);
-    print_range_verdict(&plan[..n], width as u64 + 1);
+    print_range_verdict(rt, &plan[..n], width as u64 + 1)
 }
 
 // Two readings of which no plan can be made.
-fn print_no_range() {
-    print::text(b"no range: the lowest reading stands first, and readings go from -");
-    print::number(base::OFFSET_ZERO as u64);
-    print::text(b" to ");
-    print::number(base::OFFSET_ZERO as u64 - 1);
-    print::text(b"\n");
+fn print_no_range(rt: &impl Print) -> io::Result<()> {
+    let least = base::OFFSET_ZERO;
+    print!(rt; "no range: the lowest reading stands first, and readings go from -{least}")?;
+    println!(rt; " to {}", base::OFFSET_ZERO - 1)
 }
 
-fn print_unreadable(line: u64) {
-    print::text(b"line ");
-    print::number(line);
-    print::text(b" cannot be read: an edge is two vertex numbers, as 3 7; ");
-    print::text(b"a range is its lowest and its highest reading, as range -5 3\n");
+fn print_unreadable(rt: &impl Print, line: u64) -> io::Result<()> {
+    print!(rt; "line {line} cannot be read: an edge is two vertex numbers, as 3 7; ")?;
+    println!(rt; "a range is its lowest and its highest reading, as range -5 3")
 }
 
 // Standard input failed: of the drawing that is being read, if there is one, nothing is said.
-pub fn print_failure() {
-    print::text(b"the input could not be read to its end\n");
+pub fn print_failure(rt: &impl Print) -> io::Result<()> {
+    println!(rt; "the input could not be read to its end")
 }
 
 // The input had no drawing.
-pub fn print_none() {
-    print::text(b"no drawing\n");
+pub fn print_none(rt: &impl Print) -> io::Result<()> {
+    println!(rt; "no drawing")
 }
 
-fn print_name(s: Sheet) {
-    print::text(b"drawing ");
-    print::number(s.drawings);
-    print::text(b", line ");
-    print::number(s.first);
-    print::text(b": ");
+fn print_name(rt: &impl Print, s: Sheet) -> io::Result<()> {
+    print!(rt; "drawing {}, line {}: ", s.drawings, s.first)
 }
 
 // The drawing that was read.
-pub fn print_report(s: Sheet, lines: &Lines, one: &Ends, two: &Ends) {
-    print_name(s);
+pub fn print_report(
+    rt: &impl Print,
+    s: Sheet,
+    lines: &Lines,
+    one: &Ends,
+    two: &Ends,
+) -> io::Result<()> {
+    print_name(rt, s)?;
     if s.unreadable != 0 {
-        print_unreadable(s.unreadable);
-        return;
+        return print_unreadable(rt, s.unreadable);
     }
-    print_drawing(s.count, lines, one, two);
+    print_drawing(rt, s.count, lines, one, two)
 }
 
 // The range of this line.
-pub fn print_range(s: Sheet, f: Fields) {
-    print_name(s);
+pub fn print_range(rt: &impl Print, s: Sheet, f: Fields) -> io::Result<()> {
+    print_name(rt, s)?;
     match f {
-        Fields::Varints { low, width } => print_fields(low, width),
-        Fields::None => print_no_range(),
+        Fields::Varints { low, width } => print_fields(rt, low, width),
+        Fields::None => print_no_range(rt),
     }
 }

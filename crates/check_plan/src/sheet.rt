@@ -4,6 +4,7 @@ use crate::report;
 use drawing::{Ends, Lines};
 use drawing_lines::Said;
 use script_numbers::Reading;
+use std::io;
 
 // How many lines and drawings there are, and the drawing that is being read: its first line, 0 where none is being read; the first line of it that cannot be
 // read, or 0; and how many edges it has, whose lines and ends are in the columns that the caller lends.
@@ -48,12 +49,12 @@ impl Sheet {
     }
 
     // A line without words ends the drawing, if there is one.
-    fn ended(self, lines: &Lines, one: &Ends, two: &Ends) -> Sheet {
+    fn ended(self, rt: &impl Print, lines: &Lines, one: &Ends, two: &Ends) -> io::Result<Sheet> {
         if self.first == 0 {
-            return self;
+            return Ok(self);
         }
-        report::print_report(self, lines, one, two);
-        self.cleared()
+        report::print_report(rt, self, lines, one, two)?;
+        Ok(self.cleared())
     }
 
     // This line belongs to a drawing.
@@ -83,45 +84,73 @@ impl Sheet {
     }
 
     // This line has the two readings of a range, which is a drawing by itself: the drawing before it ends, if there is one.
-    fn ranged(self, low: Reading, high: Reading, lines: &Lines, one: &Ends, two: &Ends) -> Sheet {
-        let next = self.ended(lines, one, two).begun();
-        report::print_range(next, range_plan::fields_of(low, high));
-        next.cleared()
+    fn ranged(
+        self,
+        rt: &impl Print,
+        low: Reading,
+        high: Reading,
+        lines: &Lines,
+        one: &Ends,
+        two: &Ends,
+    ) -> io::Result<Sheet> {
+        let next = self.ended(rt, lines, one, two)?.begun();
+        report::print_range(rt, next, range_plan::fields_of(low, high))?;
+        Ok(next.cleared())
     }
 
     // After a line.
-    fn told(self, said: Said, lines: &mut Lines, one: &mut Ends, two: &mut Ends) -> Sheet {
+    fn told(
+        self,
+        rt: &impl Print,
+        said: Said,
+        lines: &mut Lines,
+        one: &mut Ends,
+        two: &mut Ends,
+    ) -> io::Result<Sheet> {
         let mut next = self;
         next.at = more(self.at);
         match said {
-            Said::Nothing => next.ended(lines, one, two),
-            Said::Edge(a, b) => next.begun().with_edge(lines, one, two, a, b),
-            Said::Range(low, high) => next.ranged(low, high, lines, one, two),
-            Said::Unreadable => next.begun().spoilt(),
+            Said::Nothing => next.ended(rt, lines, one, two),
+            Said::Edge(a, b) => Ok(next.begun().with_edge(lines, one, two, a, b)),
+            Said::Range(low, high) => next.ranged(rt, low, high, lines, one, two),
+            Said::Unreadable => Ok(next.begun().spoilt()),
         }
     }
 
     // After a read, if it brought a line to its end.
-    pub fn after(self, input: Input, lines: &mut Lines, one: &mut Ends, two: &mut Ends) -> Sheet {
+    pub fn after(
+        self,
+        rt: &impl Print,
+        input: Input,
+        lines: &mut Lines,
+        one: &mut Ends,
+        two: &mut Ends,
+    ) -> io::Result<Sheet> {
         if input.failed {
-            return self;
+            return Ok(self);
         }
         if input.whole {
-            return self.told(input.said(), lines, one, two);
+            return self.told(rt, input.said(), lines, one, two);
         }
-        self
+        Ok(self)
     }
 
     // The input is at its end, or failed: a drawing that may be cut is not judged.
-    pub fn closed(self, input: Input, lines: &Lines, one: &Ends, two: &Ends) {
+    pub fn closed(
+        self,
+        rt: &impl Print,
+        input: Input,
+        lines: &Lines,
+        one: &Ends,
+        two: &Ends,
+    ) -> io::Result<()> {
         if input.failed {
-            report::print_failure();
-            return;
+            return report::print_failure(rt);
         }
         if self.drawings == 0 {
-            report::print_none();
-            return;
+            return report::print_none(rt);
         }
-        self.ended(lines, one, two);
+        self.ended(rt, lines, one, two)?;
+        Ok(())
     }
 }

@@ -194,9 +194,9 @@ module _ (p : Plan) (s : Span) (l : List ℕ) (k : p.kind ≡ 1) where
     pub port_tree : (x : ℕ) → T (members p s l x) → (1 ≤ get_or l x 0) × (get_or l x 0 - 1 ≡ port_of p (members p s l) x)
     port_tree x h = (omega (arith, number_is x h), omega (arith, number_is x h))
 
-    member_at_lem : (x j : ℕ) → get_or l x 0 ≡ suc j → T (members p s l x)
+    member_at : (x j : ℕ) → get_or l x 0 ≡ suc j → T (members p s l x)
     unfolding numbered
-    member_at_lem x j e = subst T (number_read p s l x k) (not_T (eqb (get_or l x 0) 0) (λ h. omega (arith, eqb→eq (get_or l x 0) 0 h)))
+    member_at x j e = subst T (number_read p s l x k) (not_T (eqb (get_or l x 0) 0) (λ h. omega (arith, eqb→eq (get_or l x 0) 0 h)))
 
     -- the positions with the number j + 1 are side j
     pub side_tree : (j : ℕ) → 1 ≤ j → OfPlan p (members p s l) → (r : Span) (l' : List ℕ) → ((x : ℕ) → get_or l' x 0 ≡ bit (eqb (get_or l x 0) (j + 1))) → Holds p r l' (side_of p (members p s l) j)
@@ -219,6 +219,6 @@ module _ (p : Plan) (s : Span) (l : List ℕ) (k : p.kind ≡ 1) where
             T-ext (eqb (get_or l x 0) (j + 1)) (side F p.count S j x)
             (λ t.
             let e : get_or l x 0 ≡ suc j = eqb→eq (get_or l x 0) (j + 1) t ∙ add-one j in
-            let m : T (S x) = member_at_lem x j e in
+            let m : T (S x) = member_at x j e in
             port_side F ok p.count S C x j m low (omega (arith, number_is x m)))
             (λ t. rw (number_is x (side_member F ok p.count S C j x t) ∙ ap suc (side_port F ok p.count S C j x t) ∙ sym (add-one j)) (eqb_refl (j + 1)))

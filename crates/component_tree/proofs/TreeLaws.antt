@@ -2,7 +2,7 @@
 use mathlib.Core.Path.{◌≡◌, refl, sym, ap, ◌∙◌, subst, fun_ext}
 use mathlib.Core.List.{List}
 use mathlib.Core.Bool.{Bool, true, false, not, ◌&&◌, ◌||◌}
-use Prim.Native.Nat.{ℕ, suc, ◌-◌, ◌≤◌, ◌<◌}
+use Prim.Native.Nat.{ℕ, suc, ◌≤◌, ◌<◌}
 use native.Mathlib.Decide.{ℕ_discrete, dec_lt}
 use native.Mathlib.Omega.{arith}
 use lib.Dec.{T, eqb, eqb→eq, eqb_refl, ltb, not_T}
@@ -210,12 +210,12 @@ module _ (ps cs : List ℕ) (n : ℕ) (ports : List ℕ) (O : OfTree ps cs n (nu
   number_in x s = numbers x ∙ rw (T→true (P x) s)
 
   -- a number other than 0 is that of a member
-  member_at_lem : (x k : ℕ) → get_or ports x 0 ≡ suc k → T (numbered ports x)
+  member_at : (x k : ℕ) → get_or ports x 0 ≡ suc k → T (numbered ports x)
   unfolding numbered
-  member_at_lem x k e = not_T (eqb (get_or ports x 0) 0) (λ h. omega (arith, eqb→eq (get_or ports x 0) 0 h))
+  member_at x k e = not_T (eqb (get_or ports x 0) 0) (λ h. omega (arith, eqb→eq (get_or ports x 0) 0 h))
 
   port_at_lem : (x k : ℕ) → get_or ports x 0 ≡ suc k → port (tree ps cs n) n (numbered ports) x ≡ k
-  port_at_lem x k e = omega (arith, number_in x (member_at_lem x k e))
+  port_at_lem x k e = omega (arith, number_in x (member_at x k e))
 
   module _ (c : ℕ) (at : c ≡ centre (tree ps cs n) n (numbered ports)) (k : ℕ) (low : 1 ≤ k) (most : k ≤ degree (tree ps cs n) n (numbered ports)) where
     -- neighbour k is beside the centre
@@ -230,5 +230,5 @@ module _ (ps cs : List ℕ) (n : ℕ) (ports : List ℕ) (O : OfTree ps cs n (nu
     pub neighbour_one : (x : ℕ) → T (adjacent (tree ps cs n) c x) → get_or ports x 0 ≡ suc k → x ≡ neighbour (tree ps cs n) n (numbered ports) k
     unfolding neighbours
     neighbour_one x a e =
-        let h : T (neighbours F n P x) = T_and (P x) _ (member_at_lem x k e) (subst (λ (z : ℕ). T (adjacent F z x)) at a) in
+        let h : T (neighbours F n P x) = T_and (P x) _ (member_at x k e) (subst (λ (z : ℕ). T (adjacent F z x)) at a) in
         sym (neighbour_rank F (ok O) n P (C O) x h) ∙ ap (neighbour F n P) (rank_port O x h ∙ port_at_lem x k e)

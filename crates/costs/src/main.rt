@@ -1,16 +1,18 @@
 // A fixed run of every call, for tools/costs to count the instructions of each: sound boards take every message of a vote, then each board is
 // restored and read, and gets calls that find nothing to do. Standard input: n, t, the plan's length in two bytes (the low one first), the
 // plan, and each board's input in three bytes. Every call stands at two places, so that the compiler keeps it a function of its own.
-ghost use Rattle.std.specs.Prelude.{◌≡◌, ◌+◌, ◌*◌, ◌≤◌, ◌<◌, length};
+#![tactic(auto)]
+
+ghost use Rattle.std.specs.Prelude.{IfOk, ◌≡◌, ◌+◌, ◌*◌, ◌≤◌, ◌<◌, length};
 ghost use Rattle.base.specs.Limits.{max_boards};
 ghost use Rattle.costs.specs.Room.{message_limit, journal_size, journals_size, input_limit};
 
-use libc::{STDIN_FILENO, STDOUT_FILENO};
+use std::io;
+use std::io::Read;
 
 const BOARDS: usize = base::MAX_BOARDS as usize;
-// What sound boards send: at most seven messages a level each, two closing echoes and a ready.
-const MESSAGES: usize = BOARDS
-    * (base::SENDING_LEVELS as usize * level::Level::MESSAGES as usize + 3);
+// What sound boards send: at most seven messages a level each.
+const MESSAGES: usize = BOARDS * base::SENDING_LEVELS as usize * 7;
 // A board's journal: its start, and those messages.
 const JOURNAL: usize = journal::RECORD_SIZE * (1 + MESSAGES);
 // The journals of all boards.
@@ -97,15 +99,10 @@ fn answers(a: board::Answer) -> u64
     }
 }
 
-fn print(name: &[u8], x: u64) {
-    io::write_all(STDOUT_FILENO, name);
-    io::print_decimal(STDOUT_FILENO, x);
-}
-
 // The boards of a vote: their parties, the used lengths of their journals, and how many messages they handed over.
 #[derive(Clone, Copy)]
 struct Boards {
-    parties: [member::Member; BOARDS],
+    parties: [party::Party; BOARDS],
     used: [usize; BOARDS],
     sent: usize,
 }
@@ -133,7 +130,7 @@ fn start(v: Vote, s: &[u8], i: usize, journals: &mut [u8], out: &mut [u8]) -> bo
     let from = JOURNAL * i;
     let end = from + JOURNAL;
     board::start(
-        made.member,
+        made.party,
         input_at(s, plan + INPUT * i),
         &mut journals[from..end],
         0,
@@ -143,7 +140,7 @@ fn start(v: Vote, s: &[u8], i: usize, journals: &mut [u8], out: &mut [u8]) -> bo
 
 // Board i takes message k.
 fn give(
-    p: member::Member,
+    p: party::Party,
     k: usize,
     i: usize,
     used: usize,
@@ -175,14 +172,14 @@ fn start_all(
     s: &[u8],
     journals: &mut [u8; JOURNALS],
     wire: &mut [u8; bench_wire::SIZE],
-    out: &mut [u8; level_limits::MEMBER_BYTES],
+    out: &mut [u8; level_limits::OUTGOING],
 ) -> Boards
     requires { (4 ≤ v.plan_end) × (v.plan_end ≤ length s.now) × (v.plan_end < input_limit) × (v.boards ≤ max_boards) }
 {
     let n = v.boards as u32;
     let end = v.plan_end;
     let blank = board::set_up(n, v.faults, 0, AGREEMENT, &s[PLAN..end]);
-    let none = blank.member;
+    let none = blank.party;
     let mut b = Boards {
         parties: [none; BOARDS],
         used: [0usize; BOARDS],
@@ -191,7 +188,7 @@ fn start_all(
     let mut i: usize = 0;
     while i < v.boards {
         let c = start(v, s, i, journals, out);
-        let p = c.member;
+        let p = c.party;
         b.parties[i] = p;
         b.used[i] = c.used;
         b.sent = bench_wire::keep_all(wire, b.sent, i as u8, out, c.sent);
@@ -206,7 +203,7 @@ fn give_all(
     boards: Boards,
     journals: &mut [u8; JOURNALS],
     wire: &mut [u8; bench_wire::SIZE],
-    out: &mut [u8; level_limits::MEMBER_BYTES],
+    out: &mut [u8; level_limits::OUTGOING],
 ) -> Boards
     requires { (1 ≤ v.boards) × (v.boards ≤ max_boards) }
 {
@@ -219,7 +216,7 @@ fn give_all(
         let i = t.board;
         let p = b.parties[i];
         let c = give(p, t.message, i, b.used[i], wire, journals, out);
-        let q = c.member;
+        let q = c.party;
         b.parties[i] = q;
         b.used[i] = c.used;
         b.sent = bench_wire::keep_all(wire, b.sent, i as u8, out, c.sent);
@@ -229,52 +226,53 @@ fn give_all(
 }
 
 // A reading, between two bytes written, since the compiler may make it a part of this function; 1 for an answer.
-fn read(p: member::Member) -> u64
-    ensures { result ≤ 1 }
+fn read(rt: &impl Print, p: party::Party) -> io::Result<u64>
+    ensures { IfOk result (λ n. n ≤ 1) }
 {
-    io::write_all(STDOUT_FILENO, b"(");
+    rt.write_all(b"(")?;
     let r = board::read_answer(p);
-    io::write_all(STDOUT_FILENO, b")");
+    rt.write_all(b")")?;
     let a = r.answer;
-    answers(a)
+    Ok(answers(a))
 }
 
-// A reading of a pair, likewise: the board, and the same under another number; whether the second byte was written.
-fn read_pair(p: member::Member) -> bool {
-    let mut q = p.party;
-    let c = p.closing;
+// A reading of a pair, likewise: the party, and the same under another number.
+fn read_pair(rt: &impl Print, p: party::Party) -> io::Result<()> {
+    let mut q = p;
     q.agreement = AGREEMENT + 1;
-    let other = member::Member {
-        party: q,
-        closing: c,
-    };
-    io::write_all(STDOUT_FILENO, b"[");
-    let r = board::read_pair(p, other);
+    rt.write_all(b"[")?;
+    let r = board::read_pair(p, q);
     let a = r.answer;
     match a {
-        board::PairAnswer::None => io::write_all(STDOUT_FILENO, b"-"),
-        board::PairAnswer::At(_, _) => io::write_all(STDOUT_FILENO, b"]"),
+        board::PairAnswer::None => rt.write_all(b"-"),
+        board::PairAnswer::At(_, _) => rt.write_all(b"]"),
     }
 }
 
 // A reading of the answer as a count, likewise.
-fn read_count(p: member::Member) -> bool {
-    io::write_all(STDOUT_FILENO, b"{");
+fn read_count(rt: &impl Print, p: party::Party) -> io::Result<()> {
+    rt.write_all(b"{")?;
     let r = board::read_count(p, STEP_SIZE, 0);
     let a = r.answer;
     match a {
-        board::Answer::None => io::write_all(STDOUT_FILENO, b"-"),
-        board::Answer::At(_) => io::write_all(STDOUT_FILENO, b"}"),
+        board::Answer::None => rt.write_all(b"-"),
+        board::Answer::At(_) => rt.write_all(b"}"),
     }
 }
 
 // Board i, which has not started, starts by a count, likewise.
-fn start_count(p: member::Member, i: usize, journals: &mut [u8], out: &mut [u8]) -> bool
+fn start_count(
+    rt: &impl Print,
+    p: party::Party,
+    i: usize,
+    journals: &mut [u8],
+    out: &mut [u8],
+) -> io::Result<()>
     requires { (i < max_boards) × (length journals.old ≡ journals_size) }
 {
     let from = JOURNAL * i;
     let end = from + JOURNAL;
-    io::write_all(STDOUT_FILENO, b"<");
+    rt.write_all(b"<")?;
     let c = board::start_count(p, STEP_SIZE, 0, &mut journals[from..end], 0, out);
     let called = c.called;
     let v = called.verdict;
@@ -282,8 +280,8 @@ fn start_count(p: member::Member, i: usize, journals: &mut [u8], out: &mut [u8])
         base::Verdict::Refused {
             number: _,
             place: _,
-        } => io::write_all(STDOUT_FILENO, b"-"),
-        base::Verdict::Accepted => io::write_all(STDOUT_FILENO, b">"),
+        } => rt.write_all(b"-"),
+        base::Verdict::Accepted => rt.write_all(b">"),
     }
 }
 
@@ -341,7 +339,7 @@ fn restore_empty(v: Vote, s: &[u8], i: usize, out: &mut [u8]) -> board::Called
 
 // Board i takes the first message again.
 fn give_again(
-    p: member::Member,
+    p: party::Party,
     i: usize,
     used: usize,
     wire: &[u8; bench_wire::SIZE],
@@ -368,7 +366,7 @@ fn give_again(
 
 // Board i starts again.
 fn start_again(
-    p: member::Member,
+    p: party::Party,
     i: usize,
     used: usize,
     journals: &mut [u8],
@@ -383,72 +381,73 @@ fn start_again(
 
 // Board i is restored from its journal, gets calls that find nothing to do, and is read; 1 for an answer.
 fn call_again(
+    rt: &impl Print,
     v: Vote,
     s: &[u8],
     i: usize,
     used: usize,
     wire: &[u8; bench_wire::SIZE],
     journals: &mut [u8; JOURNALS],
-    out: &mut [u8; level_limits::MEMBER_BYTES],
-) -> u64
+    out: &mut [u8; level_limits::OUTGOING],
+) -> io::Result<u64>
     requires { (4 ≤ v.plan_end) × (v.plan_end ≤ length s.now) × (v.boards ≤ max_boards) × (i < max_boards) }
-    ensures { result ≤ 1 }
+    ensures { IfOk result (λ n. n ≤ 1) }
 {
     let c = restore_board(v, s, i, used, journals, out);
-    let again = give_again(c.member, i, c.used, wire, journals, out);
-    let second = start_again(again.member, i, again.used, journals, out);
-    read_pair(second.member);
-    read_count(second.member);
-    read(second.member)
+    let again = give_again(c.party, i, c.used, wire, journals, out);
+    let second = start_again(again.party, i, again.used, journals, out);
+    read_pair(rt, second.party)?;
+    read_count(rt, second.party)?;
+    read(rt, second.party)
 }
 
 // Board i is restored from an empty journal, starts by a count, and is read as it was before that; 1 for an answer.
 fn call_empty(
+    rt: &impl Print,
     v: Vote,
     s: &[u8],
     i: usize,
     journals: &mut [u8; JOURNALS],
-    out: &mut [u8; level_limits::MEMBER_BYTES],
-) -> u64
+    out: &mut [u8; level_limits::OUTGOING],
+) -> io::Result<u64>
     requires { (4 ≤ v.plan_end) × (v.plan_end ≤ length s.now) × (v.boards ≤ max_boards) × (i < max_boards) }
-    ensures { result ≤ 1 }
+    ensures { IfOk result (λ n. n ≤ 1) }
 {
     let empty = restore_empty(v, s, i, out);
-    start_count(empty.member, i, journals, out);
-    read(empty.member)
+    start_count(rt, empty.party, i, journals, out)?;
+    read(rt, empty.party)
 }
 
 // So each board; how many have an answer.
 fn call_all_again(
+    rt: &impl Print,
     v: Vote,
     s: &[u8],
     b: Boards,
     wire: &[u8; bench_wire::SIZE],
     journals: &mut [u8; JOURNALS],
-    out: &mut [u8; level_limits::MEMBER_BYTES],
-) -> u64
+    out: &mut [u8; level_limits::OUTGOING],
+) -> io::Result<u64>
     requires { (4 ≤ v.plan_end) × (v.plan_end ≤ length s.now) × (v.boards ≤ max_boards) }
 {
     let mut sum: u64 = 0;
-    let mut i: usize = 0;
-    while i < v.boards {
-        sum += call_again(v, s, i, b.used[i], wire, journals, out);
-        sum += call_empty(v, s, i, journals, out);
-        i += 1;
+    for i in 0..v.boards {
+        sum += call_again(rt, v, s, i, b.used[i], wire, journals, out)?;
+        sum += call_empty(rt, v, s, i, journals, out)?;
     }
-    sum
+    Ok(sum)
 }
 
 // The whole run.
-fn run(s: &[u8])
+fn run(rt: &impl Print, s: &[u8]) -> io::Result<()>
     requires { 4 ≤ length s.now }
 {
     let boards = byte_at(s, 0) as usize;
     if boards < 1 {
-        return;
+        return Ok(());
     }
     if BOARDS < boards {
-        return;
+        return Ok(());
     }
     let v = Vote {
         boards: boards,
@@ -457,21 +456,21 @@ fn run(s: &[u8])
     };
     let mut journals = [0u8; JOURNALS];
     let mut wire = [0u8; bench_wire::SIZE];
-    let mut out = [0u8; level_limits::MEMBER_BYTES];
+    let mut out = [0u8; level_limits::OUTGOING];
     let started = start_all(v, s, &mut journals, &mut wire, &mut out);
     let ended = give_all(v, started, &mut journals, &mut wire, &mut out);
-    let answers = call_all_again(v, s, ended, &wire, &mut journals, &mut out);
-    print(b"sent ", ended.sent as u64);
-    print(b" answers ", answers);
-    print(b" used ", ended.used[0] as u64);
-    io::write_all(STDOUT_FILENO, b"\n");
+    let answers = call_all_again(rt, v, s, ended, &wire, &mut journals, &mut out)?;
+    let sent = ended.sent;
+    let used = ended.used[0];
+    println!(rt; "sent {sent} answers {answers} used {used}")
 }
 
-fn main() {
-    let mut buf = io::buffer();
-    let got = libc::read(STDIN_FILENO, &mut buf);
-    let size = io::count(got, &buf);
+// The input is one read.
+fn main(rt: HostRuntime) -> io::Result<()> {
+    let mut buf = [0u8; 4096];
+    let size = rt.stdin().read(&mut buf)?;
     if PLAN <= size {
-        run(&buf[..size]);
+        run(&rt, &buf[..size])?;
     }
+    Ok(())
 }

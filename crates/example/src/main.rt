@@ -1,5 +1,7 @@
 // The worked example of README.md, run through the calls: each call's journal record, its messages and its rules, in hexadecimal bytes.
-use libc::STDOUT_FILENO;
+#![tactic(auto)]
+
+use std::io;
 
 // A hexadecimal digit.
 fn digit(d: u8) -> u8 {
@@ -10,100 +12,89 @@ fn digit(d: u8) -> u8 {
     b'A' + (k - 10)
 }
 
-fn print_byte(b: u8) {
-    io::write_all(STDOUT_FILENO, &[digit(b / 16), digit(b % 16), b' ']);
+fn print_byte(rt: &impl Print, b: u8) -> io::Result<()> {
+    rt.write_all(&[digit(b / 16), digit(b % 16), b' '])
 }
 
-fn print_byte_at(s: &[u8], i: usize) {
+fn print_byte_at(rt: &impl Print, s: &[u8], i: usize) -> io::Result<()> {
     if i < s.len() {
-        print_byte(s[i]);
+        return print_byte(rt, s[i]);
     }
+    Ok(())
 }
 
 // The bytes from one place up to another.
-fn print_bytes(s: &[u8], from: usize, end: usize) {
-    let mut i = from;
-    while i < end {
-        print_byte_at(s, i);
-        i += 1;
+fn print_bytes(rt: &impl Print, s: &[u8], from: usize, end: usize) -> io::Result<()> {
+    for i in from..end {
+        print_byte_at(rt, s, i)?;
     }
+    Ok(())
 }
 
 // A call's record, from the used length before it, its messages and its rules.
-fn print_call(used: usize, called: board::Called, journal: &[u8], out: &[u8]) {
-    io::write_all(STDOUT_FILENO, b"record ");
-    print_bytes(journal, used, called.used);
-    io::write_all(STDOUT_FILENO, b"messages ");
-    print_bytes(out, 0, called.sent);
-    io::write_all(STDOUT_FILENO, b"rules ");
-    io::print_decimal(STDOUT_FILENO, called.rules as u64);
-    io::write_all(STDOUT_FILENO, b"\n");
+fn print_call(
+    rt: &impl Print,
+    used: usize,
+    called: board::Called,
+    journal: &[u8],
+    out: &[u8],
+) -> io::Result<()> {
+    print!(rt; "record ")?;
+    print_bytes(rt, journal, used, called.used)?;
+    print!(rt; "messages ")?;
+    print_bytes(rt, out, 0, called.sent)?;
+    let rules = called.rules;
+    println!(rt; "rules {rules}")
 }
 
 // Is the answer 1?
-fn print_answer(m: member::Member) {
+fn print_answer(rt: &impl Print, m: party::Party) -> io::Result<()> {
     let r = board::read_answer(m);
     let a = r.answer;
     let board::Answer::At(z) = a else {
-        io::write_all(STDOUT_FILENO, b"no answer\n");
-        return;
+        return println!(rt; "no answer");
     };
     if z == 1 {
-        io::write_all(STDOUT_FILENO, b"answer 1\n");
-        return;
+        return println!(rt; "answer 1");
     }
-    io::write_all(STDOUT_FILENO, b"another answer\n");
-}
-
-// Is the board closed?
-fn print_closed(m: member::Member) {
-    let r = board::read_closing(m);
-    if r.closed {
-        io::write_all(STDOUT_FILENO, b"closed\n");
-        return;
-    }
-    io::write_all(STDOUT_FILENO, b"not closed\n");
+    println!(rt; "another answer")
 }
 
 // The board takes its own message back.
 fn take_own(
+    rt: &impl Print,
     called: board::Called,
-    m: &[u8],
+    m: [u8; 4],
     journal: &mut [u8; 64],
-    out: &mut [u8; level_limits::MEMBER_BYTES],
-) -> board::Called {
-    let next = board::take(called.member, 0, m, journal, called.used, out);
-    print_call(called.used, next, journal, out);
-    next
+    out: &mut [u8; level_limits::OUTGOING],
+) -> io::Result<board::Called> {
+    let next = board::take(called.party, 0, m, journal, called.used, out);
+    print_call(rt, called.used, next, journal, out)?;
+    Ok(next)
 }
 
 // Power went after the second record and tore the third.
-fn print_restored() {
-    let mut out = [0u8; level_limits::MEMBER_BYTES];
+fn print_restored(rt: &impl Print) -> io::Result<()> {
+    let mut out = [0u8; level_limits::OUTGOING];
     let left = [1u8, 1, 1, 2, 0, 1, 0, 1, 0, 2, 0, 1];
     let back = board::restore(1, 0, 0, 1, &[2u8, 0, 2], &left, &mut out);
-    io::write_all(STDOUT_FILENO, b"restored ");
-    io::print_decimal(STDOUT_FILENO, back.used as u64);
-    io::write_all(STDOUT_FILENO, b" messages ");
-    print_bytes(&out, 0, back.sent);
-    io::write_all(STDOUT_FILENO, b"rules ");
-    io::print_decimal(STDOUT_FILENO, back.rules as u64);
-    io::write_all(STDOUT_FILENO, b"\n");
+    let used = back.used;
+    print!(rt; "restored {used} messages ")?;
+    print_bytes(rt, &out, 0, back.sent)?;
+    let rules = back.rules;
+    println!(rt; "rules {rules}")
 }
 
-fn main() {
+fn main(rt: HostRuntime) -> io::Result<()> {
     let mut journal = [0u8; 64];
-    let mut out = [0u8; level_limits::MEMBER_BYTES];
+    let mut out = [0u8; level_limits::OUTGOING];
     let made = board::set_up(1, 0, 0, 1, &[2u8, 0, 2]);
-    let started = board::start(made.member, 1, &mut journal, 0, &mut out);
-    print_call(0, started, &journal, &out);
-    let first = take_own(started, &[1, 0, 1, 0], &mut journal, &mut out);
-    let second = take_own(first, &[1, 0, 2, 0], &mut journal, &mut out);
-    let third = take_own(second, &[1, 0, 3, 0], &mut journal, &mut out);
-    let fourth = take_own(third, &[1, 0, 4, 0], &mut journal, &mut out);
-    print_answer(fourth.member);
-    let fifth = take_own(fourth, &[1, 0, 7, 1], &mut journal, &mut out);
-    let sixth = take_own(fifth, &[1, 0, 8], &mut journal, &mut out);
-    print_closed(sixth.member);
-    print_restored();
+    let started = board::start(made.party, 1, &mut journal, 0, &mut out);
+    print_call(&rt, 0, started, &journal, &out)?;
+    let first = take_own(&rt, started, &[1, 0, 1, 0], &mut journal, &mut out)?;
+    let second = take_own(&rt, first, &[1, 0, 2, 0], &mut journal, &mut out)?;
+    let third = take_own(&rt, second, &[1, 0, 3, 0], &mut journal, &mut out)?;
+    let fourth = take_own(&rt, third, &[1, 0, 4, 0], &mut journal, &mut out)?;
+    print_answer(&rt, fourth.party)?;
+    print_restored(&rt)
 }

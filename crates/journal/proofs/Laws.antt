@@ -17,17 +17,14 @@ use Rattle.format.specs.Format.{Format, field}
 use Rattle.format.specs.Reading.{field_at, Read, read_at}
 use Rattle.format.proofs.Reading.{read_on, read_fails}
 use Rattle.format.proofs.Saying.{say_read, saying_read}
-use Rattle.message.specs.Message.{kind_of}
+use Rattle.message.specs.declared.Message.{Message}
+use Rattle.message.specs.declared.MessageRead.{MessageRead}
+use Rattle.message.specs.Message.{kind_of, message_bytes}
+use Rattle.message.specs.Format.{message_format}
+use Rattle.message.specs.Reading.{message_at}
 use Rattle.message.proofs.Laws.{message_length, value_most}
-use Rattle.packet.specs.declared.Packet.{Packet}
-use Rattle.packet.specs.declared.Packet.TheVariants.{Level, Echo, Ready}
-use Rattle.packet.specs.declared.PacketRead.{PacketRead}
-use Rattle.packet.specs.Packet.{echo_kind, ready_kind, packet_bytes}
-use Rattle.packet.specs.Format.{packet_format}
-use Rattle.packet.specs.Reading.{packet_at}
-use Rattle.packet.proofs.Laws as packets
-use Rattle.packet.proofs.RoundTrip.{found_whole}
-use Rattle.packet.proofs.Broken.{found_failed}
+use Rattle.message.proofs.RoundTrip.{found_whole}
+use Rattle.message.proofs.Broken.{found_failed}
 use Rattle.journal.specs.declared.Record.{Record}
 use Rattle.journal.specs.declared.Record.TheVariants.{Start, Taken}
 use Rattle.journal.specs.declared.RecordRead.{RecordRead}
@@ -47,13 +44,13 @@ module _ (low high : ℕ) (rest : ℕ → Format Record) (s : List ℕ) (at : �
 
 -- a taken message that is read, or fails
 module _ (b : ℕ) (s : List ℕ) (at : ℕ) where
-  pub read_taken : {m : Packet} {next : ℕ} → packet_at s at ≡ PacketRead.Read m next → RecordRead.Read (Taken b m) next ≡ as_read (read_at (from_sender b) s at)
-  unfolding packet_at
-  read_taken {m} {next} e = sym (ap as_read (saying_read (Taken b) packet_format s at) ∙ ap (λ (x : Read Packet). as_read (say_read (Taken b) x)) (found_whole (read_at packet_format s at) m next e))
+  pub read_taken : {m : Message} {next : ℕ} → message_at s at ≡ MessageRead.Read m next → RecordRead.Read (Taken b m) next ≡ as_read (read_at (from_sender b) s at)
+  unfolding message_at
+  read_taken {m} {next} e = sym (ap as_read (saying_read (Taken b) message_format s at) ∙ ap (λ (x : Read Message). as_read (say_read (Taken b) x)) (found_whole (read_at message_format s at) m next e))
 
-  pub taken_broken : {fault : Fault} {place : ℕ} → packet_at s at ≡ PacketRead.Failed fault place → fails_as fault ≡ as_read (read_at (from_sender b) s at)
-  unfolding packet_at
-  taken_broken {fault} {place} e = sym (ap as_read (saying_read (Taken b) packet_format s at) ∙ ap (λ (x : Read Packet). as_read (say_read (Taken b) x)) (found_failed (read_at packet_format s at) fault place e))
+  pub taken_broken : {fault : Fault} {place : ℕ} → message_at s at ≡ MessageRead.Failed fault place → fails_as fault ≡ as_read (read_at (from_sender b) s at)
+  unfolding message_at
+  taken_broken {fault} {place} e = sym (ap as_read (saying_read (Taken b) message_format s at) ∙ ap (λ (x : Read Message). as_read (say_read (Taken b) x)) (found_failed (read_at message_format s at) fault place e))
 
 -- tag 1 is a start, the other a taken message
 abbrev pub after_tag : ℕ → Format Record
@@ -76,7 +73,7 @@ pub start_length : (agreement x : ℕ) → length (record_bytes (Start agreement
 unfolding record_bytes
 start_length agreement x = simp (length-append, length_last 1 (omega arith))
 
-pub taken_length : (sender : ℕ) (m : Packet) → length (record_bytes (Taken sender m)) ≡ 1 + length (varint_bytes sender) + length (packet_bytes m)
+pub taken_length : (sender : ℕ) (m : Message) → length (record_bytes (Taken sender m)) ≡ 1 + length (varint_bytes sender) + length (message_bytes m)
 unfolding record_bytes
 taken_length sender m = simp (length-append, length_last 2 (omega arith))
 
@@ -97,17 +94,14 @@ module _ (l l1 l2 : List ℕ) where
       let m = head_length 1 a (omega arith) in
       (omega (arith, h.0, w.0), then_put l l1 l2 0 i (varint_bytes 1 ++ varint_bytes a) (varint_bytes x) (omega arith) h.1 (omega (arith, h.0)) w.1)
 
-  pub taken_put : (s : ℕ) (m : Packet) (i k : ℕ) → length (record_bytes (Taken s m)) ≤ length l → (i ≡ length (varint_bytes 2 ++ varint_bytes s)) × (l1 ≡ put_at l 0 (varint_bytes 2 ++ varint_bytes s))
-      → Written l1 i (packet_bytes m) k l2 → (k ≡ length (record_bytes (Taken s m))) × (l2 ≡ put_at l 0 (record_bytes (Taken s m)))
+  pub taken_put : (s : ℕ) (m : Message) (i k : ℕ) → length (record_bytes (Taken s m)) ≤ length l → (i ≡ length (varint_bytes 2 ++ varint_bytes s)) × (l1 ≡ put_at l 0 (varint_bytes 2 ++ varint_bytes s))
+      → Written l1 i (message_bytes m) k l2 → (k ≡ length (record_bytes (Taken s m))) × (l2 ≡ put_at l 0 (record_bytes (Taken s m)))
   unfolding record_bytes
   taken_put s m i k f h w =
       let n = taken_length s m in
       let b = head_length 2 s (omega arith) in
-      (omega (arith, h.0, w.0), then_put l l1 l2 0 i (varint_bytes 2 ++ varint_bytes s) (packet_bytes m) (omega arith) h.1 (omega (arith, h.0)) w.1)
+      (omega (arith, h.0, w.0), then_put l l1 l2 0 i (varint_bytes 2 ++ varint_bytes s) (message_bytes m) (omega arith) h.1 (omega (arith, h.0)) w.1)
 
--- a packet has at most four varints, in the table or not
-pub packet_most : (m : Packet) → length (packet_bytes m) ≤ 20
-packet_most (Level m) =
-    omega (arith, ap length (packets.level_bytes m), message_length m, pieces_most 4 m.number, pieces_most 4 m.level, pieces_most 4 (kind_of m.body), value_most m.body)
-packet_most (Echo n x) = omega (arith, packets.echo_length n x, packets.head_length n echo_kind (omega arith), pieces_most 4 n, pieces_most 4 x)
-packet_most (Ready n) = omega (arith, ap length (packets.ready_bytes n), packets.head_length n ready_kind (omega arith), pieces_most 4 n)
+-- a message has at most four varints, in the table or not
+pub message_most : (m : Message) → length (message_bytes m) ≤ 20
+message_most m = omega (arith, message_length m, pieces_most 4 m.number, pieces_most 4 m.level, pieces_most 4 (kind_of m.body), value_most m.body)

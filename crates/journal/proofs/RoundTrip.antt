@@ -14,9 +14,9 @@ use Rattle.format.specs.Statement.{Sensible, Reads}
 use Rattle.format.proofs.Reading.{whole_first, whole_place}
 use Rattle.format.proofs.Saying.{saying_spells, saying_spelled, saying_sensible}
 use Rattle.format.proofs.Theorem as formats
-use Rattle.packet.specs.Packet.{packet_bytes}
-use Rattle.packet.specs.Format.{packet_format}
-use Rattle.packet.proofs.Spelling as packets
+use Rattle.message.specs.Message.{message_bytes}
+use Rattle.message.specs.Format.{message_format}
+use Rattle.message.proofs.RoundTrip as messages
 use Rattle.journal.specs.declared.Record.{Record}
 use Rattle.journal.specs.declared.Record.TheVariants.{Start, Taken}
 use Rattle.journal.specs.declared.RecordRead.{RecordRead}
@@ -40,14 +40,14 @@ spells (Start a x) (ha, hx) =
       append_assoc (varint_bytes 1) (varint_bytes a) b,
       (a, omega arith, ha, b, refl, (x, omega arith, hx, [], sym (append-nil b), (refl, refl))),
     )
-spells (Taken s m) (hs, h) =
-    let b = packet_bytes m in (
+spells (Taken s m) (hs, (ht, hn)) =
+    let b = message_bytes m in (
       2,
       omega arith,
       omega arith,
       varint_bytes s ++ b,
       append_assoc (varint_bytes 2) (varint_bytes s) b,
-      (s, omega arith, hs, b, refl, saying_spells (Taken s) packet_format b m (packets.spells m h)),
+      (s, omega arith, hs, b, refl, saying_spells (Taken s) message_format b m (messages.spells m ht hn)),
     )
 
 -- what is spelled is a record in its limits, by its bytes
@@ -69,11 +69,11 @@ spelled bs r (k, p, q, bs1, e, g) = go (ℕ_discrete k 1)
 
     taken : k ≡ 2 → Spells taken_format bs1 r → Is r
     taken z (s, _, hs, bs2, e2, g2) =
-        let w = saying_spelled (Taken s) packet_format bs2 r g2 in
-        let u = packets.spelled bs2 w.0 w.2 in
+        let w = saying_spelled (Taken s) message_format bs2 r g2 in
+        let u = messages.spelled bs2 w.0 w.2 in
         subst Is w.1 (
-          (hs, u.0),
-          e ∙ ap₂ (λ (y w : List ℕ). y ++ w) (ap varint_bytes z) (e2 ∙ ap (λ (y : List ℕ). varint_bytes s ++ y) u.1) ∙ sym (append_assoc (varint_bytes 2) (varint_bytes s) (packet_bytes w.0)),
+          (hs, (u.0, u.1)),
+          e ∙ ap₂ (λ (y w : List ℕ). y ++ w) (ap varint_bytes z) (e2 ∙ ap (λ (y : List ℕ). varint_bytes s ++ y) u.2) ∙ sym (append_assoc (varint_bytes 2) (varint_bytes s) (message_bytes w.0)),
         )
 
     go : Dec (k ≡ 1) → Is r
@@ -88,7 +88,7 @@ sensible = (omega arith, omega arith, omega arith, λ k _ _. go k (ℕ_discrete 
     start = (omega arith, omega arith, omega arith, λ a _ _. (omega arith, omega arith, omega arith, λ x _ _. tt))
 
     taken : Sensible taken_format
-    taken = (omega arith, omega arith, omega arith, λ s _ _. saying_sensible (Taken s) packet_format packets.sensible)
+    taken = (omega arith, omega arith, omega arith, λ s _ _. saying_sensible (Taken s) message_format messages.sensible)
 
     go : (k : ℕ) → Dec (k ≡ 1) → Sensible (after_tag k)
     go k (yes z) = subst (λ f. Sensible f) (sym (tag_start k z)) start

@@ -3,7 +3,7 @@ use Rattle.std.specs.Prelude.{ℕ, eqb}
 use Rattle.base.specs.Pick.{pick}
 use Rattle.base.specs.Limits.{max_number, max_position, max_sender}
 use Rattle.format.specs.Format.{Format, says, field, saying}
-use Rattle.packet.specs.Format.{packet_format}
+use Rattle.message.specs.Format.{message_format}
 use Rattle.journal.specs.declared.Record.{Record}
 use Rattle.journal.specs.declared.Record.TheVariants.{Start, Taken}
 
@@ -16,7 +16,7 @@ start_format = field 0 max_number from_agreement
 
 -- a taken message, after its sender
 abbrev pub from_sender : ℕ → Format Record
-from_sender b = saying (Taken b) packet_format
+from_sender b = saying (Taken b) message_format
 
 abbrev pub taken_format : Format Record
 taken_format = field 0 max_sender from_sender

@@ -2,7 +2,7 @@
 use Rattle.std.specs.Prelude.{List, [], ◌∷◌, ◌++◌, ℕ, ◌≤◌}
 use Rattle.base.specs.Limits.{max_number, max_position, max_sender}
 use Rattle.varint.specs.Statement.{Beginning}
-use Rattle.packet.specs.Packet.{InLimits as PacketInLimits}
+use Rattle.message.specs.Message.{InLimits as MessageInLimits}
 use Rattle.journal.specs.declared.Record.{Record}
 use Rattle.journal.specs.declared.Record.TheVariants.{Start, Taken}
 use Rattle.journal.specs.Journal.{record_bytes}
@@ -10,7 +10,7 @@ use Rattle.journal.specs.Journal.{record_bytes}
 -- "A whole record has every value in the limits just given and in the message table."
 abbrev pub InLimits : Record → Type 0
 InLimits (Start agreement x) = (agreement ≤ max_number) × (x ≤ max_position)
-InLimits (Taken sender m) = (sender ≤ max_sender) × PacketInLimits m
+InLimits (Taken sender m) = (sender ≤ max_sender) × MessageInLimits m
 
 abbrev pub AllInLimits : List Record → Type 0
 AllInLimits [] = Unit

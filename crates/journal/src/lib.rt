@@ -8,7 +8,7 @@ ghost use Rattle.journal.specs.Format.{from_agreement, start_format, from_sender
 ghost use Rattle.journal.specs.Reading.{fails_as, as_read, record_at};
 
 // The most bytes of a record that a call writes: its tag, a sender and a message; that of a start is no longer.
-pub const RECORD_SIZE: usize = 2 + base::PACKET_SIZE;
+pub const RECORD_SIZE: usize = 2 + base::MESSAGE_SIZE;
 
 #[derive(Clone, Copy)]
 pub enum Record {
@@ -18,7 +18,7 @@ pub enum Record {
     },
     Taken {
         sender: u8,
-        message: packet::Packet,
+        message: message::Message,
     },
 }
 
@@ -79,9 +79,9 @@ fn read_start(s: &[u8], at: usize) -> RecordRead
 fn read_message(s: &[u8], at: usize, sender: u8) -> RecordRead
     ensures { result ≡ as_read (read_at (from_sender sender) s.now at) }
 {
-    match packet::read_at(s, at) {
-        packet::PacketRead::Read {
-            packet: m,
+    match message::read_at(s, at) {
+        message::MessageRead::Read {
+            message: m,
             next: end,
         } => RecordRead::Read {
             record: Record::Taken {
@@ -90,7 +90,7 @@ fn read_message(s: &[u8], at: usize, sender: u8) -> RecordRead
             },
             next: end,
         },
-        packet::PacketRead::Failed { fault, at: _ } => failing(fault),
+        message::MessageRead::Failed { fault, at: _ } => failing(fault),
     }
 }
 
@@ -138,7 +138,7 @@ pub fn size(r: Record) -> usize
             agreement,
             position: x,
         } => head_size(1, agreement) + varint::size(x),
-        Record::Taken { sender, message: m } => head_size(2, sender as u32) + packet::size(m),
+        Record::Taken { sender, message: m } => head_size(2, sender as u32) + message::size(m),
     }
 }
 
@@ -166,7 +166,7 @@ fn put(out: &mut [u8], r: Record) -> usize
         }
         Record::Taken { sender, message: m } => {
             let i = put_head(out, 2, sender as u32);
-            packet::put(out, i, m)
+            message::put(out, i, m)
         }
     }
 }

@@ -72,15 +72,15 @@ pub record Paid (c : Context) (l : Level) (a : Applied) : Type 0 where
 
 -- ---- bits
 
-pub bit_on : (b : Bool) → T b → bit b ≡ 1
+bit_on : (b : Bool) → T b → bit b ≡ 1
 bit_on true p = refl
 bit_on false p = absurd p
 
-pub bit_off : (b : Bool) → (T b → ⊥) → bit b ≡ 0
+bit_off : (b : Bool) → (T b → ⊥) → bit b ≡ 0
 bit_off true p = absurd (p tt)
 bit_off false p = refl
 
-pub bit_le : (b : Bool) → bit b ≤ 1
+bit_le : (b : Bool) → bit b ≤ 1
 bit_le true = omega arith
 bit_le false = omega arith
 

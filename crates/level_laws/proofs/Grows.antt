@@ -57,7 +57,7 @@ grows_trans l m k f g = record {
 -- ---- what a message taken changes
 
 -- a place of a list after a store: the stored value, or what was there
-pub set_cases : {A : Type 0} (s : List A) (i j : ℕ) (a z : A) (P : A → Type 0) → P (get_or s j z) → (i ≡ j → P a) → P (get_or (set s i a) j z)
+set_cases : {A : Type 0} (s : List A) (i j : ℕ) (a z : A) (P : A → Type 0) → P (get_or s j z) → (i ≡ j → P a) → P (get_or (set s i a) j z)
 set_cases {A} s i j a z P p q = go (ℕ_discrete j i) (dec_lt i (length s))
   where
     go : Dec (j ≡ i) → Dec (i < length s) → P (get_or (set s i a) j z)

@@ -22,7 +22,7 @@ use Rattle.level_laws.proofs.Grows.{flag_set}
 
 -- ---- a level at which nothing was made
 
-pub replicate_get {ℓ} : {A : Type ℓ} (n i : ℕ) (a : A) → get_or (replicate n a) i a ≡ a
+replicate_get {ℓ} : {A : Type ℓ} (n i : ℕ) (a : A) → get_or (replicate n a) i a ≡ a
 replicate_get zero i a = refl
 replicate_get (suc n) zero a = refl
 replicate_get (suc n) (suc i) a = replicate_get n i a

@@ -53,16 +53,14 @@ unfolding context_of
 echo_cases p v L w on e =
     (law_own (context_of p L) (level_at p L) (valued p v.regular.formed L (sending_entered p L on)) (v.regular.law L on)).second_echo_lem w e
 
--- if the message is a second echo of w, some sound board has the first result w
-abbrev pub Founded : (n : ℕ) (bad : Set) (st : ℕ → Party) → Message → Type 0
-Founded n bad st m = (w : ℕ) → m.body ≡ SecondEcho w → FirstAt n bad st m.level w
-
--- a board that heard only such of sound boards has made only such
+-- a board that heard second echoes only where a first result is, has made only such
 module _ (n t agreement : ℕ) (plan : Plan) (bad : Set) (few : count n bad ≤ t) (st : ℕ → Party) (seated : (i : ℕ) → Seated n t agreement plan (st i)) where
-  pub echo_founded : (i : ℕ) (s : Party) → Sound n bad i → Inv s → Le s (st i)
-      → ((j : ℕ) (m : Message) → Sound n bad j → Heard s j m → Founded n bad st m)
-      → (m : Message) → Sent s m → Founded n bad st m
-  echo_founded i s g v o heard m sent w e =
+  abbrev Good : ℕ → Message → Type 0
+  Good i m = (w : ℕ) → m.body ≡ SecondEcho w → FirstAt n bad st m.level w
+
+  echo_good : (i : ℕ) (s : Party) → Sound n bad i → Inv s → Le s (st i) → ((j : ℕ) (m : Message) → Sound n bad j → Heard s j m → Good j m)
+      → (m : Message) → Sent s m → Good i m
+  echo_good i s g v o heard m sent w e =
       go (echo_cases s v L w sent.sends (subst (SentIn (context_of s L) (level_at s L)) e sent.body))
     where
       L : ℕ
@@ -112,7 +110,7 @@ module _ (n t agreement : ℕ) (plan : Plan) (v : Passes n t plan) where
     inv = λ i. invariant i (log M i h);
     authentic = authentic_log M W n bad h w;
     origin = λ i L x g on e.
-        causal_log M W n bad h w (λ _. Founded n bad st) (echo_founded n t agreement plan bad few st seated) i g
+        causal_log M W n bad h w (Good n t agreement plan bad few st seated) (echo_good n t agreement plan bad few st seated) i g
         (record { number = agreement; level = L; body = SecondEcho x }) (record { number = sym (seated i).number; sends = on; body = e }) x refl;
   }
     where

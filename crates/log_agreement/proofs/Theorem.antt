@@ -51,10 +51,10 @@ module _ (n t agreement : ℕ) (plan : Plan) (bad : Set) (h : Steps n t agreemen
         let p = now i x a in
         let q = now j y b in
         subst₂ (λ (z w : ℕ). (z ≡ w) ⊎ Adjacent (edges_of plan) z w) p.1 q.1
-        (near J i j g k (there i x p) (there j y q));
+        (near n t agreement plan passes bad given.few h ok i j g k (there i x p) (there j y q));
     validity = λ i x g a.
         let p = now i x a in
-        let r = between J i g (there i x p) in
+        let r = between n t agreement plan passes bad given.few h ok i g (there i x p) in
         let c = r.2 in
         let d = r.3 in (
           c.board,
@@ -65,12 +65,12 @@ module _ (n t agreement : ℕ) (plan : Plan) (bad : Set) (h : Steps n t agreemen
           d.sound,
           (c.entered, c.position),
           (d.entered, d.position),
-          joined J r.0 r.1 c d,
+          joined n t agreement plan passes bad given.few h ok r.0 r.1 c d,
           subst (OnPath (Adjacent (edges_of plan)) r.0 r.1) p.1 r.4,
         );
     ending = λ c i g. (
       output_of (st i),
-      (ends J (λ j s. (c.started j s).1.0) (delivered c) i g, refl),
+      (ends n t agreement plan passes bad given.few h ok (λ j s. (c.started j s).1.0) (delivered c) i g, refl),
     );
   }
 

@@ -1,5 +1,4 @@
--- The levels' part of demand 3 on logs, their answers, on which closing_agreement rests: for boards of which only the log is known, whatever program they
--- run, if their messages and answers are those that the rules make of the log.
+-- Demand 3 on logs: for boards of which only the log is known, whatever program they run, if their messages and answers are those that the rules make of the log.
 -- A board's log holds its starts and the messages that it took, those of lost calls left out. What the board has made, holds and answers is what the
 -- rules make of its log (`called`, a call that would be refused changes nothing). The steps, the log that they leave, and what a cut must leave of it
 -- are those of execution/specs/History.

@@ -8,6 +8,7 @@ use lib.Dec.{leb, eqb}
 use lib.ListN.{length, length-append}
 use borrow.Author.Tests.{lt-leb, le-leb, eq-eqb, ne_eqb}
 use Rattle.base.specs.Pick.{pick}
+use Rattle.base.specs.Put.{put_at}
 use Rattle.varint.specs.Varint.{varint_bytes}
 use Rattle.varint.proofs.Laws.{pieces_most}
 use Rattle.format.specs.declared.Fault.{Fault}
@@ -20,9 +21,12 @@ use Rattle.message.specs.declared.Body.{Body}
 use Rattle.message.specs.declared.Body.TheVariants.{FirstEcho, FirstProposal, SecondEcho, SecondProposal, Side, Centre}
 use Rattle.message.specs.declared.Message.{Message}
 use Rattle.message.specs.declared.MessageRead.{MessageRead}
-use Rattle.message.specs.Message.{max_value, none_value, kind_of, value_bytes, body_in_table, message_bytes}
-use Rattle.message.specs.Format.{value_of, body_of, from_kind}
-use Rattle.message.specs.Reading.{as_read}
+use Rattle.message.specs.declared.Exactly.{Exactly}
+use Rattle.message.specs.declared.MessageWritten.{MessageWritten}
+use Rattle.message.specs.Message.{max_value, none_value, kind_of, value_bytes, body_in_table, in_table, message_bytes}
+use Rattle.message.specs.Format.{value_of, body_of, from_kind, message_format}
+use Rattle.message.specs.Reading.{as_read, message_at, exactly, exact_message}
+use Rattle.message.specs.Writing.{write_answer, write_buffer}
 
 -- ---- a body by its kind and value
 
@@ -94,10 +98,10 @@ low_high k = go (eqb k 2) (eqb k 5)
 
 -- a format whose first field is read, or fails
 module _ (low high : ℕ) (rest : ℕ → Format Message) (s : List ℕ) (at : ℕ) where
-  read_next : {v next : ℕ} → field_at low high s at ≡ FieldRead.Value v next → as_read (read_at (rest v) s next) ≡ as_read (read_at (field low high rest) s at)
+  pub read_next : {v next : ℕ} → field_at low high s at ≡ FieldRead.Value v next → as_read (read_at (rest v) s next) ≡ as_read (read_at (field low high rest) s at)
   read_next e = ap as_read (sym (read_on low high rest s at e))
 
-  read_broken : {fault : Fault} → field_at low high s at ≡ FieldRead.Failed fault → MessageRead.Failed fault at ≡ as_read (read_at (field low high rest) s at)
+  pub read_broken : {fault : Fault} → field_at low high s at ≡ FieldRead.Failed fault → MessageRead.Failed fault at ≡ as_read (read_at (field low high rest) s at)
   read_broken e = ap as_read (sym (read_fails low high rest s at e))
 
 -- the same of a value, with its kind's limits
@@ -120,12 +124,40 @@ module _ (n l k : ℕ) (s : List ℕ) (at : ℕ) {low high : ℕ} (d : k ≡ 6 �
 pub value_none : (n l k : ℕ) (s : List ℕ) (at : ℕ) → k ≡ 6 → MessageRead.Read (record { number = n; level = l; body = Centre }) at ≡ as_read (read_at (from_kind n l k) s at)
 value_none n l k s at e = ap (λ f. as_read (read_at f s at)) (sym (kind_without n l k e))
 
+pub read_message : (s : List ℕ) (at : ℕ) {r : MessageRead} → r ≡ as_read (read_at message_format s at) → r ≡ message_at s at
+unfolding message_at
+read_message s at e = e
+
+pub read_exactly : (s : List ℕ) {r : MessageRead} → message_at s 0 ≡ r → exactly s r ≡ exact_message s
+unfolding exact_message
+read_exactly s e = ap (exactly s) (sym e)
+
+pub exactly_one : (s : List ℕ) (m : Message) (next : ℕ) → next ≡ length s → exactly s (MessageRead.Read m next) ≡ Exactly.One m
+exactly_one s m next e = rw (eq-eqb next (length s) e)
+
+pub exactly_more : (s : List ℕ) (m : Message) (next : ℕ) → (next ≡ length s → ⊥) → exactly s (MessageRead.Read m next) ≡ Exactly.Broken Fault.Spare next
+exactly_more s m next d = rw (ne_eqb next (length s) d)
+
 -- ---- writing
 
 pub message_length : (m : Message)
     → length (message_bytes m) ≡ length (varint_bytes m.number) + length (varint_bytes m.level) + length (varint_bytes (kind_of m.body)) + length (value_bytes m.body)
 unfolding message_bytes
 message_length m = simp length-append
+
+module _ (l : List ℕ) (m : Message) where
+  pub write_outside : in_table m ≡ false → (MessageWritten.OutsideTable ≡ write_answer l m) × (l ≡ write_buffer l m)
+  unfolding write_answer write_buffer
+  write_outside e = rw e (refl, refl)
+
+  pub write_no_room : in_table m ≡ true → length l < length (message_bytes m) → (MessageWritten.NoRoom ≡ write_answer l m) × (l ≡ write_buffer l m)
+  unfolding write_answer write_buffer
+  write_no_room e h = rw (e, lt-leb (length (message_bytes m)) (length l) h) (refl, refl)
+
+  pub write_room : in_table m ≡ true → length (message_bytes m) ≤ length l
+      → (MessageWritten.Bytes (length (message_bytes m)) ≡ write_answer l m) × (put_at l 0 (message_bytes m) ≡ write_buffer l m)
+  unfolding write_answer write_buffer
+  write_room e h = rw (e, le-leb (length (message_bytes m)) (length l) h) (refl, refl)
 
 pub value_most : (b : Body) → length (value_bytes b) ≤ 5
 value_most (FirstEcho v) = pieces_most 4 v

@@ -1,2 +1,4 @@
 pub mod Laws
-pub mod Values
+pub mod RoundTrip
+pub mod Broken
+pub mod Theorem

@@ -1,6 +1,7 @@
--- The format of a message's value, after number, level and kind: document 01, "Messages", the table of six kinds.
+-- The format of a message: document 01, "Messages": "Groups: agreement number, level (0 to 14), kind, value".
 use Rattle.std.specs.Prelude.{ℕ, eqb}
 use Rattle.base.specs.Pick.{pick}
+use Rattle.base.specs.Limits.{max_number, last_level}
 use Rattle.format.specs.Format.{Format, says, field}
 use Rattle.message_values.specs.Values.{value_low, value_high}
 use Rattle.message.specs.declared.Body.{Body}
@@ -30,3 +31,14 @@ abbrev pub from_kind : ℕ → ℕ → ℕ → Format Message
 from_kind n l k =
     pick (eqb k 6) (says (record { number = n; level = l; body = Centre }))
     (field (value_low k) (value_high k) (λ v. says (record { number = n; level = l; body = body_of k v })))
+
+-- the kind, after number and level
+abbrev pub from_level : ℕ → ℕ → Format Message
+from_level n l = field 1 6 (from_kind n l)
+
+-- the level, after the number
+abbrev pub from_number : ℕ → Format Message
+from_number n = field 0 last_level (from_level n)
+
+abbrev pub message_format : Format Message
+message_format = field 0 max_number from_number

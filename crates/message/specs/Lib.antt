@@ -1,3 +1,6 @@
 pub mod Message
+pub mod Writing
 pub mod Format
 pub mod Reading
+pub mod Refusals
+pub mod Statement

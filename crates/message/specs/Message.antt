@@ -1,7 +1,7 @@
 -- Document 01, "Messages": "Groups: agreement number, level (0 to 14), kind, value", by the table of six kinds.
-use Rattle.std.specs.Prelude.{Bool, true, ◌&&◌, List, [], ◌++◌, ℕ, leb}
+use Rattle.std.specs.Prelude.{◌≡◌, Bool, true, ◌&&◌, List, [], ◌++◌, ℕ, ◌≤◌, leb}
 pub use Rattle.base.specs.Limits.{last_level, none_value}
-use Rattle.base.specs.Limits.{max_degree}
+use Rattle.base.specs.Limits.{max_number, max_degree}
 use Rattle.varint.specs.Varint.{varint_bytes}
 use Rattle.message.specs.declared.Body.{Body}
 use Rattle.message.specs.declared.Body.TheVariants.{FirstEcho, FirstProposal, SecondEcho, SecondProposal, Side, Centre}
@@ -30,6 +30,10 @@ body_in_table Centre = true
 
 abbrev pub in_table : Message → Bool
 in_table m = leb m.level last_level && body_in_table m.body
+
+-- "An agreement number (0 to 4,294,967,295)", and level, kind and value by the table
+abbrev pub InLimits : Message → Type 0
+InLimits m = (in_table m ≡ true) × (m.number ≤ max_number)
 
 -- the value's group; "field absent" for a centre
 abbrev pub value_bytes : Body → List ℕ

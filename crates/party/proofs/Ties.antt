@@ -9,7 +9,7 @@ use lib.ListN.{length, get_or, set, take, drop, replicate, take-append-drop, len
 use lib.Seq.{take-nil, take-set-le, take-set-lt, drop-set-lt, drop-set-add, drop-drop, get_or-take, get_or-drop, take_at, drop_at}
 use Rattle.message.specs.declared.Message.{Message}
 use Rattle.message.specs.Message.{in_table}
-use Rattle.message.proofs.Values.{table_parts}
+use Rattle.message.proofs.RoundTrip.{table_parts}
 use Rattle.senders.specs.Senders.{is_in, with_sender}
 use Rattle.plan.specs.Plan.{Plan}
 use Rattle.plan.specs.declared.Plan as CodePlan

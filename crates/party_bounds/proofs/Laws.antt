@@ -18,8 +18,8 @@ pub use Rattle.party_bounds.proofs.Steps.{open_last, step_rules, step_messages, 
 -- rules made and left, messages made and left
 pub use Rattle.party_bounds.proofs.Runs.{Within, within_resting, runs_within, within_bytes}
 pub use Rattle.party_bounds.proofs.Life.{run_within, starting_within, taking_within, replayed_within, lived_within}
--- no rule applies in the end, whatever the fuel, if it is enough; and where none applies nothing changes
-pub use Rattle.party_bounds.proofs.Runs.{Quiescent, quiescent_levels, levels_quiescent, quiescent_rest, stopped, runs_quiescent, runs_same}
+-- no rule applies in the end, whatever the fuel, if it is enough
+pub use Rattle.party_bounds.proofs.Runs.{Quiescent, quiescent_levels, levels_quiescent, quiescent_rest, runs_quiescent, runs_same}
 pub use Rattle.party_bounds.proofs.Life.{run_quiescent, starting_quiescent, taking_quiescent, replayed_quiescent, lived_quiescent, new_quiescent, set_up_quiescent}
 -- document 01's numbers
 pub use Rattle.party_bounds.proofs.Life.{within_rules, outgoing_enough, within_outgoing, set_up_rules}

@@ -14,11 +14,13 @@ use Rattle.plan.specs.Plan.{Plan}
 use Rattle.plan.specs.Valid.{plan_valid}
 use Rattle.message.specs.declared.Message.{Message}
 use Rattle.message.specs.Message.{in_table, message_bytes}
+use Rattle.journal.specs.declared.Record.{Record}
+use Rattle.journal.specs.declared.Record.TheVariants.{Start, Taken}
 use Rattle.level.specs.Level.{Level}
 use Rattle.party.specs.Party.{Party, new_party, started, entered, held_by, hearing}
 use Rattle.party.specs.Valid.{settings_pass}
 use Rattle.party.specs.Run.{Ran, resting, run, starting, taking, bytes_of}
-use Rattle.party_life.specs.Life.{Record, Start, Taken, replayed, following, lived, Fits, Life}
+use Rattle.party_life.specs.Life.{replayed, following, lived, Fits, Life}
 use Rattle.party_life.proofs.Fits.{fits_start, fits_taken}
 use Rattle.party_laws.proofs.Laws.{sending_entered, open_sending, run_keeps, starting_keeps, taking_keeps, entered_level, keeps_hearing, keeps_entered}
 use Rattle.party_laws.proofs.Calls.{new_level}

@@ -96,7 +96,7 @@ bytes_most b (m ∷ ms) h =
     )
 
 -- a party to which no rule applies stays as it is
-pub stopped : (p : Party) → Quiescent p → (f : ℕ) → run_up_to (suc f) p ≡ resting p
+stopped : (p : Party) → Quiescent p → (f : ℕ) → run_up_to (suc f) p ≡ resting p
 unfolding run_up_to
 stopped p q f = ap (λ (b : Bool). pick b (one_more (made_by p.agreement (open_level p) (rule_at p (open_level p)).effect) (run_up_to f (step_at p (open_level p)))) (resting p))
     (ap (λ (x : ℕ). ltb x level_count) q)

@@ -154,8 +154,8 @@ runs_kept f p = runs_keep (Ruled p) (ruled_step p) f p (keeps_refl p, λ i. refl
 pub run_kept : (p : Party) → Keeps p (run p).party × SameSets p (run p).party
 run_kept p = run_keeps (Ruled p) (ruled_step p) p (keeps_refl p, λ i. refl)
 
-pub starting_kept_lem : (p : Party) (x : ℕ) → (T (started p) → ⊥) → Keeps p (starting p x).party × SameSets p (starting p x).party
-starting_kept_lem p x new = starting_keeps (Ruled p) (ruled_step p) p x (keeps_entered p x new, sets_entered p x)
+pub starting_kept : (p : Party) (x : ℕ) → (T (started p) → ⊥) → Keeps p (starting p x).party × SameSets p (starting p x).party
+starting_kept p x new = starting_keeps (Ruled p) (ruled_step p) p x (keeps_entered p x new, sets_entered p x)
 
 pub taking_kept : (p : Party) (s : ℕ) (m : Message) → Keeps p (taking p s m).party
 taking_kept p s m = taking_keeps (Keeps p) (λ q i h o. keeps_trans p q (step_at q i) h (step_kept q i o).0) p s m (keeps_refl p) (keeps_hearing p s m)

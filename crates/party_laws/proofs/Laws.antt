@@ -38,7 +38,7 @@ pub use Rattle.party_laws.proofs.Kept.{Step, changes, enters, open_step}
 
 -- settings, plan, and the entered flag, side and position of an entered level; and the sets, where nothing is heard
 pub use Rattle.party_laws.proofs.Kept.{Keeps, keeps_refl, keeps_trans, SameSets}
-pub use Rattle.party_laws.proofs.Kept.{step_kept, runs_kept, run_kept, starting_kept_lem, taking_kept, keeps_hearing, keeps_entered, sets_entered}
+pub use Rattle.party_laws.proofs.Kept.{step_kept, runs_kept, run_kept, starting_kept, taking_kept, keeps_hearing, keeps_entered, sets_entered}
 -- a message that is held changes nothing; after any other the sets are those with it
 pub use Rattle.party_laws.proofs.Kept.{hearing_held, taking_sets}
 -- an entered level stays over its component, sends if it did, and its rules see the same, but for the next level

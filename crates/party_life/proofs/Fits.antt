@@ -5,11 +5,14 @@ use Prim.Native.Nat.{ℕ, ◌<◌}
 use lib.Dec.{T, ltb, eqb, eqb→eq}
 use borrow.Author.Tests.{lt-ltb, eq-eqb, eqb-true, ltb-true}
 use Rattle.base.specs.Pick.{pick}
-use Rattle.base.proofs.Bools.{T-left, false→not-T, not-T→false}
+use Rattle.base.proofs.Bools.{T_and, T-left, true→T, false→not-T, not-T→false}
 use Rattle.message.specs.declared.Message.{Message}
 use Rattle.message.specs.Message.{in_table}
+use Rattle.journal.specs.declared.Record.{Record}
+use Rattle.journal.specs.declared.Record.TheVariants.{Start, Taken}
+use Rattle.journal.specs.Records.{InLimits}
 use Rattle.party.specs.Party.{Party, started}
-use Rattle.party_life.specs.Life.{Record, Start, Taken, fault, tabled, Fits}
+use Rattle.party_life.specs.Life.{fault, tabled, Fits}
 
 module _ (p : Party) where
   -- A start's record: of this vote, the only one, and on the plan.
@@ -41,3 +44,11 @@ module _ (p : Party) where
   -- a record that fits has no fault
   pub fits_fault : (r : Record) → Fits p r → fault p r ≡ 0
   fits_fault r f = eqb→eq (fault p r) 0 (T-left (eqb (fault p r) 0) (tabled r) f)
+
+  -- a record in its limits without a fault fits
+  pub fault_fits : (r : Record) → InLimits r → fault p r ≡ 0 → Fits p r
+  fault_fits r l e = T_and (eqb (fault p r) 0) (tabled r) (true→T (eq-eqb (fault p r) 0 e)) (table r l)
+    where
+      table : (r : Record) → InLimits r → T (tabled r)
+      table (Start a x) l = tt
+      table (Taken s m) l = true→T l.1.0

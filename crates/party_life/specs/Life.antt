@@ -3,13 +3,10 @@ use Rattle.std.specs.Prelude.{Bool, true, ◌&&◌, List, [], ◌∷◌, ◌++�
 use Rattle.base.specs.Pick.{pick}
 use Rattle.message.specs.declared.Message.{Message}
 use Rattle.message.specs.Message.{in_table}
+use Rattle.journal.specs.declared.Record.{Record}
+use Rattle.journal.specs.declared.Record.TheVariants.{Start, Taken}
 use Rattle.party.specs.Party.{Party, started}
 use Rattle.party.specs.Run.{Ran, resting, starting, taking}
-
--- a record of a call at the levels: a start, or a taken message of a level. Those of a journal hold closing messages too (crate member_life)
-pub data Record : Type 0 where
-  Start : (agreement position : ℕ) → Record
-  Taken : (sender : ℕ) (message : Message) → Record
 
 -- what a record's call did
 unfoldable pub replayed : Party → Record → Ran
@@ -25,8 +22,8 @@ unfoldable pub lived : Party → List Record → Ran
 lived p [] = resting p
 lived p (r ∷ rs) = following (lived p rs) (replayed (lived p rs).party r)
 
--- the questions that a restore asks of a record, of those at the levels: "Our number? 16. Sender below n? 14. Not a second start? 13. Position on the plan? 12.": the
--- number of the first that fails, or 0, of a party that has started or not
+-- "Restore, each record: .. Our number? 16. Sender below n? 14. Not a second start? 13. Position on the plan? 12.": the number of the first question that
+-- fails, or 0, of a party that has started or not
 abbrev pub fault_of : Party → Bool → Record → ℕ
 fault_of p begun (Start a x) = pick (eqb a p.agreement) (pick begun 13 (pick (ltb x p.plan.count) 0 12)) 16
 fault_of p begun (Taken s m) = pick (eqb m.number p.agreement) (pick (ltb s p.n) 0 14) 16

@@ -14,6 +14,8 @@ use Rattle.tree.specs.Edges.{label, joined, adjacent, ends}
 use Rattle.tree.specs.Component.{upto, without, part, heavy, light, centre, neighbours, degree, rank, neighbour, side, gateway, port}
 use Rattle.tree.specs.Path.{path_edges}
 use Rattle.message.specs.declared.Body.TheVariants.{Centre}
+use Rattle.journal.specs.declared.Record.{Record}
+use Rattle.journal.specs.declared.Record.TheVariants.{Taken}
 use Rattle.plan.specs.Positions.{edges_of, range_plan}
 use Rattle.plan.specs.Valid.{all_zero, plan_valid}
 use Rattle.level.specs.Level.{Level, slot_count, not_yet, no_output, blank_level, slot, senders, held, with_heard}
@@ -22,7 +24,7 @@ use Rattle.level.specs.Rules.{rule1, rule2, rule3, rule4, rule5, rule6, rule7, r
 use Rattle.party.specs.Party.{Party, level_at, with_level, component_of, sending, context_of, entering, entered, held_by, hearing}
 use Rattle.party.specs.Run.{rule_at, open_at, open_level, after_rule, run_up_to, run, starting, taking}
 use Rattle.party.specs.Valid.{every_level, sets_pass, level_passes, party_valid}
-use Rattle.party_life.specs.Life.{Record, Taken, replayed, lived, Life, made_along}
+use Rattle.party_life.specs.Life.{replayed, lived, Life, made_along}
 use Rattle.base.specs.Distinct.{Distinct}
 
 -- level 0 is entered at position 0, the port is echoed, and the first result is 0; there is no place for a second echo

@@ -1,4 +1,3 @@
-pub mod Different
 pub mod Spent
 pub mod Made
 pub mod Once

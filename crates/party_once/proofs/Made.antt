@@ -1,8 +1,9 @@
--- The messages of a party's rules are different: each could still be made before, and is made no more after.
+-- What makes messages that are different: each could still be made before, and is made no more after.
 use mathlib.Core.Path.{◌≡◌, sym, ap, subst, subst₂}
+use mathlib.Core.Logic.{◌⊎◌, inl, inr}
 use mathlib.Core.Bool.{Bool, ◌||◌}
 use mathlib.Core.List.Memᴰ
-use mathlib.Core.List.{List, [], Memᴰ}
+use mathlib.Core.List.{List, [], ◌++◌, Memᴰ}
 use Prim.Native.Nat.{ℕ, ◌+◌}
 use native.Mathlib.Decide.{ℕ_discrete}
 use native.Mathlib.Omega.{arith}
@@ -22,8 +23,7 @@ use Rattle.party_laws.proofs.Laws.{sending_level, open_sending, open_move}
 use Rattle.party_bounds.proofs.Measures.{Aged, Ruled}
 use Rattle.party_bounds.proofs.Sized.{Sized, open_ruled}
 use Rattle.base.specs.Distinct.{Distinct}
-use Rattle.party_once.proofs.Different as different
-use Rattle.party_once.proofs.Different.{none_made}
+use Rattle.base.proofs.Distinct.{distinct_append}
 use Rattle.party_once.proofs.Spent.{Spent, spent_stays, stays_grows, stays_later, Spends, move_spends}
 
 -- ---- from a party to a later one
@@ -37,17 +37,48 @@ abbrev pub SpentAt : Party → Message → Type 0
 SpentAt p m = SpentIn p m.level m.body
 
 -- from p to q the messages ms were made
-abbrev pub Made : Party → List Message → Party → Type 0
-Made p ms q = different.Made SpentAt p ms q
+pub record Made (p : Party) (ms : List Message) (q : Party) : Type 0 where
+  pub stays : (m : Message) → SpentAt p m → SpentAt q m
+  pub new : (m : Message) → Memᴰ m ms → SpentAt p m → ⊥
+  pub spent : (m : Message) → Memᴰ m ms → SpentAt q m
+  pub distinct : Distinct ms
+
+-- none
+none_made : (p q : Party) → ((m : Message) → SpentAt p m → SpentAt q m) → Made p [] q
+none_made p q s = record { stays = s; new = λ m h. absurd (Memᴰ.not-nil h); spent = λ m h. absurd (Memᴰ.not-nil h); distinct = tt }
+
+pub made_refl : (p : Party) → Made p [] p
+made_refl p = none_made p p (λ m h. h)
 
 -- without a rule
 pub made_aged : (p q : Party) → Aged p q → Made p [] q
 made_aged p q a =
-    none_made SpentAt p q (λ m h.
+    none_made p q (λ m h.
     let i : ℕ = m.level in
     subst (λ (n : Bool). Spent n (level_at q i) m.body) (sym (a.entered i))
     (spent_stays (level_at p (i + 1)).entered (level_at p (i + 1)).entered (level_at p i) (level_at q i) (λ n. n)
     (stays_later (level_at p i) (level_at q i) (a.levels i)) m.body h))
+
+-- what was made before is not made again
+made_apart : (p q r : Party) (ms ns : List Message) → Made p ms q → Made q ns r → (m : Message) → Memᴰ m ms → Memᴰ m ns → ⊥
+made_apart p q r ms ns a b m h k = b.new m k (a.spent m h)
+
+-- one after the other
+pub made_trans : (p q r : Party) (ms ns : List Message) → Made p ms q → Made q ns r → Made p (ms ++ ns) r
+made_trans p q r ms ns a b = record {
+  stays = λ m h. b.stays m (a.stays m h);
+  new = λ m h s. first m s (Memᴰ.append_cases ms h);
+  spent = λ m h. last m (Memᴰ.append_cases ms h);
+  distinct = distinct_append ms ns a.distinct b.distinct (made_apart p q r ms ns a b);
+}
+  where
+    first : (m : Message) → SpentAt p m → Memᴰ m ms ⊎ Memᴰ m ns → ⊥
+    first m s (inl h) = a.new m h s
+    first m s (inr h) = b.new m h (a.stays m s)
+
+    last : (m : Message) → Memᴰ m ms ⊎ Memᴰ m ns → SpentAt r m
+    last m (inl h) = b.stays m (a.spent m h)
+    last m (inr h) = b.spent m h
 
 -- ---- the message of one rule
 

@@ -17,7 +17,7 @@ use Rattle.component.specs.Inner.{Lent, Enterable, Holds}
 use Rattle.component_laws.proofs.Laws.{whole_plan, whole_in}
 use Rattle.message.specs.declared.Message.{Message}
 use Rattle.message.specs.Message.{in_table}
-use Rattle.message.proofs.Values.{table_parts}
+use Rattle.message.proofs.RoundTrip.{table_parts}
 use Rattle.senders.specs.Senders.{is_in, with_sender}
 use Rattle.level_counts.proofs.Slots.{slot_lt}
 use Rattle.level.specs.declared.Level as CodeLevel

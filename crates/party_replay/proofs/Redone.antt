@@ -1,4 +1,4 @@
--- What a call at the levels gives.
+-- What a record's call gives when it is made again.
 use mathlib.Core.Path.{◌≡◌, refl, sym, ap, ◌∙◌, subst}
 use mathlib.Core.Bool.{true}
 use mathlib.Core.List.{List}
@@ -8,12 +8,24 @@ use lib.ListN.{length}
 use Rattle.base.specs.Put.{put_at}
 use Rattle.base.proofs.Puts.{put_none}
 use Rattle.message.specs.declared.Message.{Message}
+use Rattle.journal.specs.declared.Record.{Record}
+use Rattle.journal.specs.declared.Record.TheVariants.{Start, Taken}
 use Rattle.party.specs.declared.Chart.{Chart}
 use Rattle.party.specs.Party.{Party, held_by}
-use Rattle.party.specs.Run.{Ran, resting, taking}
+use Rattle.party.specs.Run.{Ran, resting, starting, taking}
 use Rattle.party.specs.Inner.{Charts}
+use Rattle.party_life.specs.Life.{replayed}
 use Rattle.party_run.specs.Inner.{Outcome, Gives, Room}
 use Rattle.party_run.proofs.Going.{bytes_none}
+
+module _ (p : Party) (x : Record) where
+  pub replayed_start : {a y : ℕ} → x ≡ Start a y → replayed p x ≡ starting p y
+  unfolding replayed
+  replayed_start e = ap (replayed p) e
+
+  pub replayed_taken : {s : ℕ} {m : Message} → x ≡ Taken s m → replayed p x ≡ taking p s m
+  unfolding replayed
+  replayed_taken e = ap (replayed p) e
 
 -- a message that is held
 pub taking_held : (p : Party) (s : ℕ) (m : Message) → held_by p s m ≡ true → taking p s m ≡ resting p

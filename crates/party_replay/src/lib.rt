@@ -1,14 +1,15 @@
-// What a call does at the levels: a start, or a message taken, and then rules until none applies. Messages are written from the place `from` on.
+// What a record's call does: a start, or a message taken, and then rules until none applies.
 ghost use Rattle.std.specs.Prelude.{◌≡◌, true, false, ◌<◌, length};
 ghost use Rattle.plan.specs.Tie.{shaped};
 ghost use Rattle.message.specs.Message.{in_table};
 ghost use Rattle.party.specs.Party.{started};
 ghost use Rattle.party.specs.Run as Rules;
 ghost use Rattle.party.specs.Tie.{party_in};
+ghost use Rattle.party_life.specs.Life.{replayed, Fits};
 ghost use Rattle.party_run.specs.Inner.{as_outcome, Gives, Ready, Room};
 
 // Level 0 is entered at x, and rules are applied.
-pub fn start(
+fn start(
     v: party::Vote,
     shape: plan::Shape,
     ps: &[u16],
@@ -41,7 +42,7 @@ pub fn start(
 }
 
 // A message is taken from s, and rules are applied; one that is held changes nothing.
-pub fn take(
+fn take(
     v: party::Vote,
     shape: plan::Shape,
     ps: &[u16],
@@ -70,4 +71,35 @@ pub fn take(
     }
     sets[k] = senders::add(mask, s);
     party_run::run(v, shape, ps, cs, sets, levels, chart, ports, out, from)
+}
+
+// What a record's call does: a start, or a message taken. Its messages are written from the place `from` on.
+pub fn replay(
+    v: party::Vote,
+    shape: plan::Shape,
+    ps: &[u16],
+    cs: &[u16],
+    sets: &mut party::Sets,
+    levels: party::Levels,
+    chart: party::Chart,
+    ports: &mut [u8; base::MAX_VERTICES],
+    r: journal::Record,
+    out: &mut [u8],
+    from: usize,
+) -> party_run::Ran
+    requires { Ready (party_in v (shaped shape ps.now cs.now) levels sets.old) chart ports.old × Room (replayed (party_in v (shaped shape ps.now cs.now) levels sets.old) r) from (length out.old) × Fits (party_in v (shaped shape ps.now cs.now) levels sets.old) r }
+    ensures { Gives (replayed (party_in v (shaped shape ps.now cs.now) levels sets.old) r) from out.old (as_outcome v (shaped shape ps.now cs.now) sets.new ports.new result) out.new }
+{
+    match r {
+        journal::Record::Start {
+            agreement: _,
+            position: x,
+        } => start(v, shape, ps, cs, sets, levels, chart, ports, x, out, from),
+        journal::Record::Taken {
+            sender: s,
+            message: m,
+        } => take(
+            v, shape, ps, cs, sets, levels, chart, ports, s, m, out, from,
+        ),
+    }
 }

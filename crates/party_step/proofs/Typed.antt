@@ -1,10 +1,10 @@
 -- What the types of levels, a chart and a party's record tell: how long their arrays are.
-use mathlib.Core.Path.{◌≡◌, sym, ap, ◌∙◌, subst}
-use mathlib.Core.List.{List, [], ◌∷◌, map}
+use mathlib.Core.Path.{◌≡◌, ap, ◌∙◌}
+use mathlib.Core.List.{List, [], ◌∷◌}
 use Prim.Native.Nat.{ℕ, zero, suc, ◌<◌}
 use native.Mathlib.Nat.{not-suc-le-zero}
 use native.Mathlib.Omega.{arith}
-use lib.ListN.{length, get_or, length-map, get_or-map}
+use lib.ListN.{length, get_or}
 use mir.Val.{Val}
 use base.Fml.{Fml}
 use denote.Shadow.{shadow}
@@ -25,7 +25,7 @@ use Rattle.party.proofs.Ties.{length_tied, level_in}
 use Rattle.party.specs.contracts.Party as PartyType
 use Rattle.party.specs.contracts.Chart as ChartType
 
--- what is said of each element's value is said of the one at i: of an array, and of one in a record
+-- what is said of each element's value is said of the one at i
 each_at : {A : Type 0} (f : A → List Val → Fml) (xs : List A) (us : List Val) (none : A) → shadow (each A f xs us) → (i : ℕ) → i < length xs
     → (u : Val) × shadow (f (get_or xs i none) (u ∷ []))
 each_at f [] us z h i l = absurd (not-suc-le-zero l)
@@ -33,13 +33,8 @@ each_at f (x ∷ xs) [] z h i l = absurd h
 each_at f (x ∷ xs) (u ∷ us) z h zero l = (u, h.0)
 each_at f (x ∷ xs) (u ∷ us) z h (suc i) l = each_at f xs us z h.1 i (omega arith)
 
-each_in : {A D : Type 0} (g : A → D) (f : D → List Val → Fml) (xs : List A) (us : List Val) (none : A) → shadow (each D f (map g xs) us) → (i : ℕ) → i < length xs
-    → (u : Val) × shadow (f (g (get_or xs i none)) (u ∷ []))
-each_in g f xs us none h i l =
-    subst (λ y. (u : Val) × shadow (f y (u ∷ []))) (get_or-map g xs i none) (each_at f (map g xs) us (g none) h i (omega (arith, length-map xs g)))
-
 level_echoes : (l : CodeLevel.Level) (vs : List Val) → Is LevelType.the_row l vs → length l.echoed ≡ value_count
-level_echoes l vs h = sym (length-map l.echoed _) ∙ h.1.1.1.1.1.1.1.1.1.0.1.0.1
+level_echoes l vs h = h.1.1.1.1.1.1.1.1.1.0.1.0.1
 
 module _ (ls : List CodeLevel.Level) (vs : List Val) (h : Is (Array LevelType.the_row level_count) ls vs) where
   pub levels_full : length ls ≡ level_count
@@ -47,20 +42,20 @@ module _ (ls : List CodeLevel.Level) (vs : List Val) (h : Is (Array LevelType.th
 
   pub levels_echoes : (i : ℕ) → i < level_count → length (get_or ls i no_code_level).echoed ≡ value_count
   levels_echoes i l =
-      let e = each_at _ ls h.0 no_code_level h.1.1 i (omega (arith, levels_full)) in
+      let e = each_at (LevelType.the_row).own_val ls h.0 no_code_level h.1.1 i (omega (arith, levels_full)) in
       level_echoes (get_or ls i no_code_level) (e.0 ∷ []) e.1
 
 pub chart_surveys : (c : Chart) (vs : List Val) → Is ChartType.the_row c vs → length c.surveys ≡ level_count
-chart_surveys c vs h = sym (length-map c.surveys _) ∙ h.1.1.1.0.1.0.1
+chart_surveys c vs h = h.1.1.1.0.1.0.1
 
 -- a party's record
 module _ (p : Code.Party) (vs : List Val) (h : Is PartyType.the_row p vs) where
   full : length p.levels ≡ level_count
-  full = sym (length-map p.levels _) ∙ h.1.1.1.1.1.1.1.0.1.0.1
+  full = h.1.1.1.1.1.1.1.0.1.0.1
 
   -- every value of the type is whole
   pub typed_whole : Whole p
-  typed_whole = record { levels = full; sets = sym (length-map p.sets _) ∙ h.1.1.1.1.1.1.1.1.0.1.0.1 }
+  typed_whole = record { levels = full; sets = h.1.1.1.1.1.1.1.1.0.1.0.1 }
 
   -- and stands for a party that has what its type says
   pub typed_party : Typed (as_party p)
@@ -68,7 +63,7 @@ module _ (p : Code.Party) (vs : List Val) (h : Is PartyType.the_row p vs) where
     levels = length_tied slot_count p.levels p.sets ∙ full;
     echoes = λ i l.
         let a = h.1.1.1.1.1.1.1.0 in
-        let e = each_in _ _ p.levels a.0 no_code_level a.1.1 i (omega (arith, full)) in
+        let e = each_at (LevelType.the_row).own_val p.levels a.0 no_code_level a.1.1 i (omega (arith, full)) in
         ap (λ (m : Level). length m.echoed) (level_in (vote_of p) (as_plan p.plan) p.levels p.sets i (omega (arith, full)))
         ∙ level_echoes (get_or p.levels i no_code_level) (e.0 ∷ []) e.1;
     agreement = omega (arith, h.1.1.1.1.1.0.1);

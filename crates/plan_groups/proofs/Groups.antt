@@ -1,22 +1,18 @@
 -- What each group that was found leads on to.
 use mathlib.Core.Path.{◌≡◌, refl, sym, ap, ◌∙◌, subst, subst₂}
-use mathlib.Core.Logic.{inl, inr}
-use mathlib.Core.Bool.{Bool, true, false, not, ◌&&◌}
+use mathlib.Core.Bool.{Bool, true, false, ◌&&◌}
 use mathlib.Core.List.{List, [], ◌∷◌}
 use Prim.Native.Nat.{ℕ, suc, ◌+◌, ◌-◌, ◌≤◌, ◌<◌}
 use native.Mathlib.Omega.{arith}
 use lib.Dec.{T, ltb, leb, eqb, leb→le, le→leb}
 use lib.ListN.{length}
 use borrow.Author.Tests.{lt-ltb, le-ltb, eq-eqb, ne_eqb, ltb-true, ltb-false}
-use types.Run.{OneOf}
-use denote.Enum.Declared.{tag_of}
 use Rattle.base.specs.Pick.{pick}
 use Rattle.base.specs.Found.{Found, found, refused, ask}
 use Rattle.base.specs.Limits.{max_vertices, max_width, max_reading}
 use Rattle.base.proofs.Bools.{T_and, T-left, T-right}
 use Rattle.signed.specs.Signed.{offset_of_zigzag}
 use Rattle.tree.specs.Edges.{Edges, Below}
-use Rattle.varint.specs.contracts.VarintRead.{the_type}
 use Rattle.varint.specs.declared.VarintRead.{VarintRead}
 use Rattle.varint.specs.Reading.{varint_at}
 use Rattle.edges.specs.Reading.{onward, varint_then, ends_apart, not_joined, room_at_ends, edges_from}
@@ -43,11 +39,10 @@ known l e h = subst (λ (x : Next). Sound x l) e h
 
 -- no value was found
 abbrev pub NoValue : VarintRead → Type 0
-NoValue r = OneOf (1 ∷ 2 ∷ []) (tag_of the_type r)
+NoValue r = (x next : ℕ) → r ≡ VarintRead.Value x next → ⊥
 
 no_value : {A : Type 0} (at : ℕ) (r : VarintRead) (f : ℕ → ℕ → Found A) → NoValue r → onward at r f ≡ refused 4 at
-no_value at (VarintRead.Value v next) f (inl e) = let z : ◌≡◌ {A = ℕ} 0 1 = e in absurd (omega arith)
-no_value at (VarintRead.Value v next) f (inr e) = let z : ◌≡◌ {A = ℕ} 0 2 = e in absurd (omega arith)
+no_value at (VarintRead.Value v next) f h = absurd (h v next refl)
 no_value at (VarintRead.Short least) f h = refl
 no_value at VarintRead.Malformed f h = refl
 

@@ -2,7 +2,7 @@
 use second_wire::num;
 
 // An outgoing buffer, with more bytes than a call asks for; the two of both implementations.
-pub const OUTGOING: usize = num::OUTGOING + 60;
+pub const OUTGOING: usize = 2700;
 
 pub type Out = [u8; 2 * OUTGOING];
 
@@ -26,29 +26,14 @@ pub fn fill(out: &mut Out, from: usize) {
     }
 }
 
-// Whether two parts are the same. All bytes are looked at, so that the compiler takes many at once.
-fn is_equal(a: &[u8], b: &[u8]) -> bool {
-    let count = a.len();
-    if count != b.len() {
-        return false;
-    }
-    let mut differing: u8 = 0;
-    for i in 0..count {
-        differing = differing | (a[i] ^ b[i]);
-    }
-    differing == 0
-}
-
-// Whether both are the same from `from` to before `to`, which lie within.
+// Whether both are the same from `from` to before `to`.
 pub fn is_same(bytes: &[u8], on: usize, from: usize, to: usize) -> bool {
-    let first = num::add(from, on);
-    let end = num::add(to, on);
-    if from <= to && first <= end {
-        if to <= bytes.len() && end <= bytes.len() {
-            return is_equal(&bytes[from..to], &bytes[first..end]);
+    for i in from..to {
+        if num::byte_at(bytes, i) != num::byte_at(bytes, num::add(i, on)) {
+            return false;
         }
     }
-    false
+    true
 }
 
 // So many bytes are copied within.

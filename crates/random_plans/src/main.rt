@@ -1,6 +1,8 @@
 // Verdicts of plans, cycles of rejected ones and sending levels of those that pass: random plans, of
 // which more than a third are refused by 8, and trees and ranges that pass, in the library and in a
 // second implementation; of small plans all sets of edges are tried.
+#![tactic(auto)]
+
 mod compare;
 mod report;
 mod tally;
@@ -11,6 +13,7 @@ use random_plans_draw::{passing, plans, state};
 use second_cycle::cycle::Cycle;
 use second_cycle::{cycle, path};
 use second_wire::num;
+use std::io;
 
 // How many plans a run has, and the states of the pseudo-random numbers before each run's first.
 const PLANS: usize = 4000;
@@ -64,29 +67,29 @@ fn run_passing_one(s: &mut State, kind: usize) {
 }
 
 // A run of plans from a seed.
-fn run(seed: usize) {
+fn run(rt: &impl Print, seed: usize) -> io::Result<()> {
     let mut s = state::begin(seed);
-    report::write_seed(&s);
+    report::write_seed(rt, &s)?;
     for _ in 0..PLANS {
         run_one(&mut s);
     }
-    report::write(&s);
+    report::write(rt, &s)
 }
 
 // A run of plans of a kind that pass.
-fn run_passing(kind: usize, words: &[u8]) {
+fn run_passing(rt: &impl Print, kind: usize, words: &[u8]) -> io::Result<()> {
     let mut s = state::begin(SEED);
-    report::write_seed(&s);
+    report::write_seed(rt, &s)?;
     for _ in 0..PASSING {
         run_passing_one(&mut s, kind);
     }
-    report::write_passing(&s, words);
+    report::write_passing(rt, &s, words)
 }
 
 // Two runs of any plans, one of trees and one of ranges.
-fn main() {
-    run(SEED);
-    run(OTHER_SEED);
-    run_passing(passing::TREE, b"trees");
-    run_passing(passing::RANGE, b"ranges");
+fn main(rt: HostRuntime) -> io::Result<()> {
+    run(&rt, SEED)?;
+    run(&rt, OTHER_SEED)?;
+    run_passing(&rt, passing::TREE, b"trees")?;
+    run_passing(&rt, passing::RANGE, b"ranges")
 }

@@ -1,6 +1,6 @@
 // A call on a record, made on both implementations, and what is compared of it.
 use crate::{calls, compare};
-use member::Member;
+use party::Party;
 use random_buffers::Out;
 use random_calls::{number_of, place_of, wide};
 use random_records_draw::state;
@@ -12,7 +12,7 @@ use second_wire::num;
 pub type Journals = [u8; 2 * state::JOURNAL];
 
 // The call on the library.
-fn call_first(p: Member, s: &mut State, journals: &mut Journals, out: &mut Out) -> Member {
+fn call_first(p: Party, s: &mut State, journals: &mut Journals, out: &mut Out) -> Party {
     let c = calls::make_first(p, s, journals, out);
     let v = c.verdict;
     let number = number_of(v);
@@ -26,7 +26,7 @@ fn call_first(p: Member, s: &mut State, journals: &mut Journals, out: &mut Out) 
         c.sent,
         wide(c.rules),
     );
-    c.member
+    c.party
 }
 
 // The call on the second implementation.
@@ -68,36 +68,25 @@ fn judge(s: &mut State, journals: &Journals, out: &Out) {
     }
 }
 
-// A call that closed a changed record is counted.
-fn count_closing(s: &mut State, before: Member, after: Member) {
-    if state::get(s, state::CHANGED) == 1 {
-        let closes = after.closing.closed && !before.closing.closed;
-        state::count_if(s, state::CLOSINGS, closes);
-    }
-}
-
-// The readings of what the call left are compared.
-fn judge_reading(p: Member, t: &Table, asked: u32, s: &mut State) {
+// The reading of what the call left is compared.
+fn judge_reading(p: Party, t: &Table, asked: u32, s: &mut State) {
     let same = compare::is_same_reading(p, t, asked);
     state::count_if(s, state::DIFFERENCES, !same);
-    let same_closing = compare::is_same_closing(p, t, asked);
-    state::count_if(s, state::DIFFERENCES, !same_closing);
 }
 
-// The call that the state describes, and readings, on both: the party comes back, the table is
+// The call that the state describes, and a reading, on both: the party comes back, the table is
 // lent. Question 19 of the record gave `asked` in the second implementation.
 pub fn call(
-    before: Member,
+    before: Party,
     t: &mut Table,
     asked: u32,
     s: &mut State,
     journals: &mut Journals,
     out: &mut Out,
-) -> Member {
+) -> Party {
     let p = call_first(before, s, journals, out);
     call_second(t, asked, s, journals, out);
     judge(s, journals, out);
-    count_closing(s, before, p);
     judge_reading(p, t, asked, s);
     p
 }

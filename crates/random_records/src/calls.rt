@@ -1,5 +1,5 @@
 // A call as the state describes it, made on the library and on the second implementation.
-use member::Member;
+use party::Party;
 use random_buffers::OUTGOING;
 use random_calls::{first_of, lent, word};
 use random_records_draw::state;
@@ -30,13 +30,13 @@ fn write_message(s: &State, room: &mut Room) -> usize {
 // ---- the library
 
 // A start on lent buffers.
-fn first_start(p: Member, s: &State, journal: &mut [u8], out: &mut [u8]) -> board::Called {
+fn first_start(p: Party, s: &State, journal: &mut [u8], out: &mut [u8]) -> board::Called {
     board::start(p, input(s), journal, state::get(s, state::USED), out)
 }
 
 // A take of the message on lent buffers.
 fn first_take(
-    p: Member,
+    p: Party,
     s: &State,
     message: &[u8],
     journal: &mut [u8],
@@ -48,7 +48,7 @@ fn first_take(
 
 // A start or a take on lent buffers.
 fn first_on(
-    p: Member,
+    p: Party,
     s: &State,
     message: &[u8],
     journal: &mut [u8],
@@ -61,7 +61,7 @@ fn first_on(
 }
 
 // The call on what is lent of its journal and of its outgoing buffer.
-pub fn make_first(p: Member, s: &State, journals: &mut [u8], out: &mut [u8]) -> board::Called {
+pub fn make_first(p: Party, s: &State, journals: &mut [u8], out: &mut [u8]) -> board::Called {
     let mut room = num::empty_room();
     let length = write_message(s, &mut room);
     let journal = lent(journals, 0, state::get(s, state::ROOM));

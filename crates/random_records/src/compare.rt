@@ -1,16 +1,13 @@
 // What the two implementations gave is compared.
 use crate::both::Journals;
-use member::Member;
+use party::Party;
 use random_buffers::{OUTGOING, Out};
 use random_calls::{number_of, wide};
 use random_records_draw::state;
 use random_records_draw::state::State;
+use second_plan::table;
 use second_plan::table::Table;
-use second_plan::{closing as rows, table};
 use second_wire::num;
-
-// The rows of a table: levels, the vote, closing.
-const ROWS: usize = rows::READY + 1;
 
 // Number, place, used length, sent bytes and rules of a call are noted.
 pub fn note(
@@ -66,48 +63,22 @@ fn is_answer(f: second::Found, z: i64) -> bool {
     false
 }
 
-// What the second implementation reads, where question 19 of the record gave this number: the answer.
-fn answer(t: &Table, asked: u32) -> second::Found {
-    if asked != 0 {
-        return second::nothing();
-    }
-    second::answer(t)
-}
-
-// And closing.
-fn closing_read(t: &Table, asked: u32) -> second::ClosingRead {
-    if asked != 0 {
-        let nothing = second::nothing();
-        return second::ClosingRead {
-            closed: false,
-            value: nothing,
-        };
-    }
-    second::read_closing(t)
-}
-
-// Whether reading the answer gives the same.
-pub fn is_same_reading(p: Member, t: &Table, asked: u32) -> bool {
+// Whether reading gives the same, where question 19 of the record gave this number.
+pub fn is_same_reading(p: Party, t: &Table, asked: u32) -> bool {
     let r = board::read_answer(p);
     let verdict = r.verdict;
-    let first = r.answer;
+    let answer = r.answer;
     if number_of(verdict) != wide(asked) {
         return false;
     }
-    is_same_answer(first, answer(t, asked))
-}
-
-// Whether reading closing gives the same.
-pub fn is_same_closing(p: Member, t: &Table, asked: u32) -> bool {
-    let r = board::read_closing(p);
-    let verdict = r.verdict;
-    let first = r.value;
-    let o = closing_read(t, asked);
-    let second = o.value;
-    if number_of(verdict) != wide(asked) || r.closed != o.closed {
-        return false;
+    if asked != 0 {
+        let nothing = second::Found {
+            there: false,
+            value: 0,
+        };
+        return is_same_answer(answer, nothing);
     }
-    is_same_answer(first, second)
+    is_same_answer(answer, second::answer(t))
 }
 
 // ---- tables
@@ -125,9 +96,9 @@ fn is_same_cell(a: &Table, b: &Table, row: usize, column: usize) -> bool {
     table::at(a, row, column) == table::at(b, row, column)
 }
 
-// Whether the levels, the vote, closing and the sides of vertices are the same.
+// Whether the levels, the vote and the sides of vertices are the same.
 fn is_same_levels(a: &Table, b: &Table) -> bool {
-    for i in 0..ROWS * 256 {
+    for i in 0..17 * 256 {
         if !is_same_cell(a, b, i / 256, i % 256) {
             return false;
         }

@@ -1,6 +1,8 @@
 // Question 19 and calls on records that no history reaches: records of boards in random votes, with
 // a few numbers changed so that they just pass or just fail, in the library and in a second
 // implementation.
+#![tactic(auto)]
+
 mod both;
 mod calls;
 mod compare;
@@ -9,7 +11,7 @@ mod report;
 mod walk;
 
 use both::Journals;
-use member::Member;
+use party::Party;
 use random_buffers::Out;
 use random_calls::{first_of, word};
 use random_records_draw::state::State;
@@ -18,22 +20,23 @@ use second_plan::table;
 use second_plan::table::Table;
 use second_wire::num;
 use second_wire::num::Room;
+use std::io;
 
 // How many votes a run has, and the states of the pseudo-random numbers before each run's first.
-const VOTES: usize = 450;
+const VOTES: usize = 400;
 
 const SEED: usize = 88172645463325252;
 
 const OTHER_SEED: usize = 362436069123456789;
 
 // A party before its start.
-fn set_up(t: &mut Table, s: &State, plan: &[u8]) -> Member {
+fn set_up(t: &mut Table, s: &State, plan: &[u8]) -> Party {
     let n = word(state::get(s, state::BOARDS));
     let f = word(state::get(s, state::FAULTS));
     let number = word(state::get(s, state::NUMBER));
     let a = board::set_up(n, f, 0, number, plan);
     second::set_up(t, n, f, 0, number, plan);
-    a.member
+    a.party
 }
 
 // The messages made are kept.
@@ -44,13 +47,13 @@ fn keep(s: &mut State, out: &Out) {
 
 // The next call of the vote.
 fn step(
-    p: Member,
+    p: Party,
     t: &mut Table,
     i: usize,
     s: &mut State,
     journals: &mut Journals,
     out: &mut Out,
-) -> Member {
+) -> Party {
     lead::draw_call(s, t, i);
     let next = both::call(p, t, 0, s, journals, out);
     keep(s, out);
@@ -58,7 +61,7 @@ fn step(
 }
 
 // Now and then the record is compared as a whole, changed and tried.
-fn look(p: Member, t: &Table, s: &mut State, journals: &mut Journals, out: &mut Out) {
+fn look(p: Party, t: &Table, s: &mut State, journals: &mut Journals, out: &mut Out) {
     if state::once_in(s, 4) {
         walk::check(s, p, t);
         walk::trial(p, t, s, journals, out);
@@ -96,19 +99,19 @@ fn run_one(s: &mut State, journals: &mut Journals, out: &mut Out) {
 }
 
 // A run of votes from a seed.
-fn run(seed: usize, journals: &mut Journals, out: &mut Out) {
+fn run(rt: &impl Print, seed: usize, journals: &mut Journals, out: &mut Out) -> io::Result<()> {
     let mut s = state::begin(seed);
-    report::write_seed(&s);
+    report::write_seed(rt, &s)?;
     for _ in 0..VOTES {
         run_one(&mut s, journals, out);
     }
-    report::write(&s);
+    report::write(rt, &s)
 }
 
 // Two runs.
-fn main() {
+fn main(rt: HostRuntime) -> io::Result<()> {
     let mut journals = [7u8; 2 * state::JOURNAL];
     let mut out = [7u8; 2 * random_buffers::OUTGOING];
-    run(SEED, &mut journals, &mut out);
-    run(OTHER_SEED, &mut journals, &mut out);
+    run(&rt, SEED, &mut journals, &mut out)?;
+    run(&rt, OTHER_SEED, &mut journals, &mut out)
 }

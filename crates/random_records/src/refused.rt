@@ -74,10 +74,10 @@ pub fn set_up(plan: &[u8], s: &mut State, journals: &mut Journals, out: &mut Out
     let a = board::set_up(g.boards, g.faults, g.own, g.number, plan);
     let b = second::set_up(&mut t, g.boards, g.faults, g.own, g.number, plan);
     let v = a.verdict;
-    let member = a.member;
+    let party = a.party;
     if is_refused(s, v, b.number, b.place) {
         state::grow(s, state::SET_UPS, 1);
-        walk::no_party(member, &mut t, s, journals, out);
+        walk::no_party(party, &mut t, s, journals, out);
     }
 }
 
@@ -118,9 +118,9 @@ pub fn restore(plan: &[u8], s: &mut State, journals: &mut Journals, out: &mut Ou
     let a = first_restore(plan, g, journals, left, out);
     let b = second_restore(&mut t, plan, g, journals, left, out);
     let v = a.verdict;
-    let member = a.member;
+    let party = a.party;
     if is_refused(s, v, b.number, b.place) {
         state::grow(s, state::RESTORES, 1);
-        walk::no_party(member, &mut t, s, journals, out);
+        walk::no_party(party, &mut t, s, journals, out);
     }
 }

@@ -1,23 +1,23 @@
 // Calls on records, changed and unchanged, and what is compared of them.
 use crate::both::{Journals, call};
 use crate::{calls, compare};
-use member::Member;
+use party::Party;
 use random_buffers::Out;
 use random_calls::wide;
 use random_records_draw::state::State;
 use random_records_draw::{change, lead, state};
+use second_plan::table;
 use second_plan::table::Table;
-use second_plan::{closing as rows, table};
 use second_sheet::sheet;
 
 // Question 19 of a party's record, by the second implementation, which fills the table.
-fn inspect(p: Member, t: &mut Table) -> u32 {
+fn inspect(p: Party, t: &mut Table) -> u32 {
     let x = random_records_sheet::sheet_of(p);
     second_inspect::inspect(&x, t)
 }
 
 // A record and a table that say the same: the table made of the record is compared with it.
-pub fn check(s: &mut State, p: Member, t: &Table) {
+pub fn check(s: &mut State, p: Party, t: &Table) {
     let mut u = table::empty();
     let number = inspect(p, &mut u);
     state::count_if(s, state::DIFFERENCES, number != 0);
@@ -27,18 +27,18 @@ pub fn check(s: &mut State, p: Member, t: &Table) {
 }
 
 // Draws a call on a record, which has its own agreement number.
-fn draw(s: &mut State, p: Member, t: &Table) {
-    lead::draw_other(s, t, wide(p.party.agreement));
+fn draw(s: &mut State, p: Party, t: &Table) {
+    lead::draw_other(s, t, wide(p.agreement));
 }
 
 // The next call on a record that passed, or on what came back.
-fn next(p: Member, t: &mut Table, s: &mut State, journals: &mut Journals, out: &mut Out) -> Member {
+fn next(p: Party, t: &mut Table, s: &mut State, journals: &mut Journals, out: &mut Out) -> Party {
     draw(s, p, t);
     call(p, t, 0, s, journals, out)
 }
 
 // Three calls on a record that passed.
-fn follow(p: Member, t: &mut Table, s: &mut State, journals: &mut Journals, out: &mut Out) {
+fn follow(p: Party, t: &mut Table, s: &mut State, journals: &mut Journals, out: &mut Out) {
     let first = next(p, t, s, journals, out);
     let second = next(first, t, s, journals, out);
     let third = next(second, t, s, journals, out);
@@ -46,7 +46,7 @@ fn follow(p: Member, t: &mut Table, s: &mut State, journals: &mut Journals, out:
 }
 
 // A call on a record that is refused, which comes back as given.
-fn refuse(p: Member, t: &mut Table, s: &mut State, journals: &mut Journals, out: &mut Out) {
+fn refuse(p: Party, t: &mut Table, s: &mut State, journals: &mut Journals, out: &mut Out) {
     let x = random_records_sheet::sheet_of(p);
     draw(s, p, t);
     let after = call(p, t, 19, s, journals, out);
@@ -67,21 +67,12 @@ fn tally(s: &mut State, number: u32) {
     state::count(s, state::FAILED, kind);
 }
 
-// A changed record that passed is counted if it is closed, and again if it has level 0 entered: no history gives that.
-fn tally_closed(s: &mut State, t: &Table) {
-    if table::is_set(t, table::VOTE, rows::CLOSED) {
-        state::grow(s, state::CLOSED, 1);
-        state::grow(s, state::CLOSED_ENTERED, table::at(t, 0, table::ENTERED));
-    }
-}
-
 // A record is asked question 19 by the second implementation, and called, on a table of its own.
-fn try_record(p: Member, s: &mut State, journals: &mut Journals, out: &mut Out) {
+fn try_record(p: Party, s: &mut State, journals: &mut Journals, out: &mut Out) {
     let mut t = table::empty();
     let number = inspect(p, &mut t);
     tally(s, number);
     if number == 0 {
-        tally_closed(s, &t);
         follow(p, &mut t, s, journals, out);
         return;
     }
@@ -89,14 +80,14 @@ fn try_record(p: Member, s: &mut State, journals: &mut Journals, out: &mut Out) 
 }
 
 // The party's record with a change.
-fn changed(s: &mut State, p: Member, t: &Table) -> Member {
+fn changed(s: &mut State, p: Party, t: &Table) -> Party {
     let mut x = random_records_sheet::sheet_of(p);
     change::change(s, &mut x, t);
-    random_records_sheet::member_of(&x)
+    random_records_sheet::party_of(&x)
 }
 
 // The record of a party in a vote is changed and tried; the vote goes on without that.
-pub fn trial(before: Member, t: &Table, s: &mut State, journals: &mut Journals, out: &mut Out) {
+pub fn trial(before: Party, t: &Table, s: &mut State, journals: &mut Journals, out: &mut Out) {
     let used = state::get(s, state::USED);
     let p = changed(s, before, t);
     state::set(s, state::CHANGED, 1);
@@ -106,14 +97,14 @@ pub fn trial(before: Member, t: &Table, s: &mut State, journals: &mut Journals, 
 }
 
 // Question 19 of a party's record, on a table that is not kept.
-fn ask(p: Member) -> u32 {
+fn ask(p: Party) -> u32 {
     let mut t = table::empty();
     inspect(p, &mut t)
 }
 
 // A refused set-up's or restore's record fails question 19 in both: as the library's record, and in
 // the second implementation's own party.
-pub fn no_party(p: Member, t: &mut Table, s: &mut State, journals: &mut Journals, out: &mut Out) {
+pub fn no_party(p: Party, t: &mut Table, s: &mut State, journals: &mut Journals, out: &mut Out) {
     let number = ask(p);
     state::count_if(s, state::DIFFERENCES, number != 19);
     draw(s, p, t);

@@ -1,15 +1,15 @@
 // Changes of a record: one or a few of its numbers become others that just pass or just fail. The
 // table of the second implementation says where the limits of a level are.
+use crate::state;
 use crate::state::State;
-use crate::{change_closing, state};
 use second_plan::table;
 use second_plan::table::Table;
 use second_sheet::sheet;
 use second_sheet::sheet::Sheet;
 use second_wire::num;
 
-// The kinds of changes: 1 to 7 are the numbers of the vote's row, the last eight are of closing; each is named in the report.
-pub const KINDS: usize = change_closing::LAST;
+// The kinds of changes: 1 to 7 are the numbers of the vote's row, each named in the report.
+pub const KINDS: usize = 19;
 
 // A level: mostly one that is entered, or the next, the last, or any.
 fn any_level(s: &mut State) -> usize {
@@ -26,7 +26,7 @@ fn any_level(s: &mut State) -> usize {
 }
 
 // The number of the vote's row.
-pub fn of_vote(x: &Sheet, column: usize) -> usize {
+fn of_vote(x: &Sheet, column: usize) -> usize {
     sheet::at(x, sheet::VOTE, column)
 }
 
@@ -150,7 +150,7 @@ fn power(b: usize) -> usize {
 }
 
 // A set of senders: board n-1 or board n alone, all, or any below n or below 16.
-pub fn any_set(s: &mut State, n: usize) -> usize {
+fn any_set(s: &mut State, n: usize) -> usize {
     let how = state::below(s, 8);
     match how {
         0 => power(n),
@@ -304,24 +304,12 @@ fn apply(s: &mut State, x: &mut Sheet, t: &Table, kind: usize) {
         17 => change_result(s, x, t, sheet::RESULT),
         18 => change_made(s, x),
         19 => change_entry(s, x, t),
-        _ => change_other(s, x, kind),
+        _ => change_vote(s, x, num::less(kind, 1)),
     }
 }
 
-// A change of closing, or of a number of the vote's row.
-fn change_other(s: &mut State, x: &mut Sheet, kind: usize) {
-    if change_closing::FIRST <= kind {
-        change_closing::apply(s, x, kind);
-        return;
-    }
-    change_vote(s, x, num::less(kind, 1));
-}
-
-// A second change: of closing where the first was, else many sets, flags and proposals, or of any kind.
-fn other_kind(s: &mut State, first: usize) -> usize {
-    if change_closing::FIRST <= first {
-        return change_closing::other_kind(s);
-    }
+// A second change: many sets, flags and proposals, or of any kind.
+fn other_kind(s: &mut State) -> usize {
     let how = state::below(s, 4);
     match how {
         0 => num::next(state::below(s, KINDS)),
@@ -336,8 +324,8 @@ pub fn change(s: &mut State, x: &mut Sheet, t: &Table) {
     state::set(s, state::CHANGE, kind);
     apply(s, x, t, kind);
     if state::once_in(s, 3) {
-        let other = other_kind(s, kind);
-        let third = other_kind(s, kind);
+        let other = other_kind(s);
+        let third = other_kind(s);
         state::set(s, state::CHANGE, 0);
         apply(s, x, t, other);
         apply(s, x, t, third);

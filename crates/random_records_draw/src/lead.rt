@@ -1,8 +1,8 @@
 // A board is led through a vote: which call comes next, and what the board made.
 use crate::state;
 use crate::state::State;
+use second_plan::table;
 use second_plan::table::Table;
-use second_plan::{closing, table};
 use second_wire::{num, wire};
 
 // How many boards: four, few, or any number.
@@ -30,8 +30,6 @@ fn draw_vote(s: &mut State, n: usize, deep: usize, steps: usize) {
     state::set(s, state::MADE, 0);
     state::set(s, state::GIVEN, 0);
     state::set(s, state::USED, 0);
-    let closes = state::once_in(s, 4) as usize;
-    state::set(s, state::CLOSES, closes);
 }
 
 // A vote, now and then a deep one.
@@ -75,55 +73,13 @@ fn draw_start(s: &mut State) {
     state::set(s, state::POSITION, position);
 }
 
-// A message at an entered level or beyond.
-fn draw_level(s: &mut State, t: &Table) {
+// Any message at an entered level or beyond, from any board or from none.
+fn draw_message(s: &mut State, t: &Table) {
     let levels = state::get(s, state::DEPTH);
     let level = state::below(s, num::next(levels));
     let kind = num::next(state::below(s, 6));
     let value = any_value(s, table::at(t, level, table::DEGREE));
     keep_message(s, level, kind, value);
-}
-
-// The position of a closing echo: one of the first, the last, one beyond, or any.
-fn any_position(s: &mut State) -> usize {
-    let how = state::below(s, 8);
-    let last = state::get(s, state::LAST);
-    match how {
-        0 => last,
-        1 => num::next(last),
-        2 => state::below(s, num::next(last)),
-        _ => state::below(s, 3),
-    }
-}
-
-// A closing echo or a ready.
-fn draw_closing(s: &mut State) {
-    if state::once_in(s, 3) {
-        keep_message(s, 0, wire::READY, 0);
-        return;
-    }
-    let position = any_position(s);
-    keep_message(s, 0, wire::CLOSING_ECHO, position);
-}
-
-// Whether the next message is of closing: often on a changed record, else now and then in a vote that closes.
-fn is_closing(s: &mut State) -> bool {
-    if state::get(s, state::CHANGED) == 1 {
-        return state::once_in(s, 3);
-    }
-    if state::get(s, state::CLOSES) == 1 {
-        return state::once_in(s, 8);
-    }
-    false
-}
-
-// Any message, from any board or from none.
-fn draw_message(s: &mut State, t: &Table) {
-    if is_closing(s) {
-        draw_closing(s);
-    } else {
-        draw_level(s, t);
-    }
     let n = state::get(s, state::BOARDS);
     let sender = state::below(s, n);
     state::set(s, state::SENDER, sender);
@@ -152,7 +108,7 @@ fn draw_made(s: &mut State, t: &Table) {
         return;
     }
     let m = state::get(s, num::add(state::MESSAGES, given / n));
-    keep_message(s, m / 1048576, m / 65536 % 16, m % 65536);
+    keep_message(s, m / 1024, m / 32 % 32, m % 32);
     state::set(s, state::SENDER, given % n);
     state::set(s, state::GIVEN, num::next(given));
 }
@@ -172,9 +128,9 @@ fn lend(s: &mut State) {
         num::less(room, num::less(room, state::JOURNAL)),
     );
     let out = match how {
-        2 => num::OUTGOING - 1,
-        3 => num::OUTGOING + 60,
-        _ => num::OUTGOING,
+        2 => 2639,
+        3 => 2700,
+        _ => 2640,
     };
     state::set(s, state::OUT_ROOM, out);
 }
@@ -194,7 +150,7 @@ pub fn draw_call(s: &mut State, t: &Table, step: usize) {
     let levels = depth(t);
     state::set(s, state::DEPTH, levels);
     lend(s);
-    if levels == 0 && !table::is_set(t, table::VOTE, closing::CLOSED) {
+    if levels == 0 {
         if state::get(s, state::START_AT) <= step {
             draw_start(s);
             return;
@@ -218,21 +174,13 @@ pub fn draw_other(s: &mut State, t: &Table, number: usize) {
     draw_message(s, t);
 }
 
-// Whether messages of a kind come back: those of closing only in a vote that closes.
-fn comes_back(s: &State, kind: usize) -> bool {
-    if wire::CENTRE < kind {
-        return state::get(s, state::CLOSES) == 1;
-    }
-    true
-}
-
-// A message that the board made is kept, if it comes back; the place after it.
+// A message that the board made is kept; the place after it.
 fn keep_made(s: &mut State, out: &[u8], at: usize) -> usize {
     let m = wire::read_message(out, at, 0);
     let made = state::get(s, state::MADE);
-    if made < 500 && comes_back(s, m.kind) {
-        let body = num::add(m.kind % 16 * 65536, m.value % 65536);
-        let whole = num::add(m.level % 16 * 1048576, body);
+    if made < 500 {
+        let body = num::add(m.kind % 32 * 32, m.value % 32);
+        let whole = num::add(m.level % 32 * 1024, body);
         state::set(s, num::add(state::MESSAGES, made), whole);
         state::set(s, state::MADE, made + 1);
     }

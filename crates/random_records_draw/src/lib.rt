@@ -1,6 +1,5 @@
 // What the trial of changed records draws at random: settings, plans, calls and changes.
 pub mod change;
-pub mod change_closing;
 pub mod lead;
 pub mod plans;
 pub mod state;

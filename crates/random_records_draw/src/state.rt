@@ -70,9 +70,6 @@ pub const BAD_OWN: usize = 25;
 
 pub const BAD_LENGTH: usize = 26;
 
-// Whether closing messages come back to the board, so that it may close.
-pub const CLOSES: usize = 27;
-
 // What a call gave on the first and on the second implementation, five numbers each.
 pub const FIRST: usize = 32;
 
@@ -101,13 +98,6 @@ pub const DIFFERENCES: usize = 57;
 
 // Whether the record of the next call is a changed one.
 pub const CHANGED: usize = 58;
-
-// Changed records that passed and are closed, those of them with level 0 entered, and calls on changed records that closed them.
-pub const CLOSED: usize = 59;
-
-pub const CLOSED_ENTERED: usize = 60;
-
-pub const CLOSINGS: usize = 61;
 
 // From here: records that passed and that failed question 19, by the kind of change.
 pub const PASSED: usize = 64;

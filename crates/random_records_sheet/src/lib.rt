@@ -1,8 +1,5 @@
 // The library's record as a sheet of numbers, and back.
-mod closing_part;
-
 use level::Level;
-use member::Member;
 use party::Party;
 use plan::Plan;
 use second_sheet::sheet;
@@ -178,13 +175,11 @@ fn lay_plan(x: &mut Sheet, plan: Plan) {
 }
 
 // The sheet of a record.
-pub fn sheet_of(m: Member) -> Sheet {
+pub fn sheet_of(p: Party) -> Sheet {
     let mut x = sheet::empty();
-    let p = m.party;
     lay_settings(&mut x, p);
     lay_plan(&mut x, p.plan);
     lay_levels(&mut x, p);
-    closing_part::lay_closing(&mut x, m.closing);
     x
 }
 
@@ -305,8 +300,8 @@ fn before_levels(x: &Sheet) -> Party {
     Party::new(n, t, own, number, plan)
 }
 
-// The record but for its closing part.
-fn party_of(x: &Sheet) -> Party {
+// The record of a sheet.
+pub fn party_of(x: &Sheet) -> Party {
     let mut p = before_levels(x);
     for k in 0..base::LEVELS {
         put_sets(&mut p.sets, x, k);
@@ -314,14 +309,4 @@ fn party_of(x: &Sheet) -> Party {
         p.levels[k] = l;
     }
     p
-}
-
-// The record of a sheet.
-pub fn member_of(x: &Sheet) -> Member {
-    let p = party_of(x);
-    let c = closing_part::closing_of(x);
-    Member {
-        party: p,
-        closing: c,
-    }
 }

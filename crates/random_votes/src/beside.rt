@@ -10,13 +10,10 @@ use second_counts::CountDone;
 use second_plan::table::Table;
 use second_wire::num;
 
-// A reading of the answer, and one of the closing, which are never refused.
+// A reading, which is never refused.
 pub fn read(table: &Table, s: &mut State) {
     note::refusal(s, state::SECOND, 0, 0);
     note::answer(s, state::SECOND, codes::of_found(second::answer(table)));
-    let r = second::read_closing(table);
-    let value = r.value;
-    note::closing(s, state::SECOND, 0, r.closed, codes::of_found(value));
 }
 
 // A call that is no start by count.
@@ -53,7 +50,7 @@ pub fn make(
     }
 }
 
-// What it gave; where it was accepted, answer and closing are read.
+// What it gave; where it was accepted, the answer is read.
 pub fn done(table: &Table, s: &mut State, started: CountDone) {
     let d = started.done;
     note::remainder(s, state::SECOND, started.rest);

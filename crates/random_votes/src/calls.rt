@@ -1,6 +1,6 @@
 // The call that the state describes, made on both implementations; what each gave is noted.
 use crate::{beside, first, given, note};
-use member::Member;
+use party::Party;
 use random_buffers::Out;
 use random_calls::{number_of, place_of, wide};
 use random_votes_state::call::Journals;
@@ -10,7 +10,7 @@ use second_plan::table;
 use second_plan::table::Table;
 
 // A set-up: the party, or none where it was refused.
-fn set_up(table: &mut Table, s: &mut State) -> Member {
+fn set_up(table: &mut Table, s: &mut State) -> Party {
     let t = given::terms(s);
     let length = given::length(s);
     let plan = given::bytes(s, length);
@@ -19,11 +19,11 @@ fn set_up(table: &mut Table, s: &mut State) -> Member {
     let v = r.verdict;
     note::refusal(s, state::FIRST, number_of(v), place_of(v));
     note::refusal(s, state::SECOND, wide(o.number), o.place);
-    r.member
+    r.party
 }
 
 // A reading.
-fn read(p: Member, table: &Table, s: &mut State) -> Member {
+fn read(p: Party, table: &Table, s: &mut State) -> Party {
     first::read(p, s);
     beside::read(table, s);
     p
@@ -31,12 +31,12 @@ fn read(p: Member, table: &Table, s: &mut State) -> Member {
 
 // A start, a take or a restore, which are lent buffers.
 fn make_lent(
-    p: Member,
+    p: Party,
     table: &mut Table,
     s: &mut State,
     journals: &mut Journals,
     out: &mut Out,
-) -> Member {
+) -> Party {
     let g = given::of(s);
     let length = given::length(s);
     let bytes = given::bytes(s, length);
@@ -49,12 +49,12 @@ fn make_lent(
 
 // A set-up or a restore, whose party takes the seat; one that the library refused leaves the seat as it was.
 fn renew(
-    p: Member,
+    p: Party,
     table: &mut Table,
     s: &mut State,
     journals: &mut Journals,
     out: &mut Out,
-) -> Member {
+) -> Party {
     let mut fresh = table::empty();
     let after = if state::get(s, state::CALL) == call::SET_UP {
         set_up(&mut fresh, s)
@@ -70,12 +70,12 @@ fn renew(
 
 // The call on both; the library's party after it.
 pub fn make(
-    p: Member,
+    p: Party,
     table: &mut Table,
     s: &mut State,
     journals: &mut Journals,
     out: &mut Out,
-) -> Member {
+) -> Party {
     let which = state::get(s, state::CALL);
     match which {
         call::SET_UP | call::RESTORE => renew(p, table, s, journals, out),
@@ -86,10 +86,10 @@ pub fn make(
 }
 
 // The record of the library at a seat without a party.
-pub fn nobody() -> Member {
+pub fn nobody() -> Party {
     let nothing = [0u8; 1];
     let r = board::set_up(0, 0, 0, 0, &nothing);
-    r.member
+    r.party
 }
 
 // A set-up whose party is not kept.

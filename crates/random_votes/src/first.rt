@@ -2,33 +2,18 @@
 use crate::given::Given;
 use crate::{codes, note};
 use board::CountStarted;
-use member::Member;
+use party::Party;
 use random_calls::{lent, number_of, place_of, wide};
 use random_votes_state::state::State;
 use random_votes_state::{call, state};
 
-// A closing reading.
-fn read_closing(p: Member, s: &mut State) {
-    let r = board::read_closing(p);
-    let v = r.verdict;
-    let value = r.value;
-    note::closing(
-        s,
-        state::FIRST,
-        number_of(v),
-        r.closed,
-        codes::of_answer(value),
-    );
-}
-
-// A reading of the answer, and one of the closing.
-pub fn read(p: Member, s: &mut State) {
+// A reading.
+pub fn read(p: Party, s: &mut State) {
     let r = board::read_answer(p);
     let v = r.verdict;
     let answer = r.answer;
     note::refusal(s, state::FIRST, number_of(v), place_of(v));
     note::answer(s, state::FIRST, codes::of_answer(answer));
-    read_closing(p, s);
 }
 
 // A call that is no start by count.
@@ -40,7 +25,7 @@ fn other(called: board::Called) -> CountStarted {
 }
 
 // A start, by an input or by a count.
-fn start(p: Member, g: Given, journal: &mut [u8], out: &mut [u8]) -> CountStarted {
+fn start(p: Party, g: Given, journal: &mut [u8], out: &mut [u8]) -> CountStarted {
     if g.is_by_count {
         return board::start_count(p, g.size, g.count, journal, g.used, out);
     }
@@ -49,7 +34,7 @@ fn start(p: Member, g: Given, journal: &mut [u8], out: &mut [u8]) -> CountStarte
 
 // A start, a take or a restore, with what is lent of the journals and of the outgoing buffers.
 pub fn make(
-    p: Member,
+    p: Party,
     g: Given,
     bytes: &[u8],
     journals: &mut [u8],
@@ -66,15 +51,15 @@ pub fn make(
     }
 }
 
-// What it gave; where it was accepted, answer and closing are read.
-pub fn done(s: &mut State, started: CountStarted) -> Member {
+// What it gave; where it was accepted, the answer is read.
+pub fn done(s: &mut State, started: CountStarted) -> Party {
     let c = started.called;
     note::remainder(s, state::FIRST, started.remainder);
     let v = c.verdict;
     note::refusal(s, state::FIRST, number_of(v), place_of(v));
     note::effect(s, state::FIRST, c.used, c.sent, wide(c.rules));
     if number_of(v) == 0 {
-        read(c.member, s);
+        read(c.party, s);
     }
-    c.member
+    c.party
 }

@@ -1,5 +1,7 @@
 // Random votes on the library and on a second implementation of the rules: each call is made on both and compared, and the answers are held to demand 3. Two
 // votes run side by side, and their boards are read as pairs; in votes by counts they start by counts, and count answers are read.
+#![tactic(auto)]
+
 mod beside;
 mod calls;
 mod codes;
@@ -11,24 +13,23 @@ mod report;
 
 ghost use Rattle.std.specs.Prelude.{◌<◌};
 
-use member::Member;
+use party::Party;
 use random_buffers::Out;
-use random_votes_closing::{rules, same, takes};
-use random_votes_demand::demand;
 use random_votes_draw::draw;
-use random_votes_judge::judge;
+use random_votes_judge::{demand, judge};
 use random_votes_pairs::{choose, claim, read, totals};
 use random_votes_rules::messages;
 use random_votes_state::call::Journals;
 use random_votes_state::state::State;
-use random_votes_state::{call, close, pair, state};
+use random_votes_state::{call, pair, state};
 use random_votes_steps::choose::seek;
 use second_plan::table;
 use second_plan::table::Table;
 use second_wire::num;
+use std::io;
 
 // How many votes are run from each seed, and the states of the pseudo-random numbers before the first of them; and of those by which pairs are read.
-const VOTES: usize = 2440;
+const VOTES: usize = 2000;
 
 const SEED: usize = 88172645463325252;
 
@@ -52,80 +53,30 @@ fn prepare(s: &mut State, journals: &mut Journals, out: &mut Out) -> usize
     16
 }
 
-// So many rules were counted: as many as the call reported.
-fn check_rules(s: &mut State, counted: usize) {
-    if counted != state::of(s, state::FIRST, call::RULES) {
-        state::count(s, state::MISCOUNTED);
-        demand::note_place(s, state::FIRST_MISCOUNT);
-    }
-}
-
-// The levels' rules of a call after which the board is closed cannot be read off, since it dropped its levels: besides so many of the five a start may have applied
-// some, a take none.
-fn dropped(s: &mut State, five: usize) -> usize {
-    if state::get(s, state::CALL) == call::TAKE {
-        return 0;
-    }
-    let reported = state::of(s, state::FIRST, call::RULES);
-    let levels = num::less(reported, five);
-    state::grow(s, close::DROPPED, levels);
-    levels
-}
-
-// The rules of an accepted start or take, after which the board's record is q, are counted.
-fn count_applied(s: &mut State, p: Member, q: Member, seat: usize) {
-    let five = rules::count(s, p.closing, q.closing, seat);
-    let levels = if q.closing.closed {
-        dropped(s, five)
-    } else {
-        random_votes_rules::count(s, p.party, q.party, seat)
-    };
-    check_rules(s, num::add(five, levels));
-}
-
-// What an accepted start or take did is counted.
-fn count_call(s: &mut State, p: Member, q: Member) {
-    let seat = state::get(s, state::SEAT);
-    if state::of(s, state::FIRST, call::RULES) != 0 {
-        count_applied(s, p, q, seat);
-    }
-    if seat != call::BENCH {
-        let had_answer = 0 < state::of(s, state::HELD, seat);
-        takes::count(s, p.closing, q.closing, had_answer);
-    }
-}
-
-// The same of any call.
-fn count_rules(s: &mut State, p: Member, q: Member) {
+// The rules of an accepted start or take are counted.
+fn count_rules(s: &mut State, p: Party, q: Party) {
     if state::of(s, state::FIRST, call::NUMBER) != 0 {
         return;
     }
     let which = state::get(s, state::CALL);
     if which == call::START || which == call::TAKE {
-        count_call(s, p, q);
-    }
-}
-
-// The closing parts of both records are the same, and whether level 0 is entered.
-fn compare(s: &mut State, q: Member, table: &Table) {
-    let levels = q.party.levels;
-    let first = levels[0];
-    if !same::is_same(q.closing, first.entered, table) {
-        judge::difference(s);
+        if !random_votes_rules::count(s, p, q, state::get(s, state::SEAT)) {
+            state::count(s, state::MISCOUNTED);
+            demand::note_place(s, state::FIRST_MISCOUNT);
+        }
     }
 }
 
 // The call that the state describes, made on both, counted and judged; the library's party after it.
 fn step(
-    before: Member,
+    before: Party,
     table: &mut Table,
     s: &mut State,
     journals: &mut Journals,
     out: &mut Out,
-) -> Member {
+) -> Party {
     let after = calls::make(before, table, s, journals, out);
     count_rules(s, before, after);
-    compare(s, after, table);
     judge::judge(s, journals, out);
     random_votes_counts::start::keep(s);
     random_votes_counts::read::read(s, after, table);
@@ -136,8 +87,6 @@ fn step(
 fn conclude(s: &mut State, w: &mut State) {
     demand::conclude(s);
     demand::conclude(w);
-    random_votes_demand::closing::conclude(s);
-    random_votes_demand::closing::conclude(w);
     random_votes_counts::claim::conclude(s);
     random_votes_counts::claim::conclude(w);
     claim::conclude(s, w);
@@ -230,22 +179,22 @@ fn run_seeds(s: &mut State, w: &mut State, out: &mut Out) {
 }
 
 // A seed is kept and told.
-fn seed(s: &mut State, place: usize, seed: usize) {
+fn seed(rt: &impl Print, s: &mut State, place: usize, seed: usize) -> io::Result<()> {
     state::set(s, place, seed);
-    random_report::line(s, b"seed", place);
+    random_report::line(rt, s, b"seed", place)
 }
 
 // The cases at the limits, the votes, and what they came to.
-fn main() {
+fn main(rt: HostRuntime) -> io::Result<()> {
     let mut s = [0usize; 65536];
     let mut w = [0usize; 65536];
     let mut out = [0u8; 2 * random_buffers::OUTGOING];
-    limits::write_settings(&mut s);
-    limits::write_plans(&mut s);
-    limits::write_lengths();
-    seed(&mut s, state::SEED, SEED);
-    seed(&mut w, state::SEED, OTHER_SEED);
-    seed(&mut s, pair::SEED, PAIR_SEED);
+    limits::write_settings(&rt, &mut s)?;
+    limits::write_plans(&rt, &mut s)?;
+    limits::write_lengths(&rt)?;
+    seed(&rt, &mut s, state::SEED, SEED)?;
+    seed(&rt, &mut w, state::SEED, OTHER_SEED)?;
+    seed(&rt, &mut s, pair::SEED, PAIR_SEED)?;
     run_seeds(&mut s, &mut w, &mut out);
-    report::write(&s, &w);
+    report::write(&rt, &s, &w)
 }

@@ -26,13 +26,6 @@ pub fn remainder(s: &mut State, area: usize, rest: i64) {
     state::put(s, area, call::REMAINDER, codes::raised(rest));
 }
 
-// What the closing reading gave: a refusal's number, whether the board is closed, and the closing value's code plus 1, or 0.
-pub fn closing(s: &mut State, area: usize, number: usize, closed: bool, code: usize) {
-    state::put(s, area, call::CLOSING_REFUSED, number);
-    state::put(s, area, call::CLOSED, closed as usize);
-    state::put(s, area, call::CLOSING_VALUE, code);
-}
-
 // Whether the first implementation refused the call.
 pub fn is_refused(s: &State) -> bool {
     state::of(s, state::FIRST, call::NUMBER) != 0

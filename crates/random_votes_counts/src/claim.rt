@@ -1,7 +1,6 @@
 // Document 02's claim: "Where sound boards start only by counts at one g, their count answers are at most 2g apart and between the least and greatest sound counts."
 use crate::read::Given;
-use random_votes_demand::demand;
-use random_votes_judge::judge;
+use random_votes_judge::{demand, judge};
 use random_votes_seats::seats;
 use random_votes_state::state::State;
 use random_votes_state::{count, state};

@@ -1,7 +1,7 @@
 // A count answer is read, on both implementations.
 use crate::{choose, claim, results};
 use board_calls::Answer;
-use member::Member;
+use party::Party;
 use random_calls::{number_of, place_of, wide, word};
 use random_votes_judge::judge;
 use random_votes_state::state::State;
@@ -19,7 +19,7 @@ pub struct Given {
 }
 
 // What the library gives.
-fn read_first(p: Member, size: u32, count: i64) -> Given {
+fn read_first(p: Party, size: u32, count: i64) -> Given {
     let r = board_counts::read_count(p, size, count);
     let v = r.verdict;
     let a = r.answer;
@@ -67,7 +67,7 @@ fn is_same(a: Given, b: Given) -> bool {
 }
 
 // The count answer is read on both; what they gave is compared and counted.
-fn read_both(s: &mut State, p: Member, table: &Table) -> Given {
+fn read_both(s: &mut State, p: Party, table: &Table) -> Given {
     let size = word(state::get(s, count::READ_SIZE));
     let count = codes::lowered(state::get(s, count::READ_COUNT));
     let g = read_first(p, size, count);
@@ -79,7 +79,7 @@ fn read_both(s: &mut State, p: Member, table: &Table) -> Given {
 }
 
 // The count answer of the seat whose call was made, if it is read now.
-pub fn read(s: &mut State, p: Member, table: &Table) {
+pub fn read(s: &mut State, p: Party, table: &Table) {
     let b = state::get(s, state::SEAT);
     if choose::is_read(s, b) {
         choose::reading(s, b);

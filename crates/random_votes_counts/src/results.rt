@@ -4,6 +4,7 @@ use random_report::{lines, row};
 use random_votes_state::state::State;
 use random_votes_state::{count, state};
 use second_wire::num;
+use std::io;
 
 // A count reading is counted, by its number or by whether it gives an answer.
 pub fn count(s: &mut State, g: Given) {
@@ -15,26 +16,28 @@ pub fn count(s: &mut State, g: Given) {
 }
 
 // The lines on starts by count.
-fn write_starts(s: &State) {
+fn write_starts(rt: &impl Print, s: &State) -> io::Result<()> {
     row(
+        rt,
         s,
         b"starts by count, by the remainder: half a step below, less below, 0, less above, half a step above:",
         count::RESTS,
         1,
         6,
-    );
+    )?;
     row(
+        rt,
         s,
         b"starts by count refused by question:",
         count::STARTS_REFUSED,
         12,
         26,
-    );
+    )
 }
 
 // The lines on count answers.
-pub fn write(s: &State) {
-    write_starts(s);
+pub fn write(rt: &impl Print, s: &State) -> io::Result<()> {
+    write_starts(rt, s)?;
     let places = [
         count::STARTS,
         count::FOUND + 1,
@@ -51,6 +54,7 @@ pub fn write(s: &State) {
         count::APART + 3,
     ];
     lines(
+        rt,
         s,
         b"starts by count\n\
         count readings with an answer\n\
@@ -66,5 +70,5 @@ pub fn write(s: &State) {
         less than two steps\n\
         exactly two steps",
         &places,
-    );
+    )
 }

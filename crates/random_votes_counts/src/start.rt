@@ -1,7 +1,6 @@
 // Starts by count: a start that was drawn becomes one by a count that should go to the step drawn.
 use crate::choose;
-use random_buffers::OUTGOING;
-use random_votes_demand::demand;
+use random_votes_judge::demand;
 use random_votes_state::state::State;
 use random_votes_state::{call, count, random, state};
 use second_counts::codes;
@@ -107,7 +106,7 @@ fn come_early(s: &mut State) {
         if random::once_in(s, 8) {
             state::set(s, state::CALL, call::START);
             state::copy(s, state::LOW, state::INPUT);
-            let room = random::below(s, OUTGOING);
+            let room = random::below(s, 2700);
             state::set(s, state::OUT_ROOM, room);
             let turn = state::get(s, state::TURN);
             state::set(s, state::TURN, num::less(turn, 1));

@@ -1,21 +1,11 @@
 // A vote is drawn: boards, faults, agreement number, plan, and how its boards behave.
-use crate::slowness::{mark, unmark};
-use crate::{plans, slowness};
+use crate::plans;
 use random_votes_state::state::State;
-use random_votes_state::{call, close, random, state};
+use random_votes_state::{call, random, state};
 use second_wire::{group, num};
-
-// Votes are of so many classes, by their number.
-const CLASSES: usize = 80;
-
-// From this class on there are two positions: answers come at once, and the vote is closing alone.
-const CLOSING: usize = 64;
 
 // How many boards: four in most votes, seven, or any number.
 fn boards(s: &mut State, class: usize) -> usize {
-    if CLOSING <= class {
-        return random::between(s, 4, 10);
-    }
     if class < 48 {
         return 4;
     }
@@ -57,9 +47,6 @@ fn any_width(s: &mut State) -> usize {
 
 // How many positions: three or four in most votes, a few, or any number of the kind.
 fn positions(s: &mut State, class: usize, kind: usize) -> usize {
-    if CLOSING <= class {
-        return 2;
-    }
     if class < 40 {
         return random::between(s, 3, 4);
     }
@@ -110,6 +97,29 @@ fn forget(s: &mut State, from: usize, to: usize) {
     }
 }
 
+// All boards are marked in a row.
+fn mark(s: &mut State, row: usize, n: usize) {
+    for b in 0..n {
+        state::put(s, row, b, 1);
+    }
+}
+
+// At most so many are not.
+fn unmark(s: &mut State, row: usize, n: usize, so_many: usize) {
+    for _ in 0..so_many {
+        let b = random::below(s, n);
+        state::put(s, row, b, 0);
+    }
+}
+
+// So many in 64 of an area's 256 links, or kinds at boards, are slow.
+fn slow_down(s: &mut State, area: usize, so_many: usize) {
+    for i in 0..256 {
+        let slow = (random::below(s, 64) < so_many) as usize;
+        state::put(s, area, i, slow);
+    }
+}
+
 // Boards, faults and agreement number.
 fn draw_boards(s: &mut State, class: usize) {
     let n = boards(s, class);
@@ -120,7 +130,6 @@ fn draw_boards(s: &mut State, class: usize) {
     state::set(s, state::NUMBER, number);
     state::set(s, state::NUMBER_LENGTH, group::size(number));
     forget(s, state::SOUND, state::FIRST);
-    forget(s, close::VALUE, close::ROWS_END);
     forget(s, state::TOLD, state::TOLD + 2048);
     forget(s, state::TAKEN, state::TAKEN + 32768);
     mark(s, state::SOUND, n);
@@ -168,9 +177,6 @@ fn draw_plan(s: &mut State, class: usize) {
     let positions = positions(s, class, kind);
     plans::draw(s, kind, positions);
     draw_inputs(s, class, positions);
-    if positions < 3 {
-        state::count(s, close::SMALL_VOTES);
-    }
     if positions == 65536 {
         state::count(s, state::WIDE_RANGES);
     }
@@ -211,13 +217,69 @@ fn draw_steps(s: &mut State) {
     state::set(s, state::LEFT_OUT, 0);
 }
 
+// To a board that is off, first proposals and second echoes of values come slowly, so that its results are none; to the others first echoes and second proposals.
+fn divide_board(s: &mut State, b: usize) {
+    let off = state::of(s, state::OFF, b);
+    let with = num::less(1, off);
+    state::put(s, state::SLOW_KIND, num::add(32, b), off);
+    state::put(s, state::SLOW_KIND, num::add(48, b), off);
+    state::put(s, state::SLOW_KIND, num::add(16, b), with);
+    state::put(s, state::SLOW_KIND, num::add(144, b), with);
+    state::put(s, state::SLOW_KIND, num::add(64, b), with);
+    state::put(s, state::SLOW_KIND, num::add(192, b), with);
+}
+
+// All boards are divided so, and links are not slow.
+fn divide(s: &mut State) {
+    slow_down(s, state::SLOW, 0);
+    slow_down(s, state::SLOW_KIND, 0);
+    for b in 0..16 {
+        divide_board(s, b);
+    }
+}
+
+// All boards are off but for as many as may be faulty.
+fn draw_off(s: &mut State) {
+    let n = state::get(s, state::BOARDS);
+    mark(s, state::OFF, n);
+    unmark(s, state::OFF, n, state::get(s, state::FAULTS));
+}
+
+// In a divided vote most inputs are at one end of the plan, and faulty boards keep to what divides.
+fn draw_end(s: &mut State) {
+    let patience = random::between(s, 1, 3);
+    state::set(s, state::PATIENCE, patience);
+    state::set(s, state::WILD, 0);
+    if state::get(s, state::SALT) % 2 == 0 {
+        state::set(s, state::NEAR, 0);
+    } else {
+        state::copy(s, state::LAST, state::NEAR);
+    }
+}
+
+// Which messages are slow, by link and by kind; or the boards are divided.
+fn draw_slowness(s: &mut State) {
+    let divided = random::below(s, 2);
+    state::set(s, state::DIVIDED, divided);
+    if divided == 1 {
+        draw_off(s);
+        draw_end(s);
+        divide(s);
+        return;
+    }
+    let slow = random::below(s, 32);
+    slow_down(s, state::SLOW, slow);
+    let slow_kinds = random::below(s, 40);
+    slow_down(s, state::SLOW_KIND, slow_kinds);
+}
+
 // The next vote.
 pub fn draw(s: &mut State) {
-    let class = state::get(s, state::VOTES) % CLASSES;
+    let class = state::get(s, state::VOTES) % 64;
     draw_boards(s, class);
     draw_plan(s, class);
     draw_steps(s);
-    slowness::draw(s, CLOSING <= class);
+    draw_slowness(s);
     state::set(s, state::POOLED, 0);
     state::set(s, state::LOSSES_HERE, 0);
     state::set(s, state::TOP, 0);

@@ -1,4 +1,3 @@
 // Votes are drawn: settings, plans, inputs, and how boards and the wire behave.
 pub mod draw;
 pub mod plans;
-mod slowness;

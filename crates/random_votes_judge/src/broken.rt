@@ -1,7 +1,7 @@
 // What was broken in the messages and journals that were refused, by the field at the refusal's place.
 use random_votes_state::call::Journals;
 use random_votes_state::state::State;
-use random_votes_state::{call, close, state};
+use random_votes_state::{call, state};
 use second_wire::{group, num, wire};
 
 // 1 if byte i of the message is before a place and the last of its field, which has no top bit; else 0.
@@ -43,18 +43,6 @@ fn count_malformed(s: &mut State, field: usize) {
     }
 }
 
-// A field outside its limits: kinds of closing off level 0 and positions above the last are counted apart. Kinds have one byte.
-fn count_outside(s: &mut State, field: usize, place: usize) {
-    count_in(s, state::OUTSIDE_AT, field);
-    let kind = state::of(s, state::MESSAGE, place);
-    if field == 3 && (kind == wire::CLOSING_ECHO || kind == wire::READY) {
-        state::count(s, close::OFF_LEVEL);
-    }
-    if field == 4 && state::of(s, state::MESSAGE, num::less(place, 1)) == wire::CLOSING_ECHO {
-        state::count(s, close::ABOVE);
-    }
-}
-
 // A message that was refused. Its fields are 1 to 4, and a spare byte comes after the third or the fourth.
 fn count_message(s: &mut State, number: usize) {
     let place = state::of(s, state::FIRST, call::PLACE);
@@ -63,7 +51,7 @@ fn count_message(s: &mut State, number: usize) {
     match number {
         15 => count_cut(s, field, place),
         22 => count_malformed(s, field),
-        23 => count_outside(s, field, place),
+        23 => count_in(s, state::OUTSIDE_AT, field),
         24 => count_in(s, state::SPARE_AFTER, before),
         _ => (),
     }

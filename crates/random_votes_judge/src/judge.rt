@@ -1,15 +1,11 @@
 // What a call did is compared, and what it leaves is kept.
-use crate::{broken, records};
+use crate::{broken, demand, records};
 use random_buffers::{OUTGOING, Out};
-use random_votes_demand::{closing, demand};
 use random_votes_seats::cuts;
 use random_votes_state::call::Journals;
 use random_votes_state::state::State;
 use random_votes_state::{call, pool, random, state};
 use second_wire::{group, num};
-
-// What a board can be told in messages of a level and kind is below this.
-const TELLINGS: usize = 131072;
 
 // A call on which the implementations differ.
 pub fn difference(s: &mut State) {
@@ -19,7 +15,7 @@ pub fn difference(s: &mut State) {
 
 // What the calls gave is the same.
 fn is_same_result(s: &State) -> bool {
-    for i in 0..call::RESULTS {
+    for i in 0..8 {
         if state::of(s, state::FIRST, i) != state::of(s, state::SECOND, i) {
             return false;
         }
@@ -46,9 +42,9 @@ pub fn clear(s: &mut State) {
     }
 }
 
-// A cut comes, after some of the messages, which have at most ten bytes each.
+// A cut comes, after some of the messages, which have at most eight bytes each.
 fn hand_some(s: &mut State, out: &[u8], b: usize, sent: usize) {
-    let most = random::below(s, num::add(3, sent / 10));
+    let most = random::below(s, num::add(3, sent / 8));
     hand_first(s, out, b, sent, most);
     cuts::cut(s, b);
 }
@@ -85,17 +81,15 @@ fn keep_used(s: &mut State, b: usize) {
     state::put(s, state::USED, b, used);
 }
 
-// The answer that the board holds now, or none, and how it stands with closing.
+// The answer that the board holds now, or none.
 fn keep_answer(s: &mut State, b: usize) {
     let answer = state::of(s, state::FIRST, call::ANSWER);
     demand::hold(s, b, answer);
-    closing::hold(s, b);
 }
 
 // What a start, take or restore leaves.
 fn after_call(s: &mut State, out: &[u8], b: usize) {
     keep_used(s, b);
-    closing::keep_life(s, b);
     keep_answer(s, b);
     hand(s, out, b, state::of(s, state::FIRST, call::SENT));
 }
@@ -120,7 +114,6 @@ fn after_restore(s: &mut State, out: &[u8], b: usize) {
     guard(s, b);
     state::put(s, state::STAGE, b, call::UP);
     state::set(s, state::CUT_HERE, 1);
-    closing::count_restored(s);
     after_call(s, out, b);
 }
 
@@ -147,7 +140,6 @@ pub fn keep_other_reading(s: &mut State, b: usize, cuts: usize) {
 // A cut may follow a reading.
 fn after_reading(s: &mut State, b: usize) {
     keep_answer(s, b);
-    closing::count_reading(s, b);
     if 0 < state::of(s, state::FIRST, call::ANSWER) {
         keep_reading(s, b);
         if cuts::comes(s, 3) {
@@ -163,13 +155,13 @@ fn count_lie(s: &mut State, b: usize) {
     state::grow(s, num::add(state::LIES_TAKEN, level % 16), 1);
     let key = pool::key(level, pool::kind(s), state::get(s, state::SENDER));
     let told = state::of(s, state::TOLD, key);
-    let telling = num::add(num::next(pool::value(s)), (b % 32) * TELLINGS);
+    let telling = num::add(num::next(pool::value(s)) % 32, (b % 32) * 32);
     state::put(s, state::TOLD, key, telling);
     if told == 0 {
         return;
     }
-    if told / TELLINGS != telling / TELLINGS {
-        if told % TELLINGS != telling % TELLINGS {
+    if told / 32 != telling / 32 {
+        if told % 32 != telling % 32 {
             state::count(s, state::TWO_TONGUED);
         }
     }
@@ -179,7 +171,6 @@ fn count_lie(s: &mut State, b: usize) {
 fn after_take(s: &mut State, out: &[u8], b: usize) {
     if state::get(s, state::LYING) == 1 {
         count_lie(s, b);
-        closing::count_lie(s);
         if state::get(s, state::PHASE) == call::DELIVERING {
             state::count(s, state::LAST_LIES);
         }
@@ -232,6 +223,5 @@ pub fn judge(s: &mut State, journals: &Journals, out: &Out) {
         after_accepted(s, out, b);
     } else {
         broken::count(s, journals, number);
-        closing::count_refused(s, b, number);
     }
 }

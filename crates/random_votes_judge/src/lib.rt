@@ -1,4 +1,5 @@
-// What a call did is compared, counted and kept.
+// What a call did is compared, counted, kept, and held to demand 3.
 pub mod broken;
+pub mod demand;
 pub mod judge;
 pub mod records;

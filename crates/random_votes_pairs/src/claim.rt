@@ -1,7 +1,6 @@
 // Document 02's claim of pairs, on boards that are sound and up in both votes: "Answers are at most 1 apart in each reading, and each reading lies between sound ones".
 use crate::read::Given;
-use random_votes_demand::demand;
-use random_votes_judge::judge;
+use random_votes_judge::{demand, judge};
 use random_votes_seats::seats;
 use random_votes_state::state::State;
 use random_votes_state::{call, pair, state};

@@ -1,7 +1,7 @@
 // A pair is read, on both implementations.
 use crate::{choose, claim, results};
 use board_pair::PairAnswer;
-use member::Member;
+use party::Party;
 use random_calls::{number_of, place_of, wide};
 use random_votes_judge::judge;
 use random_votes_state::state::State;
@@ -26,7 +26,7 @@ fn position(table: &Table, z: i64) -> usize {
 }
 
 // What the library gives.
-fn read_first(p: Member, q: Member, first: &Table, second: &Table) -> Given {
+fn read_first(p: Party, q: Party, first: &Table, second: &Table) -> Given {
     let r = board_pair::read_pair(p, q);
     let v = r.verdict;
     let a = r.answer;
@@ -79,7 +79,7 @@ fn is_same(a: Given, b: Given) -> bool {
 }
 
 // The pair is read on both; what they gave is compared and counted.
-fn read_both(s: &mut State, p: Member, q: Member, first: &Table, second: &Table) -> Given {
+fn read_both(s: &mut State, p: Party, q: Party, first: &Table, second: &Table) -> Given {
     let g = read_first(p, q, first, second);
     if !is_same(g, read_second(first, second)) {
         judge::difference(s);
@@ -89,7 +89,7 @@ fn read_both(s: &mut State, p: Member, q: Member, first: &Table, second: &Table)
 }
 
 // The second record first.
-fn read_crossed(s: &mut State, p: Member, q: Member, first: &Table, second: &Table) -> Given {
+fn read_crossed(s: &mut State, p: Party, q: Party, first: &Table, second: &Table) -> Given {
     let g = read_both(s, q, p, second, first);
     Given {
         number: g.number,
@@ -102,8 +102,8 @@ fn read_crossed(s: &mut State, p: Member, q: Member, first: &Table, second: &Tab
 // The first record with itself, the second with itself, or both, in either order; what the library gave.
 fn read_ordered(
     s: &mut State,
-    p: Member,
-    q: Member,
+    p: Party,
+    q: Party,
     first: &Table,
     second: &Table,
     order: usize,
@@ -121,8 +121,8 @@ pub fn read(
     s: &mut State,
     w: &mut State,
     b: usize,
-    p: Member,
-    q: Member,
+    p: Party,
+    q: Party,
     first: &Table,
     second: &Table,
 ) {

@@ -4,6 +4,7 @@ use random_votes_state::state::State;
 use random_votes_state::{pair, state};
 use second_plan::table::Table;
 use second_wire::num;
+use std::io;
 
 // Whether the table has an answer.
 fn has_answer(table: &Table) -> bool {
@@ -35,14 +36,15 @@ pub fn count(s: &mut State, number: usize, first: &Table, second: &Table) {
 }
 
 // The lines on pairs.
-pub fn write(s: &State) {
+pub fn write(rt: &impl Print, s: &State) -> io::Result<()> {
     row(
+        rt,
         s,
         b"pair readings with an answer; without, where neither board has one, only the first, only the second:",
         pair::FOUND,
         1,
         5,
-    );
+    )?;
     let places = [
         pair::REFUSED + 12,
         pair::REFUSED + 19,
@@ -55,6 +57,7 @@ pub fn write(s: &State) {
         pair::APART + 3,
     ];
     lines(
+        rt,
         s,
         b"pair readings refused by 12\n\
         by 19\n\
@@ -66,5 +69,5 @@ pub fn write(s: &State) {
         in the second only\n\
         in both",
         &places,
-    );
+    )
 }

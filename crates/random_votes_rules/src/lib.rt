@@ -109,11 +109,15 @@ fn book(s: &mut State, area: usize) -> usize {
     sum
 }
 
-// The rules at the levels in an accepted start or take of a seat, whose party was p and is q; how many they were.
-pub fn count(s: &mut State, p: Party, q: Party, seat: usize) -> usize {
+// The rules of an accepted start or take of a seat, whose party was p and is q; says whether they are as many as the call reported.
+pub fn count(s: &mut State, p: Party, q: Party, seat: usize) -> bool {
+    let reported = state::of(s, state::FIRST, call::RULES);
+    if reported == 0 {
+        return true;
+    }
     count_levels(s, p, q, seat);
     if seat == call::BENCH {
-        return book(s, state::BENCH_RULES);
+        return book(s, state::BENCH_RULES) == reported;
     }
-    book(s, state::BOARD_RULES)
+    book(s, state::BOARD_RULES) == reported
 }

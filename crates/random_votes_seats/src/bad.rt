@@ -2,18 +2,11 @@
 use crate::{lies, seats, spoil};
 use random_votes_state::state::State;
 use random_votes_state::{call, pool, random, state};
-use second_wire::wire;
 
-// Another vote's message: a first echo, a closing echo or ready.
+// Another vote's message.
 fn write_other(s: &mut State) {
     let number = spoil::other_number(s);
-    let how = random::below(s, 3);
-    let kind = match how {
-        0 => wire::CLOSING_ECHO,
-        1 => wire::READY,
-        _ => wire::FIRST_ECHO,
-    };
-    pool::write(s, number, 0, kind, 0);
+    pool::write(s, number, 0, 1, 0);
 }
 
 // A message of the vote, of another vote, or a spoilt one.

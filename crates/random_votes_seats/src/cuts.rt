@@ -1,6 +1,6 @@
 // Cuts of the power.
 use random_votes_state::state::State;
-use random_votes_state::{call, close, pool, queue, random, state};
+use random_votes_state::{call, pool, queue, random, state};
 
 // The start is lost with its record.
 fn lose_start(s: &mut State, b: usize) {
@@ -17,14 +17,6 @@ fn lose_queue(s: &mut State, b: usize) {
     }
 }
 
-// Where bytes are lost, what was held of closing is as if not held: a reading of it guards nothing.
-fn lose_closing(s: &mut State, b: usize, is_less: bool) {
-    if is_less {
-        state::put(s, close::VALUE, b, 0);
-        state::put(s, close::CLOSED, b, 0);
-    }
-}
-
 // A cut leaves the guarded bytes and some more of the first `used`; an answer that was not read is as if not held.
 fn leave(s: &mut State, b: usize, used: usize) {
     let guarded = state::of(s, state::GUARDED, b);
@@ -33,7 +25,6 @@ fn leave(s: &mut State, b: usize, used: usize) {
     state::put(s, state::STAGE, b, call::DOWN);
     state::set(s, state::CUT_HERE, 1);
     pool::lose_taken(s, b, left);
-    lose_closing(s, b, left < used);
     lose_queue(s, b);
     state::count(s, state::CUTS);
     if left < state::of(s, state::START_END, b) {

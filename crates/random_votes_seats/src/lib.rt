@@ -1,6 +1,5 @@
 // Calls of a seat with what is lent to them, what faulty boards say, what every board must refuse, cuts, and damaged journals.
 pub mod bad;
-pub mod closing;
 pub mod cuts;
 pub mod damage;
 pub mod lies;

@@ -1,18 +1,17 @@
 // What faulty boards say.
-use crate::{closing, seats};
+use crate::seats;
 use random_votes_state::state::State;
 use random_votes_state::{call, pool, random, state};
-use second_wire::{num, wire};
+use second_wire::num;
 
-// Whether the message to be taken comes slowly: by its link, by the position that it echoes, or by its kind, those of none apart.
+// Whether the message to be taken comes slowly: by its link, or by its kind, those of none apart.
 pub fn is_slow(s: &State, b: usize) -> bool {
     let sender = state::get(s, state::SENDER) % 16;
-    if state::of(s, state::SLOW, num::add(sender * 16, b)) == 1 || closing::is_slow(s, b) {
+    if state::of(s, state::SLOW, num::add(sender * 16, b)) == 1 {
         return true;
     }
-    let kind = pool::kind(s);
-    let row = kind % 8 * 16;
-    if kind < wire::CLOSING_ECHO && pool::value(s) == wire::NONE {
+    let row = pool::kind(s) % 8 * 16;
+    if pool::value(s) == 16 {
         return state::of(s, state::SLOW_KIND, num::add(row + 128, b)) == 1;
     }
     state::of(s, state::SLOW_KIND, num::add(row, b)) == 1
@@ -161,10 +160,6 @@ fn spoil_lie(s: &mut State) {
 
 // A lie to a board; says whether there is one.
 fn lie(s: &mut State, liar: usize, b: usize) -> bool {
-    if closing::is_next(s) {
-        closing::write(s, liar, b);
-        return true;
-    }
     if state::get(s, state::WILD) == 0 {
         if random::below(s, 64) != 0 {
             return write_said(s, liar, b);

@@ -1,5 +1,4 @@
 // Calls of a seat, with what is lent to them.
-use random_buffers::OUTGOING;
 use random_votes_state::state::State;
 use random_votes_state::{call, random, state};
 use second_wire::num;
@@ -47,7 +46,7 @@ pub fn plain(s: &mut State, seat: usize, call: usize) -> usize {
     let used = state::of(s, state::USED, seat);
     state::set(s, state::CALL_USED, used);
     set_room(s, num::add(used, 32));
-    state::set(s, state::OUT_ROOM, num::OUTGOING);
+    state::set(s, state::OUT_ROOM, 2640);
     seat
 }
 
@@ -62,24 +61,24 @@ pub fn take_picked(s: &mut State, b: usize, i: usize) -> usize {
 pub fn lend_out(s: &mut State) {
     let how = random::below(s, 128);
     if how == 0 {
-        state::set(s, state::OUT_ROOM, num::OUTGOING - 1);
+        state::set(s, state::OUT_ROOM, 2639);
     }
     if how == 1 {
-        let room = random::below(s, num::OUTGOING);
+        let room = random::below(s, 2640);
         state::set(s, state::OUT_ROOM, room);
     }
     if 100 < how {
-        let room = random::between(s, num::OUTGOING, OUTGOING);
+        let room = random::between(s, 2640, 2700);
         state::set(s, state::OUT_ROOM, room);
     }
 }
 
-// Now and then the journal has room for 0 to 12 more bytes, and 12 are the longest record's, or is shorter than its used length.
+// Now and then the journal has room for 0 to 10 more bytes, and 10 are the longest record's, or is shorter than its used length.
 pub fn lend_journal(s: &mut State) {
     let how = random::below(s, 128);
     let used = state::get(s, state::CALL_USED);
     if how < 4 {
-        let room = num::add(used, random::between(s, 0, 12));
+        let room = num::add(used, random::between(s, 0, 10));
         set_room(s, room);
     }
     if how == 4 {

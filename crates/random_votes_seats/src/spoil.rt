@@ -1,7 +1,7 @@
 // Messages spoilt in every way: cut off, with fields in too many bytes, too large or outside their limits, or with bytes behind.
 use random_votes_state::state::State;
 use random_votes_state::{pool, put, random, state};
-use second_wire::{group, num, wire};
+use second_wire::{group, num};
 
 // The fields of a message in order, and none.
 const NUMBER: usize = 0;
@@ -48,51 +48,42 @@ fn some_number(s: &mut State) -> usize {
     state::get(s, state::NUMBER)
 }
 
-// The first number above the limit of a field of the message.
-fn past(m: Spoilt, field: usize) -> usize {
+// The first number above the limit of a field, in a message of this kind.
+fn past(field: usize, kind: usize) -> usize {
     match field {
-        NUMBER => group::LARGEST + 1,
-        LEVEL => wire::SENDING,
-        KIND => past_kind(m.level),
-        _ => past_value(m.kind),
+        NUMBER => 4294967296,
+        LEVEL => 15,
+        KIND => 7,
+        _ => past_value(kind),
     }
-}
-
-// The same of a kind: those of closing are of level 0.
-fn past_kind(level: usize) -> usize {
-    if level == 0 {
-        return wire::READY + 1;
-    }
-    wire::CENTRE + 1
 }
 
 // The same of a value: first proposals and sides have no none.
 fn past_value(kind: usize) -> usize {
-    match kind {
-        wire::FIRST_PROPOSAL | wire::SIDE => wire::NONE,
-        wire::CLOSING_ECHO => wire::LAST_POSITION + 1,
-        _ => wire::NONE + 1,
+    if kind == 2 || kind == 5 {
+        return 16;
     }
+    17
 }
 
 // Whether 0 is outside the field's limits.
 fn is_from_one(field: usize, kind: usize) -> bool {
     if field == VALUE {
-        return kind == wire::SIDE;
+        return kind == 5;
     }
     field == KIND
 }
 
 // A number outside the field's limits: just above them, above them with any number of bytes, or 0.
-fn outside(s: &mut State, m: Spoilt, field: usize) -> usize {
-    if is_from_one(field, m.kind) {
+fn outside(s: &mut State, field: usize, kind: usize) -> usize {
+    if is_from_one(field, kind) {
         if random::once_in(s, 4) {
             return 0;
         }
     }
     let bytes = random::below(s, 6);
     let further = random::below(s, group::piece(1, bytes));
-    num::add(past(m, field), further)
+    num::add(past(field, kind), further)
 }
 
 // Writes a number, or now and then 0, in more bytes than the fewest; the place past it.
@@ -103,27 +94,27 @@ fn put_longer(s: &mut State, at: usize, x: usize) -> usize {
 }
 
 // Writes a spoilt field from `at` on, in more bytes than the fewest or outside its limits; the place past it.
-fn put_spoilt(s: &mut State, at: usize, m: Spoilt, field: usize, x: usize) -> usize {
+fn put_spoilt(s: &mut State, at: usize, field: usize, kind: usize, x: usize) -> usize {
     if random::once_in(s, 2) {
         return put_longer(s, at, x);
     }
-    let y = outside(s, m, field);
+    let y = outside(s, field, kind);
     put::varint(s, at, y)
 }
 
 // Writes a field from `at` on; the place past it, which is kept of a spoilt one.
 fn put_field(s: &mut State, at: usize, m: Spoilt, field: usize, x: usize) -> usize {
     if field == m.first || field == m.other {
-        let end = put_spoilt(s, at, m, field, x);
+        let end = put_spoilt(s, at, field, m.kind, x);
         state::set(s, state::SPOILT_LENGTH, num::less(end, state::MESSAGE));
         return end;
     }
     put::varint(s, at, x)
 }
 
-// Writes the value, which a centre and a ready do not have; the place past it.
+// Writes the value, which a centre does not have; the place past it.
 fn put_value(s: &mut State, at: usize, m: Spoilt) -> usize {
-    if m.kind == wire::CENTRE || m.kind == wire::READY {
+    if m.kind == 6 {
         return at;
     }
     put_field(s, at, m, VALUE, m.value)
@@ -141,29 +132,9 @@ fn put_fields(s: &mut State, m: Spoilt) {
 // A kind; one with a value, if that is spoilt.
 fn some_kind(s: &mut State, spoilt: usize) -> usize {
     if spoilt == VALUE {
-        if random::once_in(s, 4) {
-            return wire::CLOSING_ECHO;
-        }
-        return random::between(s, wire::FIRST_ECHO, wire::SIDE);
+        return random::between(s, 1, 5);
     }
-    random::between(s, wire::FIRST_ECHO, wire::READY)
-}
-
-// A level: that of closing is 0.
-fn some_level(s: &mut State, kind: usize) -> usize {
-    if kind < wire::CLOSING_ECHO {
-        return random::below(s, wire::SENDING);
-    }
-    0
-}
-
-// A value: of a closing echo a position of any length.
-fn some_value(s: &mut State, kind: usize) -> usize {
-    if kind == wire::CLOSING_ECHO {
-        let bytes = random::between(s, 1, 3);
-        return random::below(s, group::piece(1, bytes)) % (wire::LAST_POSITION + 1);
-    }
-    random::below(s, wire::NONE)
+    random::between(s, 1, 6)
 }
 
 // A message with a spoilt field, or with none, and perhaps with another one.
@@ -171,9 +142,9 @@ fn draw(s: &mut State) -> Spoilt {
     let first = random::below(s, 5);
     let other = random::below(s, 8);
     let number = some_number(s);
+    let level = random::below(s, 15);
     let kind = some_kind(s, first);
-    let level = some_level(s, kind);
-    let value = some_value(s, kind);
+    let value = random::below(s, 16);
     Spoilt {
         number,
         level,

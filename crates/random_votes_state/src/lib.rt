@@ -1,6 +1,5 @@
-// What random votes are kept in: one table of numbers, pseudo-random numbers, the messages handed over, those that wire modules forgot, and places for closing, for pairs and for counts.
+// What random votes are kept in: one table of numbers, pseudo-random numbers, the messages handed over, those that wire modules forgot, and places for pairs and for counts.
 pub mod call;
-pub mod close;
 pub mod count;
 pub mod pair;
 pub mod pool;

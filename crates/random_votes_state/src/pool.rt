@@ -1,12 +1,12 @@
 // Messages that were handed over, and the message to be taken next.
 use crate::state::State;
 use crate::{put, random, state};
-use second_wire::{group, num, wire};
+use second_wire::num;
 
 // The most messages that a vote keeps.
 const MOST: usize = 2048;
 
-// A few bytes of a buffer as one number.
+// Up to eight bytes of a buffer as one number.
 fn packed(out: &[u8], at: usize, length: usize) -> usize {
     let mut word = 0;
     for i in 0..length {
@@ -52,40 +52,24 @@ fn tag_of(sender: usize, length: usize) -> usize {
     num::add((sender % 16) * 16, length)
 }
 
-// Whether messages of a kind have no value.
-fn is_bare(kind: usize) -> bool {
-    kind == wire::CENTRE || kind == wire::READY
+// How many bytes the message at `at` has: the agreement number, level, kind and, but for a centre, value.
+fn length_at(s: &State, out: &[u8], at: usize) -> usize {
+    let kind_at = num::next(num::add(at, state::get(s, state::NUMBER_LENGTH)));
+    if num::byte_at(out, kind_at) == 6 {
+        return num::less(num::next(kind_at), at);
+    }
+    num::less(num::add(kind_at, 2), at)
 }
 
-// How many bytes the value at `at` has, which is at most a position.
-fn value_length(out: &[u8], at: usize) -> usize {
-    if num::byte_at(out, at) < 128 {
-        return 1;
-    }
-    if num::byte_at(out, num::next(at)) < 128 {
-        return 2;
-    }
-    3
-}
-
-// How many bytes the message has whose level is at `at`, from there on: level, kind and, where the kind has one, value.
-fn length_at(out: &[u8], at: usize) -> usize {
-    let kind = num::byte_at(out, num::next(at));
-    if is_bare(kind) {
-        return 2;
-    }
-    num::add(2, value_length(out, num::add(at, 2)))
-}
-
-// The message at `at` is handed over to all; the place past it. What follows its agreement number is kept.
+// The message at `at` is handed over to all; the place past it.
 fn hand(s: &mut State, out: &[u8], at: usize, sender: usize) -> usize {
+    let length = length_at(s, out, at);
     let level_at = num::add(at, state::get(s, state::NUMBER_LENGTH));
-    let length = length_at(out, level_at);
     raise_top(s, num::byte_at(out, level_at));
-    let kind = num::byte_at(out, num::next(level_at)) % 16;
+    let kind = num::byte_at(out, num::next(level_at)) % 8;
     state::grow(s, num::add(state::KINDS, kind), 1);
-    keep(s, packed(out, level_at, length), tag_of(sender, length));
-    num::add(level_at, length)
+    keep(s, packed(out, at, length), tag_of(sender, length));
+    num::add(at, length)
 }
 
 // Up to `most` of the messages in the first `sent` bytes are handed over; how many.
@@ -102,12 +86,12 @@ pub fn hand_over(s: &mut State, out: &[u8], sent: usize, sender: usize, most: us
     handed
 }
 
-// The last byte of the word goes to the last of so many places, and so on.
-fn unpack(s: &mut State, from: usize, word: usize, length: usize) {
+// The last byte of the word goes to the last place of the message, and so on.
+fn unpack(s: &mut State, word: usize, length: usize) {
     let mut rest = word;
     for i in 0..length {
         let place = num::less(length, num::next(i));
-        state::put(s, from, place, rest % 256);
+        state::put(s, state::MESSAGE, place, rest % 256);
         rest = rest / 256;
     }
 }
@@ -123,10 +107,8 @@ pub fn pick(s: &mut State, i: usize) {
     let sender = sender_of(s, i);
     let length = state::of(s, state::POOL_TAG, i) % 16;
     state::set(s, state::SENDER, sender);
-    let from = put::varint(s, state::MESSAGE, state::get(s, state::NUMBER));
-    unpack(s, from, word, length);
-    let end = num::add(from, length);
-    state::set(s, state::MESSAGE_LENGTH, num::less(end, state::MESSAGE));
+    state::set(s, state::MESSAGE_LENGTH, length);
+    unpack(s, word, length);
 }
 
 // The byte of the message to be taken that lies so far past the agreement number.
@@ -148,19 +130,10 @@ pub fn kind(s: &State) -> usize {
 }
 
 pub fn value(s: &State) -> usize {
-    if is_bare(kind(s)) {
+    if kind(s) == 6 {
         return 0;
     }
-    let low = field(s, 2);
-    if low < 128 {
-        return low;
-    }
-    let middle = field(s, 3);
-    let value = low % 128 + middle % 128 * 128;
-    if middle < 128 {
-        return value;
-    }
-    num::add(value, group::piece(field(s, 4), 2))
+    field(s, 2)
 }
 
 // Level, kind and sender as one number.
@@ -173,7 +146,7 @@ pub fn write(s: &mut State, number: usize, level: usize, kind: usize, value: usi
     let a = put::varint(s, state::MESSAGE, number);
     let b = put::varint(s, a, level);
     let c = put::varint(s, b, kind);
-    if is_bare(kind) {
+    if kind == 6 {
         state::set(s, state::MESSAGE_LENGTH, num::less(c, state::MESSAGE));
         return;
     }

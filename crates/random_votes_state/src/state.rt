@@ -264,14 +264,14 @@ pub const PLAN: usize = 4096;
 
 pub const OTHER_PLAN: usize = 5376;
 
-// The messages handed over: their bytes past the agreement number as one number, whether the sender's wire module forgot them since, and sender and length.
+// The messages handed over: their bytes as one number, whether the sender's wire module forgot them since, and sender and length.
 pub const POOL: usize = 8192;
 
 pub const GONE: usize = 10240;
 
 pub const POOL_TAG: usize = 12288;
 
-// What a faulty board said last in messages of a level and kind, plus 1, with 131,072 times the board that it said it to.
+// What a faulty board said last in messages of a level and kind, plus 1, with 32 times the board that it said it to.
 pub const TOLD: usize = 16384;
 
 // For each board and message handed over the used length after the call that took it, or 0: 2048 places for each board.

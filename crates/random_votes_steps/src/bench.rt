@@ -1,6 +1,6 @@
 // The bench: spoilt settings, plans and journals, and a party that takes messages from all boards.
 use random_votes_draw::plans;
-use random_votes_seats::{closing, damage, lies, seats};
+use random_votes_seats::{damage, lies, seats};
 use random_votes_state::call::Journals;
 use random_votes_state::state::State;
 use random_votes_state::{call, pool, put, random, state};
@@ -134,21 +134,8 @@ fn bench_value(s: &mut State, kind: usize) -> usize {
     lies::any_value(s)
 }
 
-// Whether the next message is of closing: in one of eight votes often, else hardly ever, so that the bench has levels in most of them.
-fn is_closing(s: &mut State) -> bool {
-    if state::get(s, state::SALT) % 8 == 0 {
-        return random::once_in(s, 2);
-    }
-    random::once_in(s, 128)
-}
-
 // Any message, mostly of level 0.
 fn write_bench(s: &mut State) {
-    if is_closing(s) {
-        let liar = random::below(s, 2);
-        closing::write(s, liar, call::BENCH);
-        return;
-    }
     let kind = random::between(s, 1, 6);
     let value = bench_value(s, kind);
     let number = state::get(s, state::NUMBER);

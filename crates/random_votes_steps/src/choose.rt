@@ -3,7 +3,7 @@ use crate::{bench, deliver};
 use random_votes_seats::{bad, cuts, lies, seats};
 use random_votes_state::call::Journals;
 use random_votes_state::state::State;
-use random_votes_state::{call, close, pool, queue, random, state};
+use random_votes_state::{call, pool, queue, random, state};
 use second_wire::num;
 
 // One of the messages handed over, or of the last twelve.
@@ -33,11 +33,6 @@ fn take_pooled(s: &mut State, b: usize) -> usize {
     seats::take_picked(s, b, i)
 }
 
-// Whether the board starts late: it takes messages first.
-fn is_late(s: &State, b: usize) -> bool {
-    state::of(s, close::LATE, b) == 1
-}
-
 // A start, take, reading or restore of a board that is up.
 fn play_up(s: &mut State, b: usize) -> usize {
     let how = random::below(s, 128);
@@ -45,7 +40,7 @@ fn play_up(s: &mut State, b: usize) -> usize {
         return seats::start_anyhow(s, b);
     }
     if how < 12 {
-        if !seats::is_started(s, b) && !is_late(s, b) {
+        if !seats::is_started(s, b) {
             return seats::start_anyhow(s, b);
         }
     }

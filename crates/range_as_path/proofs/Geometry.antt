@@ -13,6 +13,7 @@ use Rattle.tree.proofs.Same.{Same, same_centre, same_degree, same_port, same_nei
 use Rattle.plan.specs.Plan.{Plan}
 use Rattle.plan.specs.Positions.{edges_of}
 use Rattle.component.specs.Component.{size_of, centre_of, degree_of, port_of, neighbour_of, side_of}
+use Rattle.component.specs.Inner.{survey_of}
 use Rattle.range_as_path.specs.Twin.{NextBelow, Numbered, TwinPlans}
 
 -- ---- the path
@@ -74,3 +75,7 @@ module _ (r q : Plan) (a : Alike r q) where
 
   pub alike_side : (S : Set) (k : ℕ) → side_of r S k ≡ side_of q S k
   alike_side S k = alike (λ E n. side E n S k) (λ n. ap (λ (f : ℕ → Set). f k) (same_side (edges_of r) (edges_of q) a.edges n S))
+
+  pub alike_survey : (S : Set) (x : ℕ) → survey_of r S x ≡ survey_of q S x
+  unfolding survey_of
+  alike_survey S x z = record { centre = alike_centre S z; degree = alike_degree S z; port = alike_port S x z }

@@ -1,12 +1,11 @@
 -- Demand 2: "A range of at most 255 readings behaves, position for position, as the same path given as a tree numbered along it."
 -- Theorem. Let s be the bytes of a range of at most 255 readings, and s' those of the tree whose edges are the path's, in any order and direction:
 -- they are read as plans r and q of as many positions, of which the same are neighbours (`bytes`). Then every component has on both the same size,
--- centre, degree, ports, neighbours and sides (`geometry`). Two boards with the same settings, levels and record of closing, one on r and one on q, answer
--- question 19 alike, see the same at every level and of closing, and apply as many rules, the same ones in the same order, with the same messages, to two
--- such boards (`rules`). Every call on them, with inputs of the same position, is refused with the same number and place, or writes the same bytes into
--- both buffers, gives the same numbers and leaves two such boards; a reading gives reading low + x of the range and vertex x of the tree, for the same x,
--- as the answer and as the closing value, and both are closed or neither is; set-up and restore on s and s' do likewise (`behaviour`). So it is after any
--- list of calls (`script`), and from the set-up on (`votes`).
+-- centre, degree, ports, neighbours and sides (`geometry`). Two parties with the same settings and levels, one on r and one on q, answer question 19
+-- alike, see the same at every level, and apply as many rules, the same ones in the same order, with the same messages, to two such parties (`rules`).
+-- Every call on them, with inputs of the same position, is refused with the same number and place, or writes the same bytes into both buffers, gives
+-- the same numbers and leaves two such parties; a reading gives reading low + x of the range and vertex x of the tree, for the same x; set-up and
+-- restore on s and s' do likewise (`behaviour`). So it is after any list of calls (`script`), and from the set-up on (`votes`).
 use mathlib.Core.Path.{◌≡◌, refl, sym, subst₂}
 use mathlib.Core.Logic.{◌↔◌}
 use mathlib.Core.List.{List, ◌++◌}
@@ -24,20 +23,14 @@ use Rattle.plan.specs.Reading.{plan_of}
 use Rattle.plan.specs.Bytes.{edge_bytes}
 use Rattle.component.specs.Component.{size_of, centre_of, degree_of, port_of, neighbour_of, side_of}
 use Rattle.message.specs.declared.Message.{Message}
-use Rattle.packet.specs.declared.Packet.{Packet}
 use Rattle.journal.specs.declared.Record.{Record}
 use Rattle.party.specs.Party.{Party, level_at, component_of, sending, context_of, entered, held_by, hearing, output_of}
-use Rattle.party.specs.Run.{rule_at, open_at, open_level, step_at, run_up_to, run}
+use Rattle.party.specs.Run.{rule_at, open_at, open_level, step_at, run_up_to, run, starting, taking}
 use Rattle.party.specs.Valid.{party_valid}
-use Rattle.closing.specs.Run.{close_run}
-use Rattle.member.specs.Member as member
-use Rattle.member.specs.Member.{Member, started, answer_position, idle}
-use Rattle.member.specs.Run.{starting, taking}
-use Rattle.member.specs.Valid.{member_valid}
-use Rattle.member_life.specs.Life.{lived, Life}
+use Rattle.party_life.specs.Life.{lived, Life}
 use Rattle.board_calls.specs.Calls.{SetUp, set_up_of, start_questions, take_questions}
 use Rattle.board_calls.specs.Restore.{restore_questions}
-use Rattle.range_as_path.specs.Twin.{PathListed, TwinPlans, TwinParties, TwinMembers, TwinRan, TwinMemberRan, TwinFound, both, TwinSetUp, set_up, not_set_up, TwinBytes, SameBehaviour}
+use Rattle.range_as_path.specs.Twin.{PathListed, TwinPlans, TwinParties, TwinRan, TwinFound, both, TwinSetUp, set_up, not_set_up, TwinBytes, SameBehaviour}
 use Rattle.range_as_path.specs.Script.{Ask, Desk, after, TwinDesks, SameNext}
 use Rattle.range_as_path.proofs.Geometry.{twin_alike, alike_size, alike_centre, alike_degree, alike_port, alike_neighbour, alike_side}
 use Rattle.range_as_path.proofs.Twins.{
@@ -56,12 +49,13 @@ use Rattle.range_as_path.proofs.Twins.{
   twin_hearing,
   twin_runs,
   twin_run,
+  twin_starting,
+  twin_taking,
+  twin_lived,
+  twin_life,
 }
-use Rattle.range_as_path.proofs.Members.{twin_asks, twin_begun, twin_position, twin_closes, twin_idle, twin_passes, twin_starting, twin_taking}
-use Rattle.range_as_path.proofs.Lives.{twin_lived, twin_life}
 use Rattle.range_as_path.proofs.Positions.{twin_input}
-use Rattle.range_as_path.proofs.Calls.{twin_start, twin_take, twin_call}
-use Rattle.range_as_path.proofs.Readings.{twin_answered, twin_closing_read}
+use Rattle.range_as_path.proofs.Calls.{twin_start, twin_take, twin_call, twin_answered}
 use Rattle.range_as_path.proofs.Restores.{twin_set_up_lem, twin_restore, twin_restored}
 use Rattle.range_as_path.proofs.Scripts.{twin_script}
 use Rattle.range_as_path.proofs.Bytes.{twin_bytes}
@@ -97,8 +91,7 @@ geometry r q w S =
 
 -- ---- the rules
 
--- at the levels
-pub record SameLevels (p p' : Party) : Type 0 where
+pub record SameRules (p p' : Party) : Type 0 where
   pub valid : party_valid p ≡ party_valid p'
   pub level : (i : ℕ) → level_at p i ≡ level_at p' i
   pub component : (i : ℕ) → component_of p i ≡ component_of p' i
@@ -114,9 +107,13 @@ pub record SameLevels (p p' : Party) : Type 0 where
   pub hears : (s : ℕ) (m : Message) → TwinParties (hearing p s m) (hearing p' s m)
   pub some_rules : (f : ℕ) → TwinRan (run_up_to f p) (run_up_to f p')
   pub all_rules : TwinRan (run p) (run p')
+  pub starts : (x : ℕ) → TwinRan (starting p x) (starting p' x)
+  pub takes : (s : ℕ) (m : Message) → TwinRan (taking p s m) (taking p' s m)
+  pub lives : (rs : List Record) → TwinRan (lived p rs) (lived p' rs)
+  pub life : (rs : List Record) → Life p rs ↔ Life p' rs
 
-levels : (p p' : Party) → TwinParties p p' → SameLevels p p'
-levels p p' w = record {
+pub rules : (p p' : Party) → TwinParties p p' → SameRules p p'
+rules p p' w = record {
   valid = twin_valid p p' w;
   level = twin_level p p' w;
   component = twin_component p p' w;
@@ -132,35 +129,10 @@ levels p p' w = record {
   hears = twin_hearing p p' w;
   some_rules = twin_runs p p' w;
   all_rules = twin_run p p' w;
-}
-
--- and of the whole board, with closing
-pub record SameRules (m m' : Member) : Type 0 where
-  pub at_levels : SameLevels m.party m'.party
-  pub valid : member_valid m ≡ member_valid m'
-  pub begun : started m ≡ started m'
-  pub answer : answer_position m ≡ answer_position m'
-  pub context : member.context_of m.party ≡ member.context_of m'.party
-  pub closes : close_run (member.context_of m.party) m.closing ≡ close_run (member.context_of m'.party) m'.closing
-  pub unrecorded : (s : ℕ) (x : Packet) → idle m s x ≡ idle m' s x
-  pub starts : (x : ℕ) → TwinMemberRan (starting m x) (starting m' x)
-  pub takes : (s : ℕ) (x : Packet) → TwinMemberRan (taking m s x) (taking m' s x)
-  pub lives : (rs : List Record) → TwinMemberRan (lived m rs) (lived m' rs)
-  pub life : (rs : List Record) → Life m rs ↔ Life m' rs
-
-pub rules : (m m' : Member) → TwinMembers m m' → SameRules m m'
-rules m m' w = record {
-  at_levels = levels m.party m'.party w.party;
-  valid = twin_passes m m' w;
-  begun = twin_begun m m' w;
-  answer = twin_position m m' w;
-  context = twin_asks m.party m'.party w.party;
-  closes = twin_closes m m' w;
-  unrecorded = twin_idle m m' w;
-  starts = twin_starting m m' w;
-  takes = twin_taking m m' w;
-  lives = twin_lived m m' w;
-  life = twin_life m m' w;
+  starts = twin_starting p p' w;
+  takes = twin_taking p p' w;
+  lives = twin_lived p p' w;
+  life = twin_life p p' w;
 }
 
 -- ---- the calls
@@ -173,14 +145,13 @@ pub behaviour : SameBehaviour
 behaviour = record {
   set_up = λ s s' b n t own agreement. twin_set_up_lem n t own agreement s s' (twin_found s s' b);
   inputs = twin_input;
-  start = λ m m' w z z' e j used out.
-      twin_call m m' w j used out (start_questions m z (length j) used (length out)) (start_questions m' z' (length j) used (length out))
-      (twin_start m m' w (length j) used z z' e (length out));
-  take = λ m m' w sender bytes j used out.
-      twin_call m m' w j used out (take_questions m sender bytes (length j) used (length out)) (take_questions m' sender bytes (length j) used (length out))
-      (twin_take m m' w (length j) used sender bytes (length out));
+  start = λ p p' w z z' e j used out.
+      twin_call p p' w j used out (start_questions p z (length j) used (length out)) (start_questions p' z' (length j) used (length out))
+      (twin_start p p' w (length j) used z z' e (length out));
+  take = λ p p' w sender bytes j used out.
+      twin_call p p' w j used out (take_questions p sender bytes (length j) used (length out)) (take_questions p' sender bytes (length j) used (length out))
+      (twin_take p p' w (length j) used sender bytes (length out));
   answer = twin_answered;
-  closing = twin_closing_read;
   restore = λ s s' b n t own agreement j out.
       twin_restored out (restore_questions n t own agreement s j (length out)) (restore_questions n t own agreement s' j (length out))
       (twin_restore n t own agreement s s' (twin_found s s' b) j (length out));
@@ -191,9 +162,9 @@ behaviour = record {
 pub script : (asks : List Ask) (d d' : Desk) → TwinDesks d d' → SameNext (after d asks) (after d' asks)
 script = twin_script
 
--- a board just set up, and an empty journal in the lent bytes j
+-- a party just set up, and an empty journal in the lent bytes j
 abbrev pub from_set_up : SetUp → List ℕ → Desk
-from_set_up u j = record { member = u.member; journal = j; used = 0 }
+from_set_up u j = record { party = u.party; journal = j; used = 0 }
 
 -- from a set-up that is accepted on s, and so on s', the same calls by positions give twins, call for call
 pub votes : (s s' : List ℕ) → TwinBytes s s' → (n t own agreement : ℕ) (j : List ℕ) → (set_up_of n t own agreement s).verdict ≡ Verdict.Accepted
@@ -201,6 +172,6 @@ pub votes : (s s' : List ℕ) → TwinBytes s s' → (n t own agreement : ℕ) (
 votes s s' b n t own agreement j e asks = go (set_up_of n t own agreement s) (set_up_of n t own agreement s') (behaviour.set_up s s' b n t own agreement) e
   where
     go : (u u' : SetUp) → TwinSetUp u u' → u.verdict ≡ Verdict.Accepted → SameNext (after (from_set_up u j) asks) (after (from_set_up u' j) asks)
-    go u u' (set_up {m = m} {m' = m'} w) e =
-        script asks (record { member = m; journal = j; used = 0 }) (record { member = m'; journal = j; used = 0 }) (record { member = w; journal = refl; used = refl })
+    go u u' (set_up {p = p} {p' = p'} w) e =
+        script asks (record { party = p; journal = j; used = 0 }) (record { party = p'; journal = j; used = 0 }) (record { party = w; journal = refl; used = refl })
     go u u' not_set_up e = let z : ◌≡◌ {A = ℕ} 0 1 = cc in absurd (omega arith)

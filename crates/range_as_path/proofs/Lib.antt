@@ -3,14 +3,10 @@ pub mod Numbering
 pub mod Parties
 pub mod Valid
 pub mod Twins
-pub mod Members
-pub mod Lives
 pub mod Positions
 pub mod Calls
-pub mod Readings
 pub mod Restores
 pub mod Scripts
 pub mod Bytes
 pub mod Laws
-pub mod Computing
 pub mod Examples

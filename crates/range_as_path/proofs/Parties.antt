@@ -5,7 +5,7 @@ use Prim.Native.Nat.{ℕ, zero, suc, ◌+◌}
 use lib.Dec.{leb, ltb}
 use Rattle.base.specs.Pick.{pick, smallest}
 use Rattle.base.specs.Sets.{Set}
-use Rattle.base.specs.Limits.{level_count}
+use Rattle.base.specs.Limits.{level_count, max_rules}
 use Rattle.tree.specs.Component.{upto}
 use Rattle.plan.specs.Plan.{Plan}
 use Rattle.component.specs.Component.{size_of, centre_of, degree_of, port_of, neighbour_of, side_of}
@@ -15,8 +15,8 @@ use Rattle.level.specs.declared.Effect.{Effect}
 use Rattle.level.specs.declared.Effect.TheVariants.{Nothing, Quiet, Send, Enter, SendEnter}
 use Rattle.level.specs.Level.{Level, with_entry}
 use Rattle.level.specs.Rules.{Applied, lowest_rule, applies}
-use Rattle.party.specs.Party.{Party, level_at, with_level, component_of, sending, context_of, entering, entered, hearing}
-use Rattle.party.specs.Run.{Ran, rule_at, open_at, open_level, descend, gate, after_rule, made_by, resting, one_more, step_at, run_up_to}
+use Rattle.party.specs.Party.{Party, level_at, with_level, component_of, sending, context_of, entering, entered, held_by, hearing}
+use Rattle.party.specs.Run.{Ran, rule_at, open_at, open_level, descend, gate, after_rule, made_by, resting, one_more, step_at, run_up_to, run, starting, taking}
 use Rattle.range_as_path.proofs.Geometry.{Alike, alike_size, alike_centre, alike_degree, alike_port, alike_neighbour, alike_side}
 
 -- the party on plan q
@@ -30,6 +30,10 @@ retold_ran q r = record { party = retold q r.party; rules = r.rules; made = r.ma
 -- ---- what the rules see
 
 module _ (q : Plan) (p : Party) (a : Alike p.plan q) where
+  pub retold_level : (i : ℕ) → level_at (retold q p) i ≡ level_at p i
+  unfolding level_at
+  retold_level i = refl
+
   pub retold_component : (i : ℕ) → component_of (retold q p) i ≡ component_of p i
   unfolding component_of level_at
   retold_component zero = ap upto (sym a.count)
@@ -99,6 +103,10 @@ module _ (q : Plan) (p : Party) (a : Alike p.plan q) where
   retold_entered x =
       ap (λ (n : ℕ). entering (retold q p) 0 (upto n) 0 x) (sym a.count) ∙ retold_entering 0 (upto p.plan.count) 0 x
 
+  pub retold_held : (s : ℕ) (m : Message) → held_by (retold q p) s m ≡ held_by p s m
+  unfolding held_by level_at
+  retold_held s m = refl
+
   pub retold_hearing : (s : ℕ) (m : Message) → hearing (retold q p) s m ≡ retold q (hearing p s m)
   unfolding hearing with_level level_at
   retold_hearing s m = refl
@@ -164,6 +172,18 @@ runs_plan (suc f) p = go (ltb (open_level p) level_count) (runs_plan f (step_at 
     go true ih = ih ∙ step_plan p (open_level p)
     go false ih = refl
 
+pub starting_plan : (p : Party) (x : ℕ) → (starting p x).party.plan ≡ p.plan
+unfolding starting run
+starting_plan p x = runs_plan max_rules (entered p x) ∙ entered_plan p x
+
+pub taking_plan : (p : Party) (s : ℕ) (m : Message) → (taking p s m).party.plan ≡ p.plan
+unfolding taking run
+taking_plan p s m = go (held_by p s m)
+  where
+    go : (b : Bool) → (pick b (resting p) (run_up_to max_rules (hearing p s m))).party.plan ≡ p.plan
+    go true = refl
+    go false = runs_plan max_rules (hearing p s m) ∙ hearing_plan p s m
+
 -- ---- a run of rules
 
 pub retold_runs : (q : Plan) (f : ℕ) (p : Party) → Alike p.plan q → run_up_to f (retold q p) ≡ retold_ran q (run_up_to f p)
@@ -194,3 +214,19 @@ retold_runs q (suc f) p a = go (retold_lowest q p a) (retold_runs q f (step_at p
         ap (λ (j : ℕ). pick (ltb j level_count) (one_more (made_by (retold q p).agreement j (rule_at (retold q p) j).effect) (run_up_to f (step_at (retold q p) j))) (resting (retold q p))) e
         ∙ ap (λ (x : Ran). pick (ltb i level_count) x (resting (retold q p))) (next ih)
         ∙ pushed (ltb i level_count) (one_more (made_by p.agreement i (rule_at p i).effect) (run_up_to f (step_at p i)))
+
+pub retold_run : (q : Plan) (p : Party) → Alike p.plan q → run (retold q p) ≡ retold_ran q (run p)
+unfolding run
+retold_run q p a = retold_runs q max_rules p a
+
+pub retold_starting : (q : Plan) (p : Party) → Alike p.plan q → (x : ℕ) → starting (retold q p) x ≡ retold_ran q (starting p x)
+unfolding starting
+retold_starting q p a x = ap run (retold_entered q p a x) ∙ retold_run q (entered p x) (subst (λ (r : Plan). Alike r q) (sym (entered_plan p x)) a)
+
+pub retold_taking : (q : Plan) (p : Party) → Alike p.plan q → (s : ℕ) (m : Message) → taking (retold q p) s m ≡ retold_ran q (taking p s m)
+unfolding taking
+retold_taking q p a s m = ap (λ (b : Bool). pick b (resting (retold q p)) (run (hearing (retold q p) s m))) (retold_held q p a s m) ∙ go (held_by p s m)
+  where
+    go : (b : Bool) → pick b (resting (retold q p)) (run (hearing (retold q p) s m)) ≡ retold_ran q (pick b (resting p) (run (hearing p s m)))
+    go true = refl
+    go false = ap run (retold_hearing q p a s m) ∙ retold_run q (hearing p s m) (subst (λ (r : Plan). Alike r q) (sym (hearing_plan p s m)) a)

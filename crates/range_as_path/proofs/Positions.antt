@@ -1,18 +1,18 @@
 -- Inputs and answers: position x is reading low + x of a range, and vertex x of a tree.
 use mathlib.Core.Path.{◌≡◌, refl, sym, ap, ◌∙◌, subst₂}
-use mathlib.Core.Bool.{Bool, true, false, ◌||◌}
-use Prim.Native.Nat.{ℕ, ◌+◌, ◌-◌}
+use mathlib.Core.Logic.{◌⊎◌, inl, inr}
+use mathlib.Core.Bool.{Bool, true, false}
+use Prim.Native.Nat.{ℕ, ◌+◌, ◌-◌, ◌<◌}
 use native.Mathlib.Omega.{arith}
-use lib.Dec.{T, leb, ltb, eqb, ltb→lt}
+use lib.Dec.{leb, ltb, eqb}
 use lib.IntN.{ℤ, pos, negsuc}
-use borrow.Author.Tests.{eq-eqb, ne_eqb, le-leb, leb-true, leb-false}
+use borrow.Author.Tests.{eq-eqb, ne_eqb, lt-ltb, le-leb, leb-true, leb-false, eqb-false}
 use Rattle.base.specs.Limits.{offset_zero}
 use Rattle.base.specs.Pick.{pick}
 use Rattle.signed.specs.Signed.{from_offset}
 use Rattle.plan.specs.Plan.{Plan}
 use Rattle.plan.specs.Positions.{reading_of}
 use Rattle.level.specs.Level.{no_output}
-use Rattle.closing.specs.Valid.{on_plan_or_none}
 use Rattle.board_calls.specs.declared.Answer.{Answer}
 use Rattle.board_calls.specs.Answers.{on_plan, vertex_of, range_position, position_of, answer_of}
 use Rattle.range_as_path.specs.Twin.{TwinPlans, TwinAnswer, nothing, position}
@@ -23,6 +23,10 @@ chosen b x y e = ap (λ (c : Bool). pick c x y) e
 
 other : {A : Type 0} (b : Bool) (x y : A) → b ≡ false → pick b x y ≡ y
 other b x y e = ap (λ (c : Bool). pick c x y) e
+
+-- a position below the count is on the plan
+pub on_plan_lem : (p : Plan) (x : ℕ) → x < p.count → on_plan p x ≡ x
+on_plan_lem p x h = chosen (ltb x p.count) x no_output (lt-ltb x p.count h)
 
 module _ (p : Plan) where
   -- ---- a tree
@@ -75,11 +79,13 @@ module _ (r q : Plan) (w : TwinPlans r q) where
       ∙ ap (position_of q) (sym (tree_reading q w.tree x))
 
   -- and answers of the same position
-  pub twin_answer : (x : ℕ) → T (on_plan_or_none r.count x) → TwinAnswer r (answer_of r x) (answer_of q x)
+  pub twin_answer : (x : ℕ) → (x ≡ no_output) ⊎ (x < r.count) → TwinAnswer r (answer_of r x) (answer_of q x)
   unfolding answer_of
   twin_answer x h = subst₂ (λ (a b : ℤ). TwinAnswer r (pick (eqb x no_output) Answer.None (Answer.At a)) (pick (eqb x no_output) Answer.None (Answer.At b)))
-      (sym (range_reading r w.range x)) (sym (tree_reading q w.tree x)) (go (eqb x no_output) h)
+      (sym (range_reading r w.range x)) (sym (tree_reading q w.tree x)) (go (eqb x no_output) refl h)
     where
-      go : (b : Bool) → T (b || ltb x r.count) → TwinAnswer r (pick b Answer.None (Answer.At (from_offset (r.low + x)))) (pick b Answer.None (Answer.At (pos x)))
-      go true h = nothing
-      go false h = position (ltb→lt x r.count h)
+      go : (b : Bool) → eqb x no_output ≡ b → (x ≡ no_output) ⊎ (x < r.count)
+          → TwinAnswer r (pick b Answer.None (Answer.At (from_offset (r.low + x)))) (pick b Answer.None (Answer.At (pos x)))
+      go true e h = nothing
+      go false e (inl i) = absurd (eqb-false x no_output e i)
+      go false e (inr l) = position l

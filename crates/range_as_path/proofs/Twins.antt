@@ -1,18 +1,26 @@
--- Twin parties: at their levels they stay twins, apply as many rules and make the same messages.
-use mathlib.Core.Path.{◌≡◌, refl, sym, ap, ◌∙◌, subst}
-use Prim.Native.Nat.{ℕ}
+-- Twin parties: whatever they do, they stay twins, apply as many rules and make the same messages.
+use mathlib.Core.Path.{◌≡◌, refl, sym, ap, ap₂, ◌∙◌, subst}
+use mathlib.Core.Logic.{◌↔◌}
+use mathlib.Core.Bool.{◌&&◌}
+use mathlib.Core.List.{List, [], ◌∷◌, ◌++◌}
+use Prim.Native.Nat.{ℕ, ◌+◌}
+use lib.Dec.{T, ltb, eqb}
+use Rattle.base.specs.Pick.{pick}
 use Rattle.base.specs.Limits.{max_rules}
 use Rattle.base.proofs.Bools.{T→true}
 use Rattle.plan.specs.Plan.{Plan}
 use Rattle.plan.specs.Valid.{plan_valid}
 use Rattle.message.specs.declared.Message.{Message}
+use Rattle.journal.specs.declared.Record.{Record}
+use Rattle.journal.specs.declared.Record.TheVariants.{Start, Taken}
 use Rattle.level.specs.Level.{Level}
 use Rattle.party.specs.Party.{Party, level_at, component_of, sending, context_of, started, entered, held_by, hearing, output_of, new_party}
-use Rattle.party.specs.Run.{Ran, rule_at, open_at, open_level, step_at, run_up_to, run}
+use Rattle.party.specs.Run.{Ran, rule_at, open_at, open_level, step_at, resting, run_up_to, run, starting, taking}
 use Rattle.party.specs.Valid.{party_valid}
+use Rattle.party_life.specs.Life.{replayed, following, lived, fault, tabled, passes, Fits, Life}
 use Rattle.range_as_path.specs.Twin.{TwinPlans, TwinParties, TwinRan}
 use Rattle.range_as_path.proofs.Geometry.{Alike, twin_alike}
-use Rattle.range_as_path.proofs.Parties.{retold, retold_ran, retold_component, retold_sending, retold_context, retold_rule, retold_open, retold_lowest, retold_entered, retold_hearing, retold_step, retold_runs, step_plan, entered_plan, hearing_plan, runs_plan}
+use Rattle.range_as_path.proofs.Parties.{retold, retold_ran, retold_component, retold_sending, retold_context, retold_rule, retold_open, retold_lowest, retold_entered, retold_hearing, retold_step, retold_runs, retold_starting, retold_taking, step_plan, entered_plan, hearing_plan, runs_plan, starting_plan, taking_plan}
 use Rattle.range_as_path.proofs.Valid.{retold_valid}
 
 -- ---- twins are the same party on twin plans
@@ -101,6 +109,54 @@ module _ (p p' : Party) (w : TwinParties p p') where
   pub twin_run : TwinRan (run p) (run p')
   unfolding run
   twin_run = twin_runs max_rules
+
+  pub twin_starting : (x : ℕ) → TwinRan (starting p x) (starting p' x)
+  twin_starting x = told_ran (λ p. starting p x) (retold_starting p'.plan p twin x) (starting_plan p x)
+
+  pub twin_taking : (s : ℕ) (m : Message) → TwinRan (taking p s m) (taking p' s m)
+  twin_taking s m = told_ran (λ p. taking p s m) (retold_taking p'.plan p twin s m) (taking_plan p s m)
+
+  pub twin_resting : TwinRan (resting p) (resting p')
+  twin_resting = record { party = w; rules = refl; made = refl }
+
+  -- what a record's call did
+  pub twin_replayed : (r : Record) → TwinRan (replayed p r) (replayed p' r)
+  unfolding replayed
+  twin_replayed (Start a x) = twin_starting x
+  twin_replayed (Taken s m) = twin_taking s m
+
+-- ---- lives
+
+pub twin_following : (a b a' b' : Ran) → TwinRan a b → TwinRan a' b' → TwinRan (following a a') (following b b')
+twin_following a b a' b' w w' = record { party = w'.party; rules = ap₂ ◌+◌ w.rules w'.rules; made = ap₂ ◌++◌ w.made w'.made }
+
+-- after the same records
+pub twin_lived : (p p' : Party) → TwinParties p p' → (rs : List Record) → TwinRan (lived p rs) (lived p' rs)
+unfolding lived
+twin_lived p p' w [] = twin_resting p p' w
+twin_lived p p' w (r ∷ rs) =
+    let h = twin_lived p p' w rs in
+    twin_following (lived p rs) (lived p' rs) (replayed (lived p rs).party r) (replayed (lived p' rs).party r) h
+    (twin_replayed (lived p rs).party (lived p' rs).party h.party r)
+
+-- the same question of a record fails
+pub twin_fault : (p p' : Party) → TwinParties p p' → (r : Record) → fault p r ≡ fault p' r
+twin_fault p p' w (Start a x) = λ z. pick (eqb a (w.agreement z)) (pick (twin_started p p' w z) 13 (pick (ltb x (w.plans.count z)) 0 12)) 16
+twin_fault p p' w (Taken s m) = λ z. pick (eqb m.number (w.agreement z)) (pick (ltb s (w.n z)) 0 14) 16
+
+-- the same records fit
+pub twin_fits : (p p' : Party) → TwinParties p p' → (r : Record) → Fits p r ↔ Fits p' r
+twin_fits p p' w r =
+    let e : passes p r ≡ passes p' r = ap (λ (k : ℕ). eqb k 0 && tabled r) (twin_fault p p' w r) in
+    (λ f. subst T e f, λ f. subst T (sym e) f)
+
+-- and make the same lives
+pub twin_life : (p p' : Party) → TwinParties p p' → (rs : List Record) → Life p rs ↔ Life p' rs
+twin_life p p' w [] = (λ h. h, λ h. h)
+twin_life p p' w (r ∷ rs) =
+    let f = twin_fits (lived p rs).party (lived p' rs).party (twin_lived p p' w rs).party r in
+    let h = twin_life p p' w rs in
+    (λ l. (f.0 l.0, h.0 l.1), λ l. (f.1 l.0, h.1 l.1))
 
 -- parties that have not started
 pub twin_new : (n t own agreement : ℕ) (r q : Plan) → TwinPlans r q → TwinParties (new_party n t own agreement r) (new_party n t own agreement q)

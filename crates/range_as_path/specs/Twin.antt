@@ -1,5 +1,5 @@
 -- Demand 2: "A range of at most 255 readings behaves, position for position, as the same path given as a tree numbered along it."
--- Which plans, boards and results of calls are twins: the same but for the way in which the path was given.
+-- Which plans, parties and results of calls are twins: the same but for the way in which the path was given.
 use Rattle.std.specs.Prelude.{◌≡◌, ◌⊎◌, ◌↔◌, List, ℕ, suc, ◌+◌, ◌-◌, ◌<◌, T, ℤ, pos, length}
 use Rattle.base.specs.declared.Verdict.{Verdict}
 use Rattle.signed.specs.Signed.{from_offset}
@@ -12,13 +12,10 @@ use Rattle.plan.specs.Valid.{plan_valid}
 use Rattle.journal.specs.declared.Record.{Record}
 use Rattle.party.specs.Party.{Party}
 use Rattle.party.specs.Run.{Ran}
-use Rattle.member.specs.Member.{Member}
-use Rattle.member.specs.Run.{MemberRan}
 use Rattle.board_calls.specs.declared.Answered.{Answered}
 use Rattle.board_calls.specs.declared.Answer.{Answer}
-use Rattle.board_calls.specs.declared.ClosingRead.{ClosingRead}
 use Rattle.board_calls.specs.Answers.{position_of}
-use Rattle.board_calls.specs.Calls.{Called, SetUp, Entry, again, fresh, no_member, set_up_of, start_questions, take_questions, called_of, journal_after, outgoing_after, answered_of, closing_read_of}
+use Rattle.board_calls.specs.Calls.{Called, SetUp, Entry, again, fresh, no_party, set_up_of, start_questions, take_questions, called_of, journal_after, outgoing_after, answered_of}
 use Rattle.board_calls.specs.Restore.{Replay, restore_questions, restored_of, restore_outgoing}
 
 -- ---- plans
@@ -45,9 +42,9 @@ pub record TwinPlans (r q : Plan) : Type 0 where
   pub count : r.count ≡ q.count
   pub path : Numbered q.count (edges_of q)
 
--- ---- boards
+-- ---- parties
 
--- parties: the same settings and levels, on twin plans
+-- the same settings and levels, on twin plans
 pub record TwinParties (p p' : Party) : Type 0 where
   pub n : p.n ≡ p'.n
   pub t : p.t ≡ p'.t
@@ -56,20 +53,9 @@ pub record TwinParties (p p' : Party) : Type 0 where
   pub levels : p.levels ≡ p'.levels
   pub plans : TwinPlans p.plan p'.plan
 
--- boards: twin parties, and the same record of closing
-pub record TwinMembers (m m' : Member) : Type 0 where
-  pub party : TwinParties m.party m'.party
-  pub closing : m.closing ≡ m'.closing
-
--- at the levels: as many rules, the same messages in the same order, twin parties
+-- as many rules, the same messages in the same order, twin parties
 pub record TwinRan (a b : Ran) : Type 0 where
   pub party : TwinParties a.party b.party
-  pub rules : a.rules ≡ b.rules
-  pub made : a.made ≡ b.made
-
--- with closing: the same, of boards
-pub record TwinMemberRan (a b : MemberRan) : Type 0 where
-  pub member : TwinMembers a.member b.member
   pub rules : a.rules ≡ b.rules
   pub made : a.made ≡ b.made
 
@@ -80,37 +66,37 @@ pub data TwinFound {A : Type 0} (R : A → A → Type 0) : Found A → Found A �
   both : {a b : A} → R a b → TwinFound R (found a) (found b)
   neither : {number place : ℕ} → TwinFound R (refused number place) (refused number place)
 
--- a message that needs no record, or the same record and twin runs
+-- a message held already, or the same record and twin runs
 pub data TwinEntry : Entry → Entry → Type 0 where
-  unrecorded : TwinEntry again again
-  recorded : {r : Record} {a b : MemberRan} → TwinMemberRan a b → TwinEntry (fresh r a) (fresh r b)
+  held : TwinEntry again again
+  recorded : {r : Record} {a b : Ran} → TwinRan a b → TwinEntry (fresh r a) (fresh r b)
 
 -- the same used length, and twin runs
 pub record TwinReplay (a b : Replay) : Type 0 where
-  pub ran : TwinMemberRan a.ran b.ran
+  pub ran : TwinRan a.ran b.ran
   pub used : a.used ≡ b.used
 
 -- ---- what the calls give
 
--- the same verdict, used length, outgoing bytes and rules, and twin boards
+-- the same verdict, used length, outgoing bytes and rules, and twin parties
 pub record TwinCalled (a b : Called) : Type 0 where
   pub verdict : a.verdict ≡ b.verdict
-  pub member : TwinMembers a.member b.member
+  pub party : TwinParties a.party b.party
   pub used : a.used ≡ b.used
   pub sent : a.sent ≡ b.sent
   pub rules : a.rules ≡ b.rules
 
--- a start or take of m and of m' that found a and b at the door: what it gives, and both buffers after it
-pub record TwinCall (m m' : Member) (j : List ℕ) (used : ℕ) (out : List ℕ) (a b : Found Entry) : Type 0 where
-  pub called : TwinCalled (called_of m used a) (called_of m' used b)
+-- a start or take of p and of p' that found a and b at the door: what it gives, and both buffers after it
+pub record TwinCall (p p' : Party) (j : List ℕ) (used : ℕ) (out : List ℕ) (a b : Found Entry) : Type 0 where
+  pub called : TwinCalled (called_of p used a) (called_of p' used b)
   pub journal : journal_after j used a ≡ journal_after j used b
   pub outgoing : outgoing_after out a ≡ outgoing_after out b
 
--- a set-up and a restore: twin boards, or the same refusal, which gives no party
+-- a set-up and a restore: twin parties, or the same refusal, which gives no party
 pub data TwinSetUp : SetUp → SetUp → Type 0 where
-  set_up : {m m' : Member} → TwinMembers m m' → TwinSetUp (record { verdict = Verdict.Accepted; member = m }) (record { verdict = Verdict.Accepted; member = m' })
+  set_up : {p p' : Party} → TwinParties p p' → TwinSetUp (record { verdict = Verdict.Accepted; party = p }) (record { verdict = Verdict.Accepted; party = p' })
   not_set_up : {number place : ℕ}
-      → TwinSetUp (record { verdict = Verdict.Refused number place; member = no_member }) (record { verdict = Verdict.Refused number place; member = no_member })
+      → TwinSetUp (record { verdict = Verdict.Refused number place; party = no_party }) (record { verdict = Verdict.Refused number place; party = no_party })
 
 pub data TwinRestored : Called → Called → Type 0 where
   restored : {a b : Called} → a.verdict ≡ Verdict.Accepted → TwinCalled a b → TwinRestored a b
@@ -122,7 +108,7 @@ pub record TwinRestore (out : List ℕ) (a b : Found Replay) : Type 0 where
 
 -- ---- answers
 
--- none, or the same position x: reading low + x of the range, vertex x of the tree
+-- none yet, or the same position x: reading low + x of the range, vertex x of the tree
 pub data TwinAnswer (r : Plan) : Answer → Answer → Type 0 where
   nothing : TwinAnswer r Answer.None Answer.None
   position : {x : ℕ} → x < r.count → TwinAnswer r (Answer.At (from_offset (r.low + x))) (Answer.At (pos x))
@@ -130,12 +116,6 @@ pub data TwinAnswer (r : Plan) : Answer → Answer → Type 0 where
 pub record TwinAnswered (r : Plan) (a b : Answered) : Type 0 where
   pub verdict : a.verdict ≡ b.verdict
   pub answer : TwinAnswer r a.answer b.answer
-
--- both closed or neither is, and the closing value likewise
-pub record TwinClosingRead (r : Plan) (a b : ClosingRead) : Type 0 where
-  pub verdict : a.verdict ≡ b.verdict
-  pub closed : a.closed ≡ b.closed
-  pub value : TwinAnswer r a.value b.value
 
 -- ---- the demand's sentence, call by call
 
@@ -147,17 +127,15 @@ pub record TwinBytes (s s' : List ℕ) : Type 0 where
   pub read' : plan_of s' ≡ found tree
   pub twins : TwinPlans range tree
 
--- "behaves, position for position, as": set-up and restore on such bytes, and every call on twin boards with inputs of the same position, give twins
+-- "behaves, position for position, as": set-up and restore on such bytes, and every call on twin parties with inputs of the same position, give twins
 pub record SameBehaviour : Type 0 where
   pub set_up : (s s' : List ℕ) → TwinBytes s s' → (n t own agreement : ℕ) → TwinSetUp (set_up_of n t own agreement s) (set_up_of n t own agreement s')
   -- the inputs of position x are of the same position on both plans: reading low + x, and vertex x
   pub inputs : (r q : Plan) → TwinPlans r q → (x : ℕ) → position_of r (reading_of r x) ≡ position_of q (reading_of q x)
-  pub start : (m m' : Member) → TwinMembers m m' → (z z' : ℤ) → position_of m.party.plan z ≡ position_of m'.party.plan z'
-      → (j : List ℕ) (used : ℕ) (out : List ℕ)
-      → TwinCall m m' j used out (start_questions m z (length j) used (length out)) (start_questions m' z' (length j) used (length out))
-  pub take : (m m' : Member) → TwinMembers m m' → (sender : ℕ) (bytes : List ℕ) (j : List ℕ) (used : ℕ) (out : List ℕ)
-      → TwinCall m m' j used out (take_questions m sender bytes (length j) used (length out)) (take_questions m' sender bytes (length j) used (length out))
-  pub answer : (m m' : Member) → TwinMembers m m' → TwinAnswered m.party.plan (answered_of m) (answered_of m')
-  pub closing : (m m' : Member) → TwinMembers m m' → TwinClosingRead m.party.plan (closing_read_of m) (closing_read_of m')
+  pub start : (p p' : Party) → TwinParties p p' → (z z' : ℤ) → position_of p.plan z ≡ position_of p'.plan z' → (j : List ℕ) (used : ℕ) (out : List ℕ)
+      → TwinCall p p' j used out (start_questions p z (length j) used (length out)) (start_questions p' z' (length j) used (length out))
+  pub take : (p p' : Party) → TwinParties p p' → (sender : ℕ) (bytes : List ℕ) (j : List ℕ) (used : ℕ) (out : List ℕ)
+      → TwinCall p p' j used out (take_questions p sender bytes (length j) used (length out)) (take_questions p' sender bytes (length j) used (length out))
+  pub answer : (p p' : Party) → TwinParties p p' → TwinAnswered p.plan (answered_of p) (answered_of p')
   pub restore : (s s' : List ℕ) → TwinBytes s s' → (n t own agreement : ℕ) (j out : List ℕ)
       → TwinRestore out (restore_questions n t own agreement s j (length out)) (restore_questions n t own agreement s' j (length out))

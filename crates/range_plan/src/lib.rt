@@ -1,8 +1,9 @@
 // The plan of a range, from its lowest and its highest reading.
-ghost use Rattle.std.specs.Prelude.{◌≡◌, length};
+#![tactic(auto)]
+
+ghost use Rattle.std.specs.Prelude.{◌≡◌, ◌≤◌, length, take};
 ghost use Rattle.base.specs.Put.{put_at};
 ghost use Rattle.signed.specs.Signed as Signed;
-ghost use Rattle.io.specs.Counts.{IsPrefixLen};
 ghost use Rattle.range_plan.specs.Range.{integer, raised_by, range_plan, fields_of};
 
 use script_numbers::Reading;
@@ -72,7 +73,7 @@ pub fn fields_of(low: Reading, high: Reading) -> Fields
 
 // The plan of a range is written; its length.
 pub fn write_plan(out: &mut [u8; PLAN_SIZE], low: u32, width: u32) -> usize
-    ensures prefix_len { IsPrefixLen result out.new }
+    ensures prefix_len { (result ≤ length out.new) × (result ≡ length (take result out.new)) }
     ensures value { (result ≡ length (range_plan low width)) × (out.new ≡ put_at out.old 0 (range_plan low width)) }
 {
     let a = varint::put(out, 0, 2);

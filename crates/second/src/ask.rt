@@ -1,6 +1,5 @@
 // Questions at the door. Each function gives the number of the first that is answered no, or 0; of
 // a message its place too.
-use second_closing::{messages, standing};
 use second_plan::plans::Verdict;
 use second_plan::table::Table;
 use second_plan::{plans, table};
@@ -60,7 +59,7 @@ pub fn call(table: &Table, journal: &[u8], used: usize, out: &[u8]) -> u32 {
 
 // Questions 13 and 12 of a start.
 pub fn start(table: &Table, position: usize) -> u32 {
-    if standing::is_started(table) {
+    if table::is_set(table, 0, table::ENTERED) {
         return 13;
     }
     if table::at(table, table::VOTE, table::LAST) < position {
@@ -96,12 +95,15 @@ pub fn message(table: &Table, sender: usize, record: wire::Record, length: usize
     plans::decided(0, 0)
 }
 
-// Whether the record adds nothing and needs not be written; a start's always does.
-pub fn is_idle(table: &Table, record: wire::Record) -> bool {
-    if record.sort == wire::START {
-        return false;
-    }
-    messages::is_idle(table, record)
+// Whether the record is one of a message held already; a start has no kind and never is.
+pub fn is_held(table: &Table, record: wire::Record) -> bool {
+    table::is_said(
+        table,
+        record.level,
+        record.kind,
+        record.value,
+        record.sender,
+    )
 }
 
 // Question 17 of a record that would end at `after`.
@@ -109,7 +111,7 @@ pub fn fits(table: &Table, record: wire::Record, journal: &[u8], after: usize) -
     if after <= journal.len() {
         return 0;
     }
-    if is_idle(table, record) {
+    if is_held(table, record) {
         return 0;
     }
     17

@@ -7,7 +7,6 @@ pub mod reading;
 pub mod record;
 
 use record::Done;
-use second_closing::standing;
 use second_plan::plans::Verdict;
 use second_plan::table::Table;
 use second_plan::{plans, table};
@@ -18,13 +17,6 @@ use second_wire::{num, wire};
 pub struct Found {
     pub there: bool,
     pub value: i64,
-}
-
-// Whether the board is closed, and its closing value.
-#[derive(Clone, Copy)]
-pub struct ClosingRead {
-    pub closed: bool,
-    pub value: Found,
 }
 
 // Keeps n, the three thresholds and the agreement number.
@@ -69,29 +61,17 @@ pub fn nothing() -> Found {
     }
 }
 
-// A position, if there is one, as a start takes it.
-fn reading_of(table: &Table, position: usize) -> Found {
-    if position == standing::NOWHERE {
-        return nothing();
-    }
-    let base = table::long(table, table::BASE);
-    Found {
-        there: true,
-        value: reading::lowered(num::add(base, position)),
-    }
-}
-
-// The answer.
+// Level 0's output, if there is one, as a start takes it.
 pub fn answer(table: &Table) -> Found {
-    reading_of(table, standing::answer(table))
-}
-
-// What is read of closing.
-pub fn read_closing(table: &Table) -> ClosingRead {
-    ClosingRead {
-        closed: standing::is_closed(table),
-        value: reading_of(table, standing::closing_value(table)),
+    if table::is_set(table, 0, table::OUTPUT_THERE) {
+        let output = table::at(table, 0, table::OUTPUT);
+        let base = table::long(table, table::BASE);
+        return Found {
+            there: true,
+            value: reading::lowered(num::add(base, output)),
+        };
     }
+    nothing()
 }
 
 // Start: questions 19, 18, 20, 13, 12 and 17.

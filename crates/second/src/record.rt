@@ -1,8 +1,7 @@
 // Records: what a start or a taken message does, and how a journal does it again.
 use crate::ask;
-use second_closing::messages;
-use second_closing::running::go_on;
 use second_plan::plans::Verdict;
+use second_plan::table;
 use second_plan::table::Table;
 use second_rules::{levels, running};
 use second_wire::num::Room;
@@ -36,18 +35,22 @@ fn note(table: &mut Table, record: wire::Record) {
         levels::open(table, 0, record.position);
         return;
     }
-    messages::hear(table, record);
+    table::hear(
+        table,
+        record.level,
+        record.kind,
+        record.value,
+        record.sender,
+    );
 }
 
-// A record is noted and rules are applied, the fourteen and then the five; one that adds nothing has
-// no messages.
+// A record is noted and rules are applied; one of a message held adds nothing and has no messages.
 fn act(table: &mut Table, record: wire::Record, room: &mut Room) -> running::Ran {
-    if ask::is_idle(table, record) {
+    if ask::is_held(table, record) {
         return running::Ran { rules: 0, sent: 0 };
     }
     note(table, record);
-    let ran = running::run(table, room);
-    go_on(table, room, ran)
+    running::run(table, room)
 }
 
 // Acts on a record that stands in the journal up to `after`; its messages go to a buffer, after as
@@ -72,7 +75,7 @@ fn send(
 }
 
 // Writes the record from the used length on and acts on it, unless it is refused by what was asked
-// before or by 17, or adds nothing.
+// before or by 17, or is one of a message held.
 pub fn commit(
     verdict: Verdict,
     table: &mut Table,
@@ -91,7 +94,7 @@ pub fn commit(
     if number != 0 {
         return idle(number, 0, used);
     }
-    if ask::is_idle(table, record) {
+    if ask::is_held(table, record) {
         return idle(0, 0, used);
     }
     num::copy(&room, length, journal, used);

@@ -75,7 +75,7 @@ fn entry_passes(sheet: &Sheet, t: &mut Table, level: usize) -> bool {
 }
 
 // Whether an output is on the plan or not there yet.
-pub fn output_passes(t: &Table, output: usize) -> bool {
+fn output_passes(t: &Table, output: usize) -> bool {
     if output == sheet::NO_OUTPUT {
         return true;
     }

@@ -7,7 +7,7 @@ use second_sheet::sheet::Sheet;
 use second_wire::{num, wire};
 
 // Whether board b is in the set: bit b of the mask.
-pub fn is_in(set: usize, b: usize) -> bool {
+fn is_in(set: usize, b: usize) -> bool {
     if b < wire::SENDERS {
         return (set >> b) % 2 == 1;
     }

@@ -2,11 +2,9 @@
 // "whose settings pass 1 to 3, whose plan part a plan reading gives, whose sender sets name only
 // boards below n, whose outputs are on the plan, whose entered levels run from 0 without a gap,
 // level 0 over the whole plan and each next over a side of the one before, with every position in
-// its level's component and every result value at most d"? By document 02 it "also asks whether kept
-// positions and closing value are on the plan". While it asks, a lent table of the second
+// its level's component and every result value at most d"? While it asks, a lent table of the second
 // implementation is filled with what the record tells. Of it only is proved that it is safe and
 // ends.
-pub mod closing;
 pub mod entry;
 pub mod fill;
 pub mod part;
@@ -26,7 +24,7 @@ fn levels_pass(sheet: &Sheet, table: &mut Table) -> bool {
     true
 }
 
-// The settings, the plan, the senders, the levels and closing are asked and filled.
+// The settings, the plan, the senders and the levels are asked and filled.
 fn passes(sheet: &Sheet, table: &mut Table) -> bool {
     if !part::read(sheet, table) {
         return false;
@@ -37,10 +35,7 @@ fn passes(sheet: &Sheet, table: &mut Table) -> bool {
     if !fill::sets_pass(sheet, table) {
         return false;
     }
-    if !levels_pass(sheet, table) {
-        return false;
-    }
-    closing::passes(sheet, table)
+    levels_pass(sheet, table)
 }
 
 // Question 19 of a record: 0, and the table is filled; or 19, and it is empty.

@@ -1,6 +1,5 @@
 // The table that a board keeps, and plans read into it, written a second time from document 01's
 // sentences. Of it only is proved that it is safe and ends.
-pub mod closing;
 pub mod plans;
 pub mod table;
 pub mod trees;

@@ -113,16 +113,6 @@ fn keep_positions(t: &mut Table, last: usize, base: usize) {
     table::set_long(t, table::BASE, base);
 }
 
-// Level 0's component becomes the whole plan.
-pub fn enter_whole(t: &mut Table) {
-    let last = table::at(t, table::VOTE, table::LAST);
-    if table::at(t, table::VOTE, table::KIND) == RANGE {
-        table::set(t, 0, table::HIGH, last);
-        return;
-    }
-    trees::enter_whole(t, num::next(last));
-}
-
 // A tree: its vertex count and edges.
 fn read_tree(bytes: &[u8], at: usize, t: &mut Table) -> Verdict {
     let vertices = group::read(bytes, at);
@@ -136,7 +126,7 @@ fn read_tree(bytes: &[u8], at: usize, t: &mut Table) -> Verdict {
         return decided(6, at);
     }
     keep_positions(t, num::less(vertices.value, 1), ZERO);
-    enter_whole(t);
+    trees::enter_whole(t, vertices.value);
     read_edges(bytes, vertices.next, vertices.value, t)
 }
 
@@ -167,7 +157,7 @@ fn read_range(bytes: &[u8], at: usize, t: &mut Table) -> Verdict {
         return decided(10, low.next);
     }
     keep_positions(t, width.value, base);
-    enter_whole(t);
+    table::set(t, 0, table::HIGH, width.value);
     read_end(bytes, width.next)
 }
 

@@ -9,10 +9,9 @@ const LEVELS: usize = 16;
 
 pub const VOTE: usize = LEVELS;
 
-// After the vote: the four rows of `closing`.
-const ROWS: usize = LEVELS + 5;
+const ROWS: usize = LEVELS + 1;
 
-pub const COLUMNS: usize = 64;
+const COLUMNS: usize = 64;
 
 // The most vertices of a tree.
 pub const VERTICES: usize = 255;
@@ -20,7 +19,7 @@ pub const VERTICES: usize = 255;
 // After the rows: the ends of the plan's edges.
 const ENDS: usize = ROWS * COLUMNS;
 
-pub const ALL_ENDS: usize = 2 * VERTICES;
+const ALL_ENDS: usize = 2 * VERTICES;
 
 // After those: for each level and vertex its side.
 const SIDES: usize = ENDS + ALL_ENDS;

@@ -12,11 +12,11 @@ pub struct Ran {
     pub sent: usize,
 }
 
-// No party applies more of the fourteen rules than this.
+// No party applies more rules than this.
 const RULES: usize = 390;
 
 // Writes the message that the rule just applied at a level wants, if any.
-pub fn speak(t: &mut Table, room: &mut Room, sent: usize, level: usize) -> usize {
+fn speak(t: &mut Table, room: &mut Room, sent: usize, level: usize) -> usize {
     let kind = table::at(t, table::VOTE, table::SAY_KIND);
     if kind == 0 {
         return sent;

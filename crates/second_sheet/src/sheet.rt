@@ -1,20 +1,15 @@
-// A record as a sheet of numbers: a row for each level, one for the vote, one for closing, and the
-// rows of the plan.
+// A record as a sheet of numbers: a row for each level, one for the vote, and the rows of the plan.
 // A flag is 0 or 1, a set of senders a mask with bit b for board b.
 
-// Levels 0 to 15 have a row each, and after them the vote and closing.
+// Levels 0 to 15 have a row each, and after them the vote.
 pub const LEVELS: usize = 16;
 
 pub const VOTE: usize = LEVELS;
 
-pub const CLOSING: usize = LEVELS + 1;
-
-const ROWS: usize = LEVELS + 2;
-
 const COLUMNS: usize = 160;
 
 // After the rows: the vertices that the plan's rows lead from, and those that they lead to.
-const FROM: usize = ROWS * COLUMNS;
+const FROM: usize = (LEVELS + 1) * COLUMNS;
 
 pub const PLAN_ROWS: usize = 254;
 
@@ -75,28 +70,7 @@ pub const SETS: usize = 33;
 
 pub const VALUES: usize = 17;
 
-// Columns of the row for closing. From here: the position at each of the boards' places, 2b and 2b+1
-// being those of board b; and whether this board echoed it.
-pub const KEPT: usize = 0;
-
-pub const MARKED: usize = 32;
-
-// The senders of ready; whether the answer was echoed and ready sent; the closing value; whether the
-// board is closed, and the answer that it then keeps.
-pub const READY: usize = 64;
-
-pub const ANSWER_ECHOED: usize = 65;
-
-pub const READY_SENT: usize = 66;
-
-pub const CLOSING_VALUE: usize = 67;
-
-pub const CLOSED: usize = 68;
-
-pub const ANSWER: usize = 69;
-
-// A proposal or result: a value 0 to 15, none, or not there yet. An output, or a position of closing,
-// that is not there.
+// A proposal or result: a value 0 to 15, none, or not there yet. An output that is not there yet.
 pub const NONE: usize = 16;
 
 pub const NOT_YET: usize = 17;
@@ -110,7 +84,7 @@ pub fn empty() -> Sheet {
 
 // The number at a row and column, or 0.
 pub fn at(sheet: &Sheet, row: usize, column: usize) -> usize {
-    if row < ROWS {
+    if row <= LEVELS {
         if column < COLUMNS {
             return sheet[row * COLUMNS + column];
         }
@@ -120,7 +94,7 @@ pub fn at(sheet: &Sheet, row: usize, column: usize) -> usize {
 
 // Sets the number at a row and column.
 pub fn set(sheet: &mut Sheet, row: usize, column: usize, value: usize) {
-    if row < ROWS {
+    if row <= LEVELS {
         if column < COLUMNS {
             sheet[row * COLUMNS + column] = value;
         }

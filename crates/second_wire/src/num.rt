@@ -41,7 +41,7 @@ pub fn byte_at(bytes: &[u8], at: usize) -> usize {
 }
 
 // Question 18: what the outgoing buffer must hold.
-pub const OUTGOING: usize = 3000;
+pub const OUTGOING: usize = 2640;
 
 // Room for the messages of one call, or for one record.
 pub type Room = [u8; OUTGOING];

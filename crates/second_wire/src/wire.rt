@@ -20,11 +20,6 @@ pub const SIDE: usize = 5;
 
 pub const CENTRE: usize = 6;
 
-// Two more at level 0: a closing echo of a position, and ready.
-pub const CLOSING_ECHO: usize = 7;
-
-pub const READY: usize = 8;
-
 // The value that stands for none, after 0 to 15.
 pub const NONE: usize = 16;
 
@@ -104,22 +99,6 @@ fn message_of(
     }
 }
 
-// The highest kind at a level: "7 or 8 off level 0 fails at the kind".
-fn highest_kind(level: usize) -> usize {
-    if level == 0 {
-        return READY;
-    }
-    CENTRE
-}
-
-// Whether messages of a kind have no value.
-fn is_bare(kind: usize) -> bool {
-    if kind == CENTRE {
-        return true;
-    }
-    kind == READY
-}
-
 // The lowest value of a kind.
 fn lowest(kind: usize) -> usize {
     if kind == SIDE {
@@ -128,7 +107,7 @@ fn lowest(kind: usize) -> usize {
     0
 }
 
-// The highest value of a kind: none, where the kind has it; of a closing echo a position.
+// The highest value of a kind: none, where the kind has it.
 fn highest(kind: usize) -> usize {
     if kind == FIRST_PROPOSAL {
         return NONE - 1;
@@ -136,20 +115,17 @@ fn highest(kind: usize) -> usize {
     if kind == SIDE {
         return NONE - 1;
     }
-    if kind == CLOSING_ECHO {
-        return LAST_POSITION;
-    }
     NONE
 }
 
 // A message's kind and value.
 fn read_body(bytes: &[u8], at: usize, sender: usize, number: usize, level: usize) -> Record {
-    let kind = group::within(bytes, at, FIRST_ECHO, highest_kind(level));
+    let kind = group::within(bytes, at, FIRST_ECHO, CENTRE);
     if kind.state != group::WHOLE {
         return broken(kind.state, at);
     }
-    if is_bare(kind.value) {
-        return message_of(sender, number, level, kind.value, 0, kind.next);
+    if kind.value == CENTRE {
+        return message_of(sender, number, level, CENTRE, 0, kind.next);
     }
     let value = group::within(bytes, kind.next, lowest(kind.value), highest(kind.value));
     if value.state != group::WHOLE {
@@ -217,7 +193,7 @@ pub fn write_message(
     let a = group::write(room, at, number);
     let b = group::write(room, a, level);
     let c = group::write(room, b, kind);
-    if is_bare(kind) {
+    if kind == CENTRE {
         return c;
     }
     group::write(room, c, value)

@@ -2,7 +2,7 @@
 use mathlib.Core.Path.{◌≡◌, refl, sym, ap, ap₂, ◌∙◌, subst}
 use mathlib.Core.Logic.{◌⊎◌, inl, inr}
 use mathlib.Core.Bool.{Bool, true, false, ◌||◌}
-use Prim.Native.Nat.{ℕ, zero, suc, ◌+◌, ◌*◌, ◌/◌, ◌%◌, ◌^◌, ◌≤◌, ◌<◌, max, zero-le}
+use Prim.Native.Nat.{ℕ, zero, suc, ◌+◌, ◌*◌, ◌/◌, ◌%◌, ◌^◌, ◌≤◌, ◌<◌, max}
 use native.Mathlib.Nat.{le_refl, mod-lt, zero-lt-suc, pow-suc, div-one, one-mul, add-zero, mod-eq_of_lt, not-suc-le-zero}
 use native.Mathlib.Numerals.{one-add, add-one}
 use native.Mathlib.Decide.{ℕ_discrete}
@@ -156,15 +156,6 @@ size_count (suc k) m h =
     let l : bit (is_in m 0) ≡ m % 2 = ap bit (in_low m) ∙ digit_bit (m % 2) (mod-lt m (zero-lt-suc 1)) in
     let r : size (m / 2) ≡ count k (λ s. is_in m (suc s)) = size_count k (m / 2) (omega (arith, pow-suc 2 k)) ∙ ap (count k) (λ i s. sym (in_high m s) i) in
     omega (arith, ones_step m, count_low k (is_in m))
-
--- and whatever the mask, no fewer than the boards below k in it
-pub count_size : (k m : ℕ) → count k (is_in m) ≤ size m
-unfolding count
-count_size zero m = zero-le
-count_size (suc k) m =
-    let l : bit (is_in m 0) ≡ m % 2 = ap bit (in_low m) ∙ digit_bit (m % 2) (mod-lt m (zero-lt-suc 1)) in
-    let r : count k (is_in (m / 2)) ≡ count k (λ s. is_in m (suc s)) = ap (count k) (λ i s. sym (in_high m s) i) in
-    omega (arith, ones_step m, count_low k (is_in m), count_size k (m / 2))
 
 -- a set of boards below k has at most k
 pub size_le : (k m : ℕ) → m < 2 ^ k → size m ≤ k

@@ -1,16 +1,15 @@
 -- Edges that were each accepted have no ring.
-use mathlib.Core.Path.{◌≡◌, sym, ap, ◌∙◌, subst}
+use mathlib.Core.Path.{◌≡◌, sym, ap, ◌∙◌}
 use mathlib.Core.Logic.{◌⊎◌, inl, inr}
 use mathlib.Core.List.{[], ◌∷◌}
 use Prim.Native.Nat.{ℕ}
 use lib.Dec.{T}
 use Rattle.base.specs.Sets.{Set}
-use Rattle.tree.specs.Walk.{Walk, here, step, Not}
+use Rattle.tree.specs.Walk.{Walk, Not}
 use Rattle.tree.specs.Edges.{Edge, Edges, Adjacent, all, label}
 use Rattle.tree.specs.Inner.{In, Acyclic}
 use Rattle.tree.specs.Component.{without}
 use Rattle.tree.proofs.Walks.{mono, first, last}
-use Rattle.tree.proofs.Edges.{flip}
 use Rattle.tree.proofs.Without.{to_without, without_not}
 use Rattle.tree.proofs.Labels.{edge_label, walk_label, label_joined, wider, Across, label_step}
 
@@ -86,21 +85,3 @@ bridge E k c w x h u v =
 
     v' : Walk (Adjacent E) (In (without all w)) x c
     v' = mono (Adjacent E) (λ z q. to_without all w z tt q) v
-
--- no ring of three
-pub no_triangle : (E : Edges) → Acyclic E → (a b c : ℕ) → Adjacent E a b → Adjacent E b c → Adjacent E a c → ⊥
-no_triangle E k a b c h i j =
-    bridge E k a b c h
-    (step (apart c a (flip E a c j)) (flip E b c i) (here (apart b a (flip E a b h))))
-    (step (apart c b (flip E b c i)) (flip E a c j) (here (apart a b h)))
-  where
-    apart : (x y : ℕ) → Adjacent E x y → Not y x
-    apart x y h e = irreflexive E k y (subst (λ (z : ℕ). Adjacent E z y) e h)
-
--- of three positions, each two the same or neighbours, two are the same
-pub near_two : (E : Edges) → Acyclic E → (a b c : ℕ) → (a ≡ b) ⊎ Adjacent E a b → (b ≡ c) ⊎ Adjacent E b c → (a ≡ c) ⊎ Adjacent E a c
-    → (a ≡ b) ⊎ (b ≡ c) ⊎ (a ≡ c)
-near_two E k a b c (inl h) i j = inl h
-near_two E k a b c (inr h) (inl i) j = inr (inl i)
-near_two E k a b c (inr h) (inr i) (inl j) = inr (inr j)
-near_two E k a b c (inr h) (inr i) (inr j) = absurd (no_triangle E k a b c h i j)

@@ -14,8 +14,6 @@ pub use Rattle.tree.proofs.Edges.{adjacent_below}
 pub use Rattle.tree.proofs.Acyclic.{irreflexive}
 -- no ring: nothing is joined to each end of an edge without the other
 pub use Rattle.tree.proofs.Acyclic.{bridge}
--- nor three positions in a ring: of three, each two the same or neighbours, two are the same
-pub use Rattle.tree.proofs.Acyclic.{no_triangle, near_two}
 -- members of S that the test `joined` joins are joined by a walk inside S, and only they
 pub use Rattle.tree.proofs.Labels.{joined_walk, walk_joined}
 -- ---- components

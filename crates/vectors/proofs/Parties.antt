@@ -19,20 +19,15 @@ use Rattle.level.specs.Level.{slot, senders, held, with_heard}
 use Rattle.level.specs.Counts.{other_echoes, may_propose, proposed, digit_echoes, split_at, split, echoed_by, second_proposed, echoed_values, sided}
 use Rattle.level.specs.Rules.{rule1, rule2, rule3, rule4, rule5, rule6, rule7, rule8, rule9, rule10, rule11, rule12, rule13, rule14, lowest_rule}
 use Rattle.party.specs.Party.{level_at, with_level, component_of, sending, context_of, entering, entered, held_by, hearing}
-use Rattle.party.specs.Run.{rule_at, open_at, open_level, after_rule, run_up_to, run}
-use Rattle.closing.specs.Closing.{is_marked, has_echoed}
-use Rattle.closing.specs.Rules.{least, echo_rule, relay_rule, value_rule, ready_rule, close_rule, lowest_rule as lowest_closing}
-use Rattle.closing.specs.Run.{close_up_to, close_run}
-use Rattle.member.specs.Member.{dropped, idle}
-use Rattle.member.specs.Run.{level_packets, closing_packets, settling, heard, starting, taking}
-use Rattle.member_life.specs.Life.{replayed, lived}
+use Rattle.party.specs.Run.{rule_at, open_at, open_level, after_rule, run_up_to, run, starting, taking}
+use Rattle.party_life.specs.Life.{replayed, lived}
 use Rattle.vectors.specs.Choices.{two}
 use Rattle.vectors.specs.Parties.{Stands, cases, listing, passing}
 use Rattle.vectors.proofs.Table.{◌and◌}
 
 pub stand : Every Stands cases
 unfolding
-    cases listing passing two pieces pieces_at ones ones_in smallest count label joined adjacent ends edges_at reached others branched target absorbed growth_order upto without part heavy light centre neighbours degree rank neighbour side gateway port path_edges edges_from rows edges_of column plan_from is_in with_sender union_over slot senders held with_heard other_echoes may_propose proposed digit_echoes split_at split echoed_by second_proposed echoed_values sided rule1 rule2 rule3 rule4 rule5 rule6 rule7 rule8 rule9 rule10 rule11 rule12 rule13 rule14 lowest_rule level_at with_level component_of sending context_of entering entered held_by hearing rule_at open_at open_level after_rule run_up_to run is_marked has_echoed least echo_rule relay_rule value_rule ready_rule close_rule lowest_closing close_up_to close_run dropped idle level_packets closing_packets settling heard starting taking replayed lived
+    cases listing passing two pieces pieces_at ones ones_in smallest count label joined adjacent ends edges_at reached others branched target absorbed growth_order upto without part heavy light centre neighbours degree rank neighbour side gateway port path_edges edges_from rows edges_of column plan_from is_in with_sender union_over slot senders held with_heard other_echoes may_propose proposed digit_echoes split_at split echoed_by second_proposed echoed_values sided rule1 rule2 rule3 rule4 rule5 rule6 rule7 rule8 rule9 rule10 rule11 rule12 rule13 rule14 lowest_rule level_at with_level component_of sending context_of entering entered held_by hearing rule_at open_at open_level after_rule run_up_to run starting taking replayed lived
 stand =
     (refl, refl, refl) and (refl, refl, refl) and (refl, refl, refl) and (refl, refl, refl)
     and (refl, refl)

@@ -17,7 +17,6 @@ use Rattle.varint.specs.Varint.{pieces}
 use Rattle.varint.specs.Reading.{pieces_at}
 use Rattle.plan.specs.Reading.{plan_from, settled_plan}
 use Rattle.message.specs.Message.{message_bytes}
-use Rattle.packet.specs.Packet.{packet_bytes}
 use Rattle.senders.specs.Senders.{with_sender, union_over}
 use Rattle.level.specs.Level.{slot, senders, with_heard, not_yet}
 use Rattle.level.specs.Counts.{may_propose, proposed, digit_echoes, split_at, split, echoed_by, second_proposed, echoed_values}
@@ -35,7 +34,7 @@ a and b = (a, b)
 -- P4 and P5 are cases of the laws of intervals; what else the table claims is computed
 pub sums : Every Holds table
 unfolding
-    table hearing pieces pieces_at plan_from settled_plan message_bytes packet_bytes with_heard senders slot with_sender may_propose proposed digit_echoes split_at split union_over smallest count echoed_by second_proposed echoed_values rule3 rule4 rule8 ones ones_in
+    table hearing pieces pieces_at plan_from settled_plan message_bytes with_heard senders slot with_sender may_propose proposed digit_echoes split_at split union_over smallest count echoed_by second_proposed echoed_values rule3 rule4 rule8 ones ones_in
 sums =
     refl
     and refl

@@ -1,6 +1,6 @@
 -- Document 01, "The fourteen rules": what each rule chooses where more than one thing could be done. Records are made by hand, also such as no history reaches.
 -- proofs/Choices.antt shows that every row holds.
-use Rattle.std.specs.Prelude.{◌≡◌, true, false, List, [], ◌∷◌, ℕ}
+use Rattle.std.specs.Prelude.{◌≡◌, Bool, true, false, List, [], ◌∷◌, ℕ}
 use Rattle.message.specs.declared.Body.{Body}
 use Rattle.message.specs.declared.Body.TheVariants.{FirstEcho, FirstProposal, SecondEcho, SecondProposal, Side, Centre}
 use Rattle.message.specs.Message.{none_value}

@@ -14,15 +14,11 @@ use Rattle.message.specs.declared.Body.TheVariants.{FirstEcho, FirstProposal, Se
 use Rattle.message.specs.declared.Message.{Message}
 use Rattle.message.specs.Message.{none_value}
 use Rattle.level.specs.Level.{Level, no_output, blank_level, with_entry, with_port_echo, with_result, with_centre_told}
-use Rattle.packet.specs.declared.Packet.{Packet}
 use Rattle.journal.specs.declared.Record.{Record}
 use Rattle.journal.specs.declared.Record.TheVariants.{Start, Taken}
-use Rattle.party.specs.Party.{Party, new_party, with_level, hearing}
-use Rattle.party.specs.Run.{open_at, run, step_at, rule_at, made_by}
-use Rattle.closing.specs.Closing.{no_closing}
-use Rattle.member.specs.Member.{Member, answer_position, idle}
-use Rattle.member.specs.Run.{taking, resting}
-use Rattle.member_life.specs.Life.{lived}
+use Rattle.party.specs.Party.{Party, new_party, with_level, held_by, hearing, output_of}
+use Rattle.party.specs.Run.{open_at, run, taking, resting, step_at, rule_at, made_by}
+use Rattle.party_life.specs.Life.{lived}
 use Rattle.vectors.specs.Choices.{two}
 
 -- the plan that the bytes are
@@ -51,24 +47,16 @@ of_four width = on_range 4 1 width
 abbrev pub says : ℕ → Body → Message
 says l b = record { number = 9; level = l; body = b }
 
--- a message at level 0, as it travels
-abbrev pub sent : Body → Packet
-sent b = Packet.Level (says 0 b)
-
 -- board 0's own message at level 0, taken after these records; and the four that take a board alone on side 1 through the level
 abbrev pub said : Body → List Record → List Record
-said b rs = Taken 0 (sent b) ∷ rs
+said b rs = Taken 0 (says 0 b) ∷ rs
 
 abbrev pub voted : List Record → List Record
 voted rs = said (SecondProposal 1) (said (SecondEcho 1) (said (FirstProposal 1) (said (FirstEcho 1) rs)))
 
--- the messages that such a board makes at the level after its first echo, and then others
-abbrev pub sent_then : List Packet → List Packet
-sent_then ps = sent (FirstProposal 1) ∷ sent (SecondEcho 1) ∷ sent (SecondProposal 1) ∷ ps
-
--- a board that took no closing message
-abbrev pub voting : Party → Member
-voting p = record { party = p; closing = no_closing }
+-- the messages that such a board makes at the level
+abbrev pub said_then : List Message
+said_then = says 0 (FirstEcho 1) ∷ says 0 (FirstProposal 1) ∷ says 0 (SecondEcho 1) ∷ says 0 (SecondProposal 1) ∷ []
 
 -- a board that started at x on such a range, and its record at level 0, the port's echo made
 abbrev pub board : ℕ → ℕ → Level → Party
@@ -88,9 +76,9 @@ pub data Case : Type 0 where
   runs : Party → List ℕ → List Message → Case
   -- a party at whose level 0 a rule enters a side of the next level, at a position and with an output, and the rule's messages
   enters : Party → ℕ → ℕ → ℕ → List Message → Case
-  -- a board's party, records of its calls, the latest first, all messages that the calls made, in order, and the answer then
-  lives : Party → List Record → List Packet → ℕ → Case
-  -- a board's party; the board takes a message from a sender, keeps it, and applies no rule
+  -- a party, records of its calls, the latest first, all messages that the calls made, in order, and level 0's output then
+  lives : Party → List Record → List Message → ℕ → Case
+  -- a party that takes a message from a sender, keeps it, and applies no rule
   keeps : Party → ℕ → Message → Case
 
 -- what a row claims
@@ -98,11 +86,8 @@ abbrev pub Stands : Case → Type 0
 Stands (tree s c ns ports) = Laid (plan_in (plan_of s)) c ns ports
 Stands (runs p levels made) = (passing level_count 0 (open_at p) ≡ levels) × ((run p).made ≡ made)
 Stands (enters p k x out made) = (step_at p 0 ≡ with_level p 1 (with_entry blank_level k x out)) × (made_by 9 0 (rule_at p 0).effect ≡ made)
-Stands (lives p records made x) = ((lived (voting p) records).made ≡ made) × (answer_position (lived (voting p) records).member ≡ x)
-Stands (keeps p s m) =
-    (idle (voting p) s (Packet.Level m) ≡ false)
-    × (taking (voting p) s (Packet.Level m) ≡ resting (voting (hearing p s m)))
-    × (idle (voting (hearing p s m)) s (Packet.Level m) ≡ true)
+Stands (lives p records made x) = ((lived p records).made ≡ made) × (output_of (lived p records).party ≡ x)
+Stands (keeps p s m) = (held_by p s m ≡ false) × (taking p s m ≡ resting (hearing p s m)) × (held_by (hearing p s m) s m ≡ true)
 
 unfoldable pub cases : List Case
 cases =
@@ -126,12 +111,11 @@ cases =
     ∷ enters (board 4 0 (with_result blank_level 1 true)) 1 0 0 []
     ∷ enters (board 4 0 (with_result blank_level 1 false)) 1 1 1 (says 0 (Side 1) ∷ [])
     -- "counts are counts of senders in such sets, also of messages that came before the level was entered"
-    ∷ lives (of_four 6) (Start 9 0 ∷ Taken 3 (sent (FirstEcho 1)) ∷ Taken 2 (sent (FirstEcho 1)) ∷ Taken 1 (sent (FirstEcho 1)) ∷ []) (sent (FirstEcho 1) ∷ sent (FirstProposal 1) ∷ []) no_output
-    -- "Level 0's output is the answer; the board goes on taking part afterwards.": one board, the centre is 1; a centre message after the answer 0, and before.
-    -- The closing echo of the answer follows the answer.
-    ∷ lives (on_range 1 0 2) (said Centre (voted (Start 9 0 ∷ []))) (sent (FirstEcho 1) ∷ sent_then (Packet.Echo 9 0 ∷ [])) 0
-    ∷ lives (on_range 1 0 2) (said (SecondEcho 1) (said (FirstProposal 1) (said (FirstEcho 1) (said Centre (Start 9 0 ∷ []))))) (sent (FirstEcho 1) ∷ Packet.Echo 9 1 ∷ sent_then []) 1
-    ∷ lives (on_range 1 0 2) (voted (said Centre (Start 9 0 ∷ []))) (sent (FirstEcho 1) ∷ Packet.Echo 9 1 ∷ sent_then []) 1
+    ∷ lives (of_four 6) (Start 9 0 ∷ Taken 3 (says 0 (FirstEcho 1)) ∷ Taken 2 (says 0 (FirstEcho 1)) ∷ Taken 1 (says 0 (FirstEcho 1)) ∷ []) (says 0 (FirstEcho 1) ∷ says 0 (FirstProposal 1) ∷ []) no_output
+    -- "Level 0's output is the answer; the board goes on taking part afterwards.": one board, the centre is 1; a centre message after the answer 0, and before
+    ∷ lives (on_range 1 0 2) (said Centre (voted (Start 9 0 ∷ []))) said_then 0
+    ∷ lives (on_range 1 0 2) (said (SecondEcho 1) (said (FirstProposal 1) (said (FirstEcho 1) (said Centre (Start 9 0 ∷ []))))) said_then 1
+    ∷ lives (on_range 1 0 2) (voted (said Centre (Start 9 0 ∷ []))) said_then 1
     -- "Values above d at that level, none excepted, are kept and never counted."
     ∷ keeps (board 6 0 (two (FirstProposal 3) blank_level)) 2 (says 0 (FirstProposal 3))
     ∷ []

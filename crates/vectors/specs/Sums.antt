@@ -10,9 +10,8 @@ use Rattle.base.specs.Found.{refused}
 use Rattle.plan.specs.Reading.{plan_of, settled_plan}
 use Rattle.message.specs.declared.Body.{Body}
 use Rattle.message.specs.declared.Body.TheVariants.{FirstEcho, FirstProposal, SecondEcho}
-use Rattle.message.specs.Message.{none_value}
-use Rattle.packet.specs.declared.Packet.{Packet}
-use Rattle.packet.specs.Packet.{packet_bytes}
+use Rattle.message.specs.declared.Message.{Message}
+use Rattle.message.specs.Message.{none_value, message_bytes}
 use Rattle.level.specs.declared.Context.{Context}
 use Rattle.level.specs.declared.Effect.TheVariants.{Nothing, Quiet, Send}
 use Rattle.level.specs.Level.{Level, not_yet, no_output, blank_level, with_heard, with_first, with_result}
@@ -49,7 +48,7 @@ pub data Sum : Type 0 where
   -- the ends of a path, its centre, a side's number, and the side's ends
   path_side : ℕ → ℕ → ℕ → ℕ → ℕ → ℕ → Sum
   -- the bytes of a message
-  message : Packet → List ℕ → Sum
+  message : Message → List ℕ → Sum
   -- whether a value may be proposed after these messages
   proposal : List Heard → ℕ → Bool → Sum
   -- the first result after these messages, and that there is none yet
@@ -67,7 +66,7 @@ Holds (signed z bytes) = signed_bytes z ≡ bytes
 Holds (plan_refusal s question place) = plan_of s ≡ refused question place
 Holds (path_centre a b c) = centre (path_edges b) (suc b) (interval a b) ≡ c
 Holds (path_side a b c k low high) = (centre (path_edges b) (suc b) (interval a b) ≡ c) × (side (path_edges b) (suc b) (interval a b) k ≡ interval low high)
-Holds (message m bytes) = packet_bytes m ≡ bytes
+Holds (message m bytes) = message_bytes m ≡ bytes
 -- rule 3 then does so, and else nothing
 Holds (proposal hs v may) = (may_propose four (hearing hs) v ≡ may) × ((rule3 four (hearing hs)).effect ≡ pick may (Send (FirstProposal v)) Nothing)
 Holds (first_result hs v) = rule4 four (hearing hs) ≡ does (with_first (hearing hs) v) Quiet
@@ -92,7 +91,7 @@ table =
     -- "P5 path 0 to 3, centre 1, side 2 is 2 and 3."
     ∷ path_side 0 3 1 2 2 3
     -- "P6 second echo of none, number 7, level 2: 07 02 03 10."
-    ∷ message (Packet.Level (record { number = 7; level = 2; body = SecondEcho none_value })) (0x07 ∷ 0x02 ∷ 0x03 ∷ 0x10 ∷ [])
+    ∷ message (record { number = 7; level = 2; body = SecondEcho none_value }) (0x07 ∷ 0x02 ∷ 0x03 ∷ 0x10 ∷ [])
     -- "P7 first echoes of 1 from 0 and 1, none from 2: 1 may be proposed."
     ∷ proposal (FirstEcho 1 from 0 ∷ FirstEcho 1 from 1 ∷ FirstEcho none_value from 2 ∷ []) 1 true
     -- "P8 of 1 from 0, none from 1, 2, 3: it may not."

@@ -19,22 +19,14 @@ use Rattle.plan.specs.Positions.{edges_of, reading_of, column}
 use Rattle.plan.specs.Reading.{plan_from, settled_plan}
 use Rattle.plan.specs.Valid.{row_fits, rows_fit, all_zero, plan_valid}
 use Rattle.message.specs.Message.{message_bytes}
-use Rattle.packet.specs.Packet.{packet_bytes}
 use Rattle.senders.specs.Senders.{union_over}
 use Rattle.level.specs.Level.{slot, senders}
 use Rattle.level.specs.Counts.{other_echoes, may_propose, proposed, digit_echoes, split_at, split}
 use Rattle.level.specs.Rules.{rule1, rule2, rule3, rule4, rule5, rule6, rule7, rule8, rule9, rule10, rule11, rule12, rule13, rule14, lowest_rule}
 use Rattle.journal.specs.Journal.{record_bytes}
 use Rattle.party.specs.Party.{level_at, with_level, component_of, sending, context_of, entering, entered}
-use Rattle.party.specs.Run.{rule_at, open_at, open_level, after_rule, run_up_to, run}
+use Rattle.party.specs.Run.{rule_at, open_at, open_level, after_rule, run_up_to, run, starting, bytes_of}
 use Rattle.party.specs.Valid.{every_level, sets_pass, level_passes, party_valid}
-use Rattle.closing.specs.Closing.{is_marked, has_echoed}
-use Rattle.closing.specs.Rules.{least, echo_rule, relay_rule, value_rule, ready_rule, close_rule, lowest_rule as lowest_closing}
-use Rattle.closing.specs.Run.{close_up_to, close_run}
-use Rattle.closing.specs.Valid.{places_pass, closing_valid}
-use Rattle.member.specs.Member.{dropped}
-use Rattle.member.specs.Run.{level_packets, closing_packets, settling, starting, bytes_of}
-use Rattle.member.specs.Valid.{member_valid}
 use Rattle.board_calls.specs.Answers.{position_of, answer_of}
 use Rattle.board_calls.specs.Calls.{set_up_of, start_questions}
 use Rattle.board_calls.specs.Counts.{start_count_questions, count_questions}
@@ -43,5 +35,5 @@ use Rattle.vectors_counts.proofs.Each.{each}
 
 pub asked : Every Holds table
 unfolding
-    table ones ones_in smallest put_at count nearest_step remainder count_answer pieces pieces_at field_at label joined adjacent ends edges_at upto without part heavy light centre neighbours degree rank neighbour side gateway port path_edges reached others branched absorbed growth_order edges_from rows edges_of reading_of column plan_from settled_plan row_fits rows_fit all_zero plan_valid message_bytes packet_bytes union_over slot senders other_echoes may_propose proposed digit_echoes split_at split rule1 rule2 rule3 rule4 rule5 rule6 rule7 rule8 rule9 rule10 rule11 rule12 rule13 rule14 lowest_rule record_bytes level_at with_level component_of sending context_of entering entered rule_at open_at open_level after_rule run_up_to run every_level sets_pass level_passes party_valid is_marked has_echoed least echo_rule relay_rule value_rule ready_rule close_rule lowest_closing close_up_to close_run places_pass closing_valid dropped level_packets closing_packets settling starting bytes_of member_valid position_of answer_of set_up_of start_questions start_count_questions count_questions
+    table ones ones_in smallest put_at count nearest_step remainder count_answer pieces pieces_at field_at label joined adjacent ends edges_at upto without part heavy light centre neighbours degree rank neighbour side gateway port path_edges reached others branched absorbed growth_order edges_from rows edges_of reading_of column plan_from settled_plan row_fits rows_fit all_zero plan_valid message_bytes union_over slot senders other_echoes may_propose proposed digit_echoes split_at split rule1 rule2 rule3 rule4 rule5 rule6 rule7 rule8 rule9 rule10 rule11 rule12 rule13 rule14 lowest_rule record_bytes level_at with_level component_of sending context_of entering entered rule_at open_at open_level after_rule run_up_to run starting bytes_of every_level sets_pass level_passes party_valid position_of answer_of set_up_of start_questions start_count_questions count_questions
 asked = each computed said table refl

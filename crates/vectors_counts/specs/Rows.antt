@@ -4,7 +4,7 @@
 use Rattle.std.specs.Prelude.{◌≡◌, List, [], ◌∷◌, ℕ, ℤ, pos, replicate}
 use Rattle.base.specs.declared.Verdict.{Verdict}
 use Rattle.base.specs.Found.{Found}
-use Rattle.member.specs.Member.{Member}
+use Rattle.party.specs.Party.{Party}
 use Rattle.board_calls.specs.declared.Answer.{Answer}
 use Rattle.board_calls.specs.Calls.{Entry, set_up_of, start_questions, called_of, journal_after, outgoing_after}
 use Rattle.board_calls.specs.Counts.{start_count_questions, remainder_in, count_questions, count_gives}
@@ -16,20 +16,20 @@ use Rattle.vectors_counts.specs.Numbers.{minus, most, least}
 -- a call by the count c, in steps of g counts
 pub data Call : Type 0 where
   -- the lengths are the journal's, its used bytes' and the outgoing buffer's
-  start : (m : Member) (g : ℕ) (c : ℤ) (room used out : ℕ) → Call
-  read : (m : Member) (g : ℕ) (c : ℤ) → Call
+  start : (p : Party) (g : ℕ) (c : ℤ) (room used out : ℕ) → Call
+  read : (p : Party) (g : ℕ) (c : ℤ) → Call
 
 -- what a row says of a call
 pub data Row : Type 0 where
   -- the question that refuses it; the place is 0
   refuses : Call → (question : ℕ) → Row
   -- an accepted start: the journal after it, whose last bytes are its record, and the remainder
-  begins : (m : Member) (g : ℕ) (c : ℤ) (room used out : ℕ) (journal : List ℕ) (rest : ℤ) → Row
+  begins : (p : Party) (g : ℕ) (c : ℤ) (room used out : ℕ) (journal : List ℕ) (rest : ℤ) → Row
   -- a start that does what a plain start at this reading does
-  starts_as : (m : Member) (g : ℕ) (c : ℤ) (reading : ℤ) → Row
+  starts_as : (p : Party) (g : ℕ) (c : ℤ) (reading : ℤ) → Row
   -- an accepted reading, before an answer and with one
-  waits : (m : Member) (g : ℕ) (c : ℤ) → Row
-  answers : (m : Member) (g : ℕ) (c a : ℤ) → Row
+  waits : (p : Party) (g : ℕ) (c : ℤ) → Row
+  answers : (p : Party) (g : ℕ) (c a : ℤ) → Row
 
 -- what a call gives: a start its verdict, the journal's used length, the journal and the remainder; of any start the verdict, the journal, the outgoing bytes
 -- and how many rules were applied; a reading its verdict and the answer
@@ -42,35 +42,35 @@ pub data Gives : Type 0 where
 abbrev pub lent : ℕ → List ℕ
 lent room = replicate room 0xFF
 
-abbrev pub start_gives : Member → ℕ → ℤ → ℕ → ℕ → Found Entry → Gives
-start_gives m g c room used q = started (called_of m used q).verdict (called_of m used q).used (journal_after (lent room) used q) (remainder_in g c q)
+abbrev pub start_gives : Party → ℕ → ℤ → ℕ → ℕ → Found Entry → Gives
+start_gives p g c room used q = started (called_of p used q).verdict (called_of p used q).used (journal_after (lent room) used q) (remainder_in g c q)
 
 -- with a journal and an outgoing buffer that are long enough
-abbrev pub start_does : Member → Found Entry → Gives
-start_does m q = does (called_of m 0 q).verdict (journal_after (lent 9) 0 q) (outgoing_after [] q) (called_of m 0 q).rules
+abbrev pub start_does : Party → Found Entry → Gives
+start_does p q = does (called_of p 0 q).verdict (journal_after (lent 9) 0 q) (outgoing_after [] q) (called_of p 0 q).rules
 
 abbrev pub call_gives : Call → Gives
-call_gives (start m g c room used out) = start_gives m g c room used (start_count_questions m g c room used out)
-call_gives (read m g c) = read (count_gives (count_questions m g c)).verdict (count_gives (count_questions m g c)).answer
+call_gives (start p g c room used out) = start_gives p g c room used (start_count_questions p g c room used out)
+call_gives (read p g c) = read (count_gives (count_questions p g c)).verdict (count_gives (count_questions p g c)).answer
 
 -- a refused start reports no remainder and leaves the journal; a refused reading gives no answer
 abbrev pub refusal : Call → ℕ → Gives
-refusal (start m g c room used out) question = started (Verdict.Refused question 0) used (lent room) (pos 0)
-refusal (read m g c) question = read (Verdict.Refused question 0) Answer.None
+refusal (start p g c room used out) question = started (Verdict.Refused question 0) used (lent room) (pos 0)
+refusal (read p g c) question = read (Verdict.Refused question 0) Answer.None
 
 abbrev pub computed : Row → Gives
 computed (refuses call question) = call_gives call
-computed (begins m g c room used out journal rest) = call_gives (start m g c room used out)
-computed (starts_as m g c reading) = start_does m (start_count_questions m g c 9 0 3000)
-computed (waits m g c) = call_gives (read m g c)
-computed (answers m g c a) = call_gives (read m g c)
+computed (begins p g c room used out journal rest) = call_gives (start p g c room used out)
+computed (starts_as p g c reading) = start_does p (start_count_questions p g c 9 0 2640)
+computed (waits p g c) = call_gives (read p g c)
+computed (answers p g c a) = call_gives (read p g c)
 
 abbrev pub said : Row → Gives
 said (refuses call question) = refusal call question
-said (begins m g c room used out journal rest) = started Verdict.Accepted room journal rest
-said (starts_as m g c reading) = start_does m (start_questions m reading 9 0 3000)
-said (waits m g c) = read Verdict.Accepted Answer.None
-said (answers m g c a) = read Verdict.Accepted (Answer.At a)
+said (begins p g c room used out journal rest) = started Verdict.Accepted room journal rest
+said (starts_as p g c reading) = start_does p (start_questions p reading 9 0 2640)
+said (waits p g c) = read Verdict.Accepted Answer.None
+said (answers p g c a) = read Verdict.Accepted (Answer.At a)
 
 -- what a row claims
 abbrev pub Holds : Row → Type 0
@@ -98,94 +98,94 @@ abbrev pub tree : List ℕ
 tree = 0x01 ∷ 0x02 ∷ 0x00 ∷ 0x01 ∷ []
 
 -- board 0 of four, one of which may be faulty, on the readings -2 to 2: set up, and started by the count 10
-abbrev pub fresh : Member
-fresh = (set_up_of 4 1 0 1 middle).member
+abbrev pub fresh : Party
+fresh = (set_up_of 4 1 0 1 middle).party
 
-abbrev pub by_count : Member → ℕ → ℤ → Member
-by_count m g c = (called_of m 0 (start_count_questions m g c 9 0 3000)).member
+abbrev pub by_count : Party → ℕ → ℤ → Party
+by_count p g c = (called_of p 0 (start_count_questions p g c 9 0 2640)).party
 
-abbrev pub begun : Member
+abbrev pub begun : Party
 begun = by_count fresh 10 (pos 10)
 
 -- a board alone, which has its answer from the start on where the plan has one or two positions
-abbrev pub alone : List ℕ → Member
-alone plan = (set_up_of 1 0 0 1 plan).member
+abbrev pub alone : List ℕ → Party
+alone plan = (set_up_of 1 0 0 1 plan).party
 
 -- it started at a vertex or reading
-abbrev pub at : List ℕ → ℤ → Member
-at plan input = (called_of (alone plan) 0 (start_questions (alone plan) input 9 0 3000)).member
+abbrev pub at : List ℕ → ℤ → Party
+at plan input = (called_of (alone plan) 0 (start_questions (alone plan) input 9 0 2640)).party
 
 unfoldable pub table : List Row
 table =
     -- ---- a start by count: 19, 18, 20, 25, 13, 12, 17: in each row every later question fails as well, and the next row mends the one that answered
-    -- a started party with a damaged record, steps of 3 counts, a step off the range, 3 used bytes of 2, an outgoing buffer of 2,999
-    refuses (start (damaged begun) 3 (pos 30) 2 3 2999) 19
+    -- a started party with a damaged record, steps of 3 counts, a step off the range, 3 used bytes of 2, an outgoing buffer of 2,639
+    refuses (start (damaged begun) 3 (pos 30) 2 3 2639) 19
     -- not damaged
-    ∷ refuses (start begun 3 (pos 30) 2 3 2999) 18
-    -- 3,000
-    ∷ refuses (start begun 3 (pos 30) 2 3 3000) 20
+    ∷ refuses (start begun 3 (pos 30) 2 3 2639) 18
+    -- 2,640
+    ∷ refuses (start begun 3 (pos 30) 2 3 2640) 20
     -- 2 used bytes of 2
-    ∷ refuses (start begun 3 (pos 30) 2 2 3000) 25
+    ∷ refuses (start begun 3 (pos 30) 2 2 2640) 25
     -- steps of 10
-    ∷ refuses (start begun 10 (pos 30) 2 2 3000) 13
+    ∷ refuses (start begun 10 (pos 30) 2 2 2640) 13
     -- not started
-    ∷ refuses (start fresh 10 (pos 30) 2 2 3000) 12
+    ∷ refuses (start fresh 10 (pos 30) 2 2 2640) 12
     -- step 2
-    ∷ refuses (start fresh 10 (pos 24) 2 2 3000) 17
+    ∷ refuses (start fresh 10 (pos 24) 2 2 2640) 17
     -- 5 bytes: a record of a start at position 4
-    ∷ begins fresh 10 (pos 24) 5 2 3000 (0xFF ∷ 0xFF ∷ 0x01 ∷ 0x01 ∷ 0x04 ∷ []) (pos 4)
+    ∷ begins fresh 10 (pos 24) 5 2 2640 (0xFF ∷ 0xFF ∷ 0x01 ∷ 0x01 ∷ 0x04 ∷ []) (pos 4)
     -- ---- neighbouring questions, those two alone
-    ∷ refuses (start (damaged fresh) 10 (pos 24) 5 2 2999) 19
-    ∷ refuses (start fresh 10 (pos 24) 5 6 2999) 18
-    ∷ refuses (start fresh 11 (pos 24) 5 6 3000) 20
-    ∷ refuses (start begun 11 (pos 24) 5 2 3000) 25
-    ∷ refuses (start begun 10 (pos 26) 5 2 3000) 13
-    ∷ refuses (start fresh 10 (pos 26) 4 2 3000) 12
+    ∷ refuses (start (damaged fresh) 10 (pos 24) 5 2 2639) 19
+    ∷ refuses (start fresh 10 (pos 24) 5 6 2639) 18
+    ∷ refuses (start fresh 11 (pos 24) 5 6 2640) 20
+    ∷ refuses (start begun 11 (pos 24) 5 2 2640) 25
+    ∷ refuses (start begun 10 (pos 26) 5 2 2640) 13
+    ∷ refuses (start fresh 10 (pos 26) 4 2 2640) 12
     -- 25 before 12, and before 17
-    ∷ refuses (start fresh 11 (pos 100) 5 2 3000) 25
-    ∷ refuses (start fresh 11 (pos 11) 4 2 3000) 25
+    ∷ refuses (start fresh 11 (pos 100) 5 2 2640) 25
+    ∷ refuses (start fresh 11 (pos 11) 4 2 2640) 25
     -- ---- each question alone
-    ∷ refuses (start (damaged fresh) 10 (pos 24) 5 2 3000) 19
-    ∷ refuses (start fresh 10 (pos 24) 5 2 2999) 18
-    ∷ refuses (start fresh 10 (pos 24) 5 6 3000) 20
-    ∷ refuses (start fresh 11 (pos 11) 5 2 3000) 25
-    ∷ refuses (start begun 10 (pos 24) 5 2 3000) 13
-    ∷ refuses (start fresh 10 (pos 26) 5 2 3000) 12
-    ∷ refuses (start fresh 10 (pos 24) 4 2 3000) 17
+    ∷ refuses (start (damaged fresh) 10 (pos 24) 5 2 2640) 19
+    ∷ refuses (start fresh 10 (pos 24) 5 2 2639) 18
+    ∷ refuses (start fresh 10 (pos 24) 5 6 2640) 20
+    ∷ refuses (start fresh 11 (pos 11) 5 2 2640) 25
+    ∷ refuses (start begun 10 (pos 24) 5 2 2640) 13
+    ∷ refuses (start fresh 10 (pos 26) 5 2 2640) 12
+    ∷ refuses (start fresh 10 (pos 24) 4 2 2640) 17
     -- 25 of the count 0, which has a step whatever the size
-    ∷ refuses (start fresh 0 (pos 0) 3 0 3000) 25
-    ∷ refuses (start fresh 999 (pos 0) 3 0 3000) 25
-    ∷ refuses (start fresh 1001 (pos 0) 3 0 3000) 25
-    ∷ refuses (start fresh 1002 (pos 0) 3 0 3000) 25
-    ∷ refuses (start fresh 4294967295 (pos 0) 3 0 3000) 25
-    ∷ begins fresh 2 (pos 0) 3 0 3000 (0x01 ∷ 0x01 ∷ 0x02 ∷ []) (pos 0)
-    ∷ begins fresh 1000 (pos 0) 3 0 3000 (0x01 ∷ 0x01 ∷ 0x02 ∷ []) (pos 0)
+    ∷ refuses (start fresh 0 (pos 0) 3 0 2640) 25
+    ∷ refuses (start fresh 999 (pos 0) 3 0 2640) 25
+    ∷ refuses (start fresh 1001 (pos 0) 3 0 2640) 25
+    ∷ refuses (start fresh 1002 (pos 0) 3 0 2640) 25
+    ∷ refuses (start fresh 4294967295 (pos 0) 3 0 2640) 25
+    ∷ begins fresh 2 (pos 0) 3 0 2640 (0x01 ∷ 0x01 ∷ 0x02 ∷ []) (pos 0)
+    ∷ begins fresh 1000 (pos 0) 3 0 2640 (0x01 ∷ 0x01 ∷ 0x02 ∷ []) (pos 0)
     -- ---- the ends of the range: steps 2 and -2 up to their halves, 3 and -3 from there on
-    ∷ begins fresh 10 (pos 25) 3 0 3000 (0x01 ∷ 0x01 ∷ 0x04 ∷ []) (pos 5)
-    ∷ refuses (start fresh 10 (pos 26) 3 0 3000) 12
-    ∷ begins fresh 10 (minus 25) 3 0 3000 (0x01 ∷ 0x01 ∷ 0x00 ∷ []) (minus 5)
-    ∷ refuses (start fresh 10 (minus 26) 3 0 3000) 12
+    ∷ begins fresh 10 (pos 25) 3 0 2640 (0x01 ∷ 0x01 ∷ 0x04 ∷ []) (pos 5)
+    ∷ refuses (start fresh 10 (pos 26) 3 0 2640) 12
+    ∷ begins fresh 10 (minus 25) 3 0 2640 (0x01 ∷ 0x01 ∷ 0x00 ∷ []) (minus 5)
+    ∷ refuses (start fresh 10 (minus 26) 3 0 2640) 12
     -- where the range ends nearer to zero the half is off it
-    ∷ refuses (start (alone above) 10 (pos 35) 3 0 3000) 12
-    ∷ begins (alone above) 10 (pos 36) 3 0 3000 (0x01 ∷ 0x01 ∷ 0x00 ∷ []) (minus 4)
-    ∷ begins (alone above) 10 (pos 55) 3 0 3000 (0x01 ∷ 0x01 ∷ 0x01 ∷ []) (pos 5)
-    ∷ refuses (start (alone above) 10 (pos 56) 3 0 3000) 12
-    ∷ refuses (start (alone below) 10 (minus 35) 3 0 3000) 12
-    ∷ begins (alone below) 10 (minus 36) 3 0 3000 (0x01 ∷ 0x01 ∷ 0x01 ∷ []) (pos 4)
-    ∷ begins (alone below) 10 (minus 55) 3 0 3000 (0x01 ∷ 0x01 ∷ 0x00 ∷ []) (minus 5)
-    ∷ refuses (start (alone below) 10 (minus 56) 3 0 3000) 12
+    ∷ refuses (start (alone above) 10 (pos 35) 3 0 2640) 12
+    ∷ begins (alone above) 10 (pos 36) 3 0 2640 (0x01 ∷ 0x01 ∷ 0x00 ∷ []) (minus 4)
+    ∷ begins (alone above) 10 (pos 55) 3 0 2640 (0x01 ∷ 0x01 ∷ 0x01 ∷ []) (pos 5)
+    ∷ refuses (start (alone above) 10 (pos 56) 3 0 2640) 12
+    ∷ refuses (start (alone below) 10 (minus 35) 3 0 2640) 12
+    ∷ begins (alone below) 10 (minus 36) 3 0 2640 (0x01 ∷ 0x01 ∷ 0x01 ∷ []) (pos 4)
+    ∷ begins (alone below) 10 (minus 55) 3 0 2640 (0x01 ∷ 0x01 ∷ 0x00 ∷ []) (minus 5)
+    ∷ refuses (start (alone below) 10 (minus 56) 3 0 2640) 12
     -- the highest reading and the lowest, and the ends of 64 bits, which lie beyond them
-    ∷ begins (alone highest) 1000 (pos 2147483647500) 3 0 3000 (0x01 ∷ 0x01 ∷ 0x00 ∷ []) (pos 500)
-    ∷ refuses (start (alone highest) 1000 (pos 2147483647501) 3 0 3000) 12
-    ∷ refuses (start (alone highest) 1000 most 3 0 3000) 12
-    ∷ begins (alone lowest) 1000 (minus 2147483648500) 3 0 3000 (0x01 ∷ 0x01 ∷ 0x00 ∷ []) (minus 500)
-    ∷ refuses (start (alone lowest) 1000 (minus 2147483648501) 3 0 3000) 12
-    ∷ refuses (start (alone lowest) 1000 least 3 0 3000) 12
+    ∷ begins (alone highest) 1000 (pos 2147483647500) 3 0 2640 (0x01 ∷ 0x01 ∷ 0x00 ∷ []) (pos 500)
+    ∷ refuses (start (alone highest) 1000 (pos 2147483647501) 3 0 2640) 12
+    ∷ refuses (start (alone highest) 1000 most 3 0 2640) 12
+    ∷ begins (alone lowest) 1000 (minus 2147483648500) 3 0 2640 (0x01 ∷ 0x01 ∷ 0x00 ∷ []) (minus 500)
+    ∷ refuses (start (alone lowest) 1000 (minus 2147483648501) 3 0 2640) 12
+    ∷ refuses (start (alone lowest) 1000 least 3 0 2640) 12
     -- ---- a tree, whose vertex 1 the count 10 would be, in steps of 10: 25 and 13 before 12, 12 before 17
-    ∷ refuses (start (at tree (pos 1)) 11 (pos 11) 5 2 3000) 25
-    ∷ refuses (start (at tree (pos 1)) 10 (pos 10) 5 2 3000) 13
-    ∷ refuses (start (alone tree) 10 (pos 10) 4 2 3000) 12
-    ∷ refuses (start (alone tree) 10 (pos 10) 5 2 3000) 12
+    ∷ refuses (start (at tree (pos 1)) 11 (pos 11) 5 2 2640) 25
+    ∷ refuses (start (at tree (pos 1)) 10 (pos 10) 5 2 2640) 13
+    ∷ refuses (start (alone tree) 10 (pos 10) 4 2 2640) 12
+    ∷ refuses (start (alone tree) 10 (pos 10) 5 2 2640) 12
     -- ---- a start by count is the start of its step, also where that is refused
     ∷ starts_as fresh 10 (pos 14) (pos 1)
     ∷ starts_as fresh 10 (minus 5) (pos 0)

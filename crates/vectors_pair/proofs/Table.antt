@@ -1,6 +1,6 @@
 -- Every row of the table holds: each is computed.
 use mathlib.Core.Path.{refl}
-use lib.Count.{ones}
+use lib.Count.{ones, ones_in}
 use Rattle.base.specs.Pick.{smallest}
 use Rattle.base.specs.Sets.{count}
 use Rattle.base.specs.Every.{Every}
@@ -16,27 +16,18 @@ use Rattle.edges.specs.Rows.{rows}
 use Rattle.plan.specs.Positions.{edges_of, reading_of, column}
 use Rattle.plan.specs.Reading.{plan_from, settled_plan}
 use Rattle.plan.specs.Valid.{row_fits, rows_fit, all_zero, plan_valid}
-use Rattle.packet.specs.Packet.{packet_bytes}
-use Rattle.packet.specs.Reading.{packet_at, exact_packet}
-use Rattle.senders.specs.Senders.{is_in, with_sender, union_over}
+use Rattle.senders.specs.Senders.{union_over}
 use Rattle.level.specs.Level.{slot, senders}
 use Rattle.level.specs.Counts.{other_echoes, may_propose, proposed, digit_echoes, split_at, split}
 use Rattle.level.specs.Rules.{rule1, rule2, rule3, rule4, rule5, rule6, rule7, rule8, rule9, rule10, rule11, rule12, rule13, rule14, lowest_rule}
 use Rattle.journal.specs.Journal.{record_bytes}
 use Rattle.journal.specs.Reading.{record_at}
 use Rattle.party.specs.Party.{level_at, with_level, component_of, sending, context_of, entering, entered}
-use Rattle.party.specs.Run.{rule_at, open_at, open_level, after_rule, run_up_to, run}
+use Rattle.party.specs.Run.{rule_at, open_at, open_level, after_rule, run_up_to, run, starting}
 use Rattle.party.specs.Valid.{every_level, sets_pass, level_passes, party_valid}
-use Rattle.closing.specs.Closing.{is_marked, has_echoed, keeps, with_echo, with_ready}
-use Rattle.closing.specs.Rules.{least, marked, echo_rule, relay_rule, value_rule, ready_rule, close_rule, lowest_rule as lowest_closing}
-use Rattle.closing.specs.Run.{close_up_to, close_run}
-use Rattle.closing.specs.Valid.{places_pass, closing_valid}
-use Rattle.member.specs.Member.{dropped, idle}
-use Rattle.member.specs.Run.{settling, heard, starting, taking}
-use Rattle.member.specs.Valid.{member_valid}
-use Rattle.member_life.specs.Life.{replayed}
+use Rattle.party_life.specs.Life.{replayed}
 use Rattle.board_calls.specs.Answers.{position_of, answer_of}
-use Rattle.board_calls.specs.Calls.{set_up_of, start_questions, take_questions, answered_of}
+use Rattle.board_calls.specs.Calls.{set_up_of, start_questions, answered_of}
 use Rattle.board_calls.specs.Restore.{replay_from, restore_questions}
 use Rattle.board_pair.specs.Pair.{pair_questions}
 use Rattle.vectors_questions.proofs.Table.{◌and◌}
@@ -44,7 +35,7 @@ use Rattle.vectors_pair.specs.Rows.{Holds, table}
 
 pub told : Every Holds table
 unfolding
-    table ones smallest count pieces pieces_at field_at label joined adjacent ends edges_at upto without part heavy light centre neighbours degree port path_edges reached others branched absorbed growth_order edges_from rows edges_of reading_of column plan_from settled_plan row_fits rows_fit all_zero plan_valid packet_bytes packet_at exact_packet is_in with_sender union_over slot senders other_echoes may_propose proposed digit_echoes split_at split rule1 rule2 rule3 rule4 rule5 rule6 rule7 rule8 rule9 rule10 rule11 rule12 rule13 rule14 lowest_rule record_bytes record_at level_at with_level component_of sending context_of entering entered rule_at open_at open_level after_rule run_up_to run every_level sets_pass level_passes party_valid is_marked has_echoed keeps with_echo with_ready least marked echo_rule relay_rule value_rule ready_rule close_rule lowest_closing close_up_to close_run places_pass closing_valid dropped idle settling heard starting taking member_valid replayed position_of answer_of set_up_of start_questions take_questions answered_of replay_from restore_questions pair_questions
+    table ones ones_in smallest count pieces pieces_at field_at label joined adjacent ends edges_at upto without part heavy light centre neighbours degree port path_edges reached others branched absorbed growth_order edges_from rows edges_of reading_of column plan_from settled_plan row_fits rows_fit all_zero plan_valid union_over slot senders other_echoes may_propose proposed digit_echoes split_at split rule1 rule2 rule3 rule4 rule5 rule6 rule7 rule8 rule9 rule10 rule11 rule12 rule13 rule14 lowest_rule record_bytes record_at level_at with_level component_of sending context_of entering entered rule_at open_at open_level after_rule run_up_to run starting every_level sets_pass level_passes party_valid replayed position_of answer_of set_up_of start_questions answered_of replay_from restore_questions pair_questions
 told =
     refl and refl and refl and refl and refl and refl and refl
     and refl and refl and refl and refl and refl and refl and refl
@@ -52,5 +43,4 @@ told =
     and refl and refl and refl and refl and refl
     and refl and refl and refl and refl and refl and refl
     and refl and refl and refl and refl and refl and refl and refl
-    and refl and refl and refl and refl
     and tt

@@ -1,29 +1,26 @@
 -- Document 02, Q-13: "Its reading asks the first party's questions, the second's, then 27 for equal numbers and 12 for a plan that is no range." A table of
--- readings of two boards as a pair. proofs/Table.antt shows that every row holds.
+-- readings of two parties as a pair. proofs/Table.antt shows that every row holds.
 use Rattle.std.specs.Prelude.{◌≡◌, List, [], ◌∷◌, ℕ, ℤ, pos, negsuc}
 use Rattle.base.specs.declared.Verdict.{Verdict}
-use Rattle.packet.specs.declared.Packet.{Packet}
-use Rattle.packet.specs.Packet.{packet_bytes}
-use Rattle.closing.specs.Closing.{with_echo}
-use Rattle.member.specs.Member.{Member}
-use Rattle.board_calls.specs.Calls.{no_member, set_up_of, start_questions, take_questions, called_of}
+use Rattle.party.specs.Party.{Party}
+use Rattle.board_calls.specs.Calls.{no_party, set_up_of, start_questions, called_of}
 use Rattle.board_calls.specs.Restore.{restore_questions, restored_of}
 use Rattle.board_pair.specs.declared.PairAnswer.{PairAnswer}
 use Rattle.board_pair.specs.declared.PairAnswered.{PairAnswered}
 use Rattle.board_pair.specs.Pair.{pair_questions, pair_gives}
 use Rattle.vectors_questions.specs.Rows.{range, damaged}
 
--- what a row says of reading the first and the second board
+-- what a row says of reading the first and the second party
 pub data Row : Type 0 where
   -- the question that refuses it, and the place
-  refuses : (p q : Member) (question place : ℕ) → Row
+  refuses : (p q : Party) (question place : ℕ) → Row
   -- it is accepted, and there is no answer yet
-  waits : (p q : Member) → Row
+  waits : (p q : Party) → Row
   -- it is accepted, and these are the two readings
-  answers : (p q : Member) (y z : ℤ) → Row
+  answers : (p q : Party) (y z : ℤ) → Row
 
 -- what the call gives
-abbrev pub reading : Member → Member → PairAnswered
+abbrev pub reading : Party → Party → PairAnswered
 reading p q = pair_gives (pair_questions p q)
 
 -- what a row claims
@@ -32,14 +29,14 @@ Holds (refuses p q question place) = reading p q ≡ record { verdict = Verdict.
 Holds (waits p q) = reading p q ≡ record { verdict = Verdict.Accepted; answer = PairAnswer.None }
 Holds (answers p q y z) = reading p q ≡ record { verdict = Verdict.Accepted; answer = PairAnswer.At y z }
 
--- ---- the boards: each alone in its vote, so that it has its answer from the start on where the plan has one or two positions; bytes are hexadecimal
+-- ---- the parties: of a board alone, which has its answer from the start on where the plan has one or two positions; bytes are hexadecimal
 
 -- set up for a vote with this agreement number and plan, and started at an input
-abbrev pub new : ℕ → List ℕ → Member
-new agreement plan = (set_up_of 1 0 0 agreement plan).member
+abbrev pub new : ℕ → List ℕ → Party
+new agreement plan = (set_up_of 1 0 0 agreement plan).party
 
-abbrev pub started : Member → ℤ → Member
-started m input = (called_of m 0 (start_questions m input 9 0 3000)).member
+abbrev pub started : Party → ℤ → Party
+started p input = (called_of p 0 (start_questions p input 9 0 2640)).party
 
 -- the readings -5 and -4; 20 and 21; the lowest reading, and the highest; a tree of two vertices
 abbrev pub below : List ℕ
@@ -58,29 +55,18 @@ abbrev pub tree : List ℕ
 tree = 0x01 ∷ 0x02 ∷ 0x00 ∷ 0x01 ∷ []
 
 -- both votes with an answer, -5 and 21, and the vote on the tree with one
-abbrev pub level : Member
+abbrev pub level : Party
 level = started (new 1 below) (negsuc 4)
 
-abbrev pub temperature : Member
+abbrev pub temperature : Party
 temperature = started (new 2 above) (pos 21)
 
-abbrev pub mode : ℕ → Member
+abbrev pub mode : ℕ → Party
 mode agreement = started (new agreement tree) (pos 1)
 
 -- the first one restored from its journal
-abbrev pub restored : Member
-restored = (restored_of (restore_questions 1 0 0 1 below (0x01 ∷ 0x01 ∷ 0x00 ∷ []) 3000)).member
-
--- closed by its own messages: one closing echo, of position x, makes the closing value, and one ready closes
-abbrev pub taken : Member → Packet → Member
-taken m p = (called_of m 0 (take_questions m 0 (packet_bytes p) 12 0 3000)).member
-
-abbrev pub closed : Member → ℕ → Member
-closed m x = taken (taken m (Packet.Echo m.party.agreement x)) (Packet.Ready m.party.agreement)
-
--- with a closing echo kept of a position past the plan's last
-abbrev pub astray : Member → Member
-astray m = record { party = m.party; closing = with_echo m.closing 0 m.party.plan.count }
+abbrev pub restored : Party
+restored = (restored_of (restore_questions 1 0 0 1 below (0x01 ∷ 0x01 ∷ 0x00 ∷ []) 2640)).party
 
 unfoldable pub table : List Row
 table =
@@ -100,8 +86,8 @@ table =
     -- ---- each question alone
     ∷ refuses (damaged level) temperature 19 0
     ∷ refuses level (damaged temperature) 19 0
-    ∷ refuses no_member temperature 19 0
-    ∷ refuses level no_member 19 0
+    ∷ refuses no_party temperature 19 0
+    ∷ refuses level no_party 19 0
     ∷ refuses level level 27 0
     ∷ refuses level (started (new 1 above) (pos 21)) 27 0
     ∷ refuses (mode 1) temperature 12 0
@@ -134,10 +120,4 @@ table =
     -- "each started and restored by itself": the first restored, the second not
     ∷ answers restored temperature (negsuc 4) (pos 21)
     ∷ waits restored (new 2 above)
-    -- ---- closed boards, whose levels are dropped: both answer what they kept; one without an answer answers the closing value
-    ∷ answers (closed level 0) (closed temperature 1) (negsuc 4) (pos 21)
-    ∷ answers (closed (started (new 1 range) (pos 1)) 2) temperature (pos 2) (pos 21)
-    -- 19 asks what a board keeps to close, too: of the first, and of the second before 27
-    ∷ refuses (astray level) temperature 19 0
-    ∷ refuses level (astray level) 19 0
     ∷ []

@@ -20,20 +20,15 @@ use Rattle.tree.specs.Path.{path_edges}
 use Rattle.plan.specs.Positions.{edges_of}
 use Rattle.plan.specs.Reading.{plan_from, settled_plan}
 use Rattle.message.specs.Message.{message_bytes}
-use Rattle.packet.specs.Packet.{packet_bytes}
+use Rattle.message.specs.Reading.{message_at}
 use Rattle.senders.specs.Senders.{is_in, with_sender, union_over}
 use Rattle.level.specs.Level.{slot, senders, held, with_heard}
 use Rattle.level.specs.Counts.{other_echoes, may_propose, proposed, digit_echoes, split_at, split, echoed_by, second_proposed, echoed_values, sided}
 use Rattle.level.specs.Rules.{rule1, rule2, rule3, rule4, rule5, rule6, rule7, rule8, rule9, rule10, rule11, rule12, rule13, rule14, lowest_rule}
 use Rattle.journal.specs.Reading.{record_at}
 use Rattle.party.specs.Party.{level_at, with_level, component_of, sending, context_of, entering, entered, held_by, hearing}
-use Rattle.party.specs.Run.{rule_at, open_at, open_level, after_rule, run_up_to, run}
-use Rattle.closing.specs.Closing.{is_marked, has_echoed, keeps, with_echo, with_ready}
-use Rattle.closing.specs.Rules.{least, marked, echo_rule, relay_rule, value_rule, ready_rule, close_rule, lowest_rule as lowest_closing}
-use Rattle.closing.specs.Run.{close_up_to, close_run}
-use Rattle.member.specs.Member.{dropped, idle}
-use Rattle.member.specs.Run.{level_packets, closing_packets, settling, heard, starting, taking, bytes_of}
-use Rattle.member_life.specs.Life.{replayed}
+use Rattle.party.specs.Run.{rule_at, open_at, open_level, after_rule, run_up_to, run, starting, taking, bytes_of}
+use Rattle.party_life.specs.Life.{replayed}
 use Rattle.board_calls.specs.Restore.{Replay, replay_from, restore_questions}
 use Rattle.vectors_questions.specs.Restores.{in_order, restoring, Restore, hands, withholds, Writes, WritesNothing, Restores, restores}
 use Rattle.vectors_questions.proofs.Table.{◌and◌}
@@ -49,25 +44,21 @@ shortly (found r) = handed r.used (bytes_of r.ran.made)
 shortly (refused question place) = withheld question place
 
 abbrev Shortly : Restore → Type 0
-Shortly (hands n journal used messages) = shortly (restoring n journal 3000) ≡ handed used (in_order messages)
+Shortly (hands n journal used messages) = shortly (restoring n journal 2640) ≡ handed used (in_order messages)
 Shortly (withholds n journal out question place) = shortly (restoring n journal out) ≡ withheld question place
 
 short : Every Shortly restores
 unfolding
-    restores in_order ones ones_in smallest count pieces pieces_at field_at label joined adjacent ends upto without part heavy light centre neighbours degree rank neighbour side gateway port path_edges edges_of plan_from settled_plan message_bytes packet_bytes is_in with_sender union_over slot senders held with_heard other_echoes may_propose proposed digit_echoes split_at split echoed_by second_proposed echoed_values sided rule1 rule2 rule3 rule4 rule5 rule6 rule7 rule8 rule9 rule10 rule11 rule12 rule13 rule14 lowest_rule record_at level_at with_level component_of sending context_of entering entered held_by hearing rule_at open_at open_level after_rule run_up_to run is_marked has_echoed keeps with_echo with_ready least marked echo_rule relay_rule value_rule ready_rule close_rule lowest_closing close_up_to close_run dropped idle level_packets closing_packets settling heard starting taking bytes_of replayed replay_from restore_questions
+    restores in_order ones ones_in smallest count pieces pieces_at field_at label joined adjacent ends upto without part heavy light centre neighbours degree rank neighbour side gateway port path_edges edges_of plan_from settled_plan message_bytes message_at is_in with_sender union_over slot senders held with_heard other_echoes may_propose proposed digit_echoes split_at split echoed_by second_proposed echoed_values sided rule1 rule2 rule3 rule4 rule5 rule6 rule7 rule8 rule9 rule10 rule11 rule12 rule13 rule14 lowest_rule record_at level_at with_level component_of sending context_of entering entered held_by hearing rule_at open_at open_level after_rule run_up_to run starting taking bytes_of replayed replay_from restore_questions
 short =
     refl and refl
     and refl and refl and refl
     and refl
     and refl and refl
     and refl
-    and refl and refl
-    and refl
     and refl
     and refl and refl
     and refl and refl and refl
-    and refl and refl and refl and refl
-    and refl and refl and refl and refl
     and tt
 
 -- ---- what the call gives follows
@@ -90,7 +81,7 @@ module _ (question place : ℕ) where
 
 given : (l : List Restore) → Every Shortly l → Every Restores l
 given [] e = tt
-given (hands n journal used messages ∷ l) (e, es) = (handing used (in_order messages) (restoring n journal 3000) e, given l es)
+given (hands n journal used messages ∷ l) (e, es) = (handing used (in_order messages) (restoring n journal 2640) e, given l es)
 given (withholds n journal out question place ∷ l) (e, es) = (withholding question place (restoring n journal out) e, given l es)
 
 pub restored : Every Restores restores

@@ -1,9 +1,9 @@
 -- Document 02, Q-2: what a take tells the wire tester of bytes that are not exactly one message. proofs/Messages.antt shows that every row holds.
 use Rattle.std.specs.Prelude.{◌≡◌, List, [], ◌∷◌, ℕ}
 use Rattle.base.specs.Found.{refused}
-use Rattle.packet.specs.Reading.{exact_packet}
-use Rattle.member.specs.Member.{Member}
-use Rattle.board_calls.specs.Calls.{take_packet}
+use Rattle.message.specs.Reading.{exact_message}
+use Rattle.party.specs.Party.{Party}
+use Rattle.board_calls.specs.Calls.{take_message}
 
 -- bytes, and the refusal's number and place
 pub data Telling : Type 0 where
@@ -11,7 +11,7 @@ pub data Telling : Type 0 where
 
 -- what a row claims: so is every take answered that passes 19, 18, 20 and 14, whoever sends the bytes, whatever the journal
 abbrev pub Told : Telling → Type 0
-Told (tells bytes number place) = (m : Member) (s room used : ℕ) → take_packet m s room used (exact_packet bytes) ≡ refused number place
+Told (tells bytes number place) = (p : Party) (s room used : ℕ) → take_message p s room used (exact_message bytes) ≡ refused number place
 
 unfoldable pub tellings : List Telling
 tellings =
@@ -26,11 +26,6 @@ tellings =
     ∷ tells (0xAC ∷ 0x02 ∷ 0x8E ∷ []) 15 2
     ∷ tells (0xAC ∷ 0x02 ∷ 0x03 ∷ 0x85 ∷ []) 15 3
     ∷ tells (0xAC ∷ 0x02 ∷ 0x03 ∷ 0x05 ∷ 0x82 ∷ []) 15 4
-    -- a closing echo of number 7 and position 300, cut before each byte behind its level, and inside a position that further bytes could only bring outside the table
-    ∷ tells (0x07 ∷ 0x00 ∷ []) 15 2
-    ∷ tells (0x07 ∷ 0x00 ∷ 0x07 ∷ []) 15 3
-    ∷ tells (0x07 ∷ 0x00 ∷ 0x07 ∷ 0xAC ∷ []) 15 3
-    ∷ tells (0x07 ∷ 0x00 ∷ 0x07 ∷ 0x80 ∷ 0x80 ∷ 0x84 ∷ []) 15 3
     -- the largest number, cut before its last byte
     ∷ tells (0xFF ∷ 0xFF ∷ 0xFF ∷ 0xFF ∷ []) 15 0
     -- ---- "22 when a group is too long or too large"
@@ -40,20 +35,14 @@ tellings =
     ∷ tells (0xAC ∷ 0x02 ∷ 0x83 ∷ 0x00 ∷ 0x05 ∷ 0x02 ∷ []) 22 2
     ∷ tells (0xAC ∷ 0x02 ∷ 0x03 ∷ 0x85 ∷ 0x00 ∷ 0x02 ∷ []) 22 3
     ∷ tells (0xAC ∷ 0x02 ∷ 0x03 ∷ 0x05 ∷ 0x82 ∷ 0x00 ∷ []) 22 4
-    -- the kind and the position of a closing echo, the kind of a ready
-    ∷ tells (0x07 ∷ 0x00 ∷ 0x87 ∷ 0x00 ∷ 0xAC ∷ 0x02 ∷ []) 22 2
-    ∷ tells (0x07 ∷ 0x00 ∷ 0x07 ∷ 0xAC ∷ 0x82 ∷ 0x00 ∷ []) 22 3
-    ∷ tells (0x07 ∷ 0x00 ∷ 0x88 ∷ 0x00 ∷ []) 22 2
     -- each group above 4,294,967,295
     ∷ tells (0xFF ∷ 0xFF ∷ 0xFF ∷ 0xFF ∷ 0x10 ∷ 0x03 ∷ 0x05 ∷ 0x02 ∷ []) 22 0
     ∷ tells (0xAC ∷ 0x02 ∷ 0xFF ∷ 0xFF ∷ 0xFF ∷ 0xFF ∷ 0x10 ∷ 0x05 ∷ 0x02 ∷ []) 22 2
     ∷ tells (0xAC ∷ 0x02 ∷ 0x03 ∷ 0xFF ∷ 0xFF ∷ 0xFF ∷ 0xFF ∷ 0x10 ∷ 0x02 ∷ []) 22 3
     ∷ tells (0xAC ∷ 0x02 ∷ 0x03 ∷ 0x05 ∷ 0xFF ∷ 0xFF ∷ 0xFF ∷ 0xFF ∷ 0x10 ∷ []) 22 4
-    ∷ tells (0x07 ∷ 0x00 ∷ 0x07 ∷ 0xFF ∷ 0xFF ∷ 0xFF ∷ 0xFF ∷ 0x10 ∷ []) 22 3
     -- "even where the bytes end there": a fifth byte with its top bit set
     ∷ tells (0x80 ∷ 0x80 ∷ 0x80 ∷ 0x80 ∷ 0x80 ∷ []) 22 0
     ∷ tells (0xAC ∷ 0x02 ∷ 0x80 ∷ 0x80 ∷ 0x80 ∷ 0x80 ∷ 0x80 ∷ []) 22 2
-    ∷ tells (0x07 ∷ 0x00 ∷ 0x07 ∷ 0x80 ∷ 0x80 ∷ 0x80 ∷ 0x80 ∷ 0x80 ∷ []) 22 3
     -- ---- "23 when level, kind or value is outside the table"
     -- level 15, also with nothing behind it; and 128, and the largest number
     ∷ tells (0xAC ∷ 0x02 ∷ 0x0F ∷ 0x05 ∷ 0x02 ∷ []) 23 2
@@ -62,22 +51,11 @@ tellings =
     ∷ tells (0xAC ∷ 0x02 ∷ 0xFF ∷ 0xFF ∷ 0xFF ∷ 0xFF ∷ 0x0F ∷ 0x05 ∷ 0x02 ∷ []) 23 2
     -- level 15 behind a number of five bytes
     ∷ tells (0xFF ∷ 0xFF ∷ 0xFF ∷ 0xFF ∷ 0x0F ∷ 0x0F ∷ []) 23 5
-    -- kinds 0, 7 and 134, whose low piece is 6
+    -- kinds 0, 7 and 134, whose low piece is 6; 8, also at level 0
     ∷ tells (0xAC ∷ 0x02 ∷ 0x03 ∷ 0x00 ∷ 0x02 ∷ []) 23 3
     ∷ tells (0xAC ∷ 0x02 ∷ 0x03 ∷ 0x07 ∷ 0x02 ∷ []) 23 3
     ∷ tells (0xAC ∷ 0x02 ∷ 0x03 ∷ 0x86 ∷ 0x01 ∷ []) 23 3
-    -- at level 0: kinds 0, 9 and 136, whose low piece is 8
-    ∷ tells (0xAC ∷ 0x02 ∷ 0x00 ∷ 0x00 ∷ 0x02 ∷ []) 23 3
-    ∷ tells (0xAC ∷ 0x02 ∷ 0x00 ∷ 0x09 ∷ []) 23 3
-    ∷ tells (0xAC ∷ 0x02 ∷ 0x00 ∷ 0x88 ∷ 0x01 ∷ []) 23 3
-    -- "7 or 8 off level 0 fails at the kind": at level 1 and at level 14
-    ∷ tells (0x07 ∷ 0x01 ∷ 0x07 ∷ 0xAC ∷ 0x02 ∷ []) 23 2
-    ∷ tells (0x07 ∷ 0x01 ∷ 0x08 ∷ []) 23 2
-    ∷ tells (0x07 ∷ 0x0E ∷ 0x07 ∷ 0xAC ∷ 0x02 ∷ []) 23 2
-    ∷ tells (0x07 ∷ 0x0E ∷ 0x08 ∷ []) 23 2
-    -- the positions 65,536 and 4,294,967,295
-    ∷ tells (0x07 ∷ 0x00 ∷ 0x07 ∷ 0x80 ∷ 0x80 ∷ 0x04 ∷ []) 23 3
-    ∷ tells (0x07 ∷ 0x00 ∷ 0x07 ∷ 0xFF ∷ 0xFF ∷ 0xFF ∷ 0xFF ∷ 0x0F ∷ []) 23 3
+    ∷ tells (0xAC ∷ 0x02 ∷ 0x00 ∷ 0x08 ∷ []) 23 3
     -- the values 17 of a first echo, 16 of a first proposal, 17 of a second echo and of a second proposal, 0 and 16 of a side
     ∷ tells (0xAC ∷ 0x02 ∷ 0x03 ∷ 0x01 ∷ 0x11 ∷ []) 23 4
     ∷ tells (0xAC ∷ 0x02 ∷ 0x03 ∷ 0x02 ∷ 0x10 ∷ []) 23 4
@@ -90,9 +68,6 @@ tellings =
     ∷ tells (0xAC ∷ 0x02 ∷ 0x03 ∷ 0x05 ∷ 0x02 ∷ 0x00 ∷ []) 24 5
     ∷ tells (0xAC ∷ 0x02 ∷ 0x03 ∷ 0x06 ∷ 0x00 ∷ 0x00 ∷ []) 24 4
     ∷ tells (0xAC ∷ 0x02 ∷ 0x03 ∷ 0x06 ∷ 0x80 ∷ []) 24 4
-    -- behind a closing echo, and behind a ready, which has no value
-    ∷ tells (0x07 ∷ 0x00 ∷ 0x07 ∷ 0xAC ∷ 0x02 ∷ 0x00 ∷ []) 24 5
-    ∷ tells (0x07 ∷ 0x00 ∷ 0x08 ∷ 0x00 ∷ []) 24 3
     -- ---- "left to right": more than one group fails
     -- a number too long before a level outside the table; a level outside it before a kind too long; a kind outside it before a value too large; a value outside it, and one too long, before a spare byte
     ∷ tells (0x80 ∷ 0x00 ∷ 0x0F ∷ 0x05 ∷ 0x02 ∷ []) 22 0
@@ -100,8 +75,4 @@ tellings =
     ∷ tells (0xAC ∷ 0x02 ∷ 0x03 ∷ 0x07 ∷ 0xFF ∷ 0xFF ∷ 0xFF ∷ 0xFF ∷ 0x10 ∷ []) 23 3
     ∷ tells (0xAC ∷ 0x02 ∷ 0x03 ∷ 0x05 ∷ 0x10 ∷ 0x00 ∷ []) 23 4
     ∷ tells (0xAC ∷ 0x02 ∷ 0x03 ∷ 0x05 ∷ 0x82 ∷ 0x00 ∷ 0x00 ∷ []) 22 4
-    -- a closing echo off level 0 before its position, which is too long, or not there; a position outside the table before a spare byte
-    ∷ tells (0x07 ∷ 0x01 ∷ 0x07 ∷ 0x80 ∷ 0x00 ∷ []) 23 2
-    ∷ tells (0x07 ∷ 0x01 ∷ 0x07 ∷ []) 23 2
-    ∷ tells (0x07 ∷ 0x00 ∷ 0x07 ∷ 0x80 ∷ 0x80 ∷ 0x04 ∷ 0x00 ∷ []) 23 3
     ∷ []

@@ -23,7 +23,7 @@ taken s m = 0x02 ∷ s ∷ m
 abbrev pub torn : List ℕ
 torn = 0x02 ∷ 0x00 ∷ 0x01 ∷ []
 
--- messages at level 0, those of closing too
+-- messages at level 0
 abbrev pub first_echo : ℕ → List ℕ
 first_echo v = 0x01 ∷ 0x00 ∷ 0x01 ∷ v ∷ []
 
@@ -35,19 +35,6 @@ second_echo v = 0x01 ∷ 0x00 ∷ 0x03 ∷ v ∷ []
 
 abbrev pub second_proposal : ℕ → List ℕ
 second_proposal v = 0x01 ∷ 0x00 ∷ 0x04 ∷ v ∷ []
-
-abbrev pub closing_echo : ℕ → List ℕ
-closing_echo x = 0x01 ∷ 0x00 ∷ 0x07 ∷ x ∷ []
-
-abbrev pub ready : List ℕ
-ready = 0x01 ∷ 0x00 ∷ 0x08 ∷ []
-
--- a board alone from its start at 0 up to its answer, 0, then other records; and the messages of such a board up to its answer's echo, then others
-abbrev pub answered : List (List ℕ) → List (List ℕ)
-answered records = started 0 ∷ taken 0 (first_echo 1) ∷ taken 0 (first_proposal 1) ∷ taken 0 (second_echo 1) ∷ taken 0 (second_proposal 1) ∷ records
-
-abbrev pub voted : List (List ℕ) → List (List ℕ)
-voted messages = first_echo 1 ∷ first_proposal 1 ∷ second_echo 1 ∷ second_proposal 1 ∷ closing_echo 0 ∷ messages
 
 -- ---- rows
 
@@ -74,7 +61,7 @@ WritesNothing q question place =
 
 -- what a row claims
 abbrev pub Restores : Restore → Type 0
-Restores (hands n journal used messages) = Writes (restoring n journal 3000) used (in_order messages)
+Restores (hands n journal used messages) = Writes (restoring n journal 2640) used (in_order messages)
 Restores (withholds n journal out question place) = WritesNothing (restoring n journal out) question place
 
 unfoldable pub restores : List Restore
@@ -86,13 +73,8 @@ restores =
     ∷ hands 1 (started 0 ∷ []) 3 (first_echo 1 ∷ [])
     ∷ hands 1 (started 0 ∷ taken 0 (first_echo 1) ∷ []) 9 (first_echo 1 ∷ first_proposal 1 ∷ [])
     ∷ hands 1 (started 0 ∷ taken 0 (first_echo 1) ∷ taken 0 (first_proposal 1) ∷ taken 0 (second_echo 1) ∷ []) 21 (first_echo 1 ∷ first_proposal 1 ∷ second_echo 1 ∷ second_proposal 1 ∷ [])
-    -- the last record gave the answer, and made its closing echo
-    ∷ hands 1 (answered []) 27 (voted [])
-    -- the board takes that echo and makes a ready; the last record made none: it closed the board
-    ∷ hands 1 (answered (taken 0 (closing_echo 0) ∷ [])) 33 (voted (ready ∷ []))
-    ∷ hands 1 (answered (taken 0 (closing_echo 0) ∷ taken 0 ready ∷ [])) 38 (voted (ready ∷ []))
-    -- then the record of a level's message adds nothing, and an echo of another position is relayed
-    ∷ hands 1 (answered (taken 0 (closing_echo 0) ∷ taken 0 ready ∷ taken 0 (first_echo 2) ∷ taken 0 (closing_echo 2) ∷ [])) 50 (voted (ready ∷ closing_echo 2 ∷ []))
+    -- the last record made none: it gave the answer
+    ∷ hands 1 (started 0 ∷ taken 0 (first_echo 1) ∷ taken 0 (first_proposal 1) ∷ taken 0 (second_echo 1) ∷ taken 0 (second_proposal 1) ∷ []) 27 (first_echo 1 ∷ first_proposal 1 ∷ second_echo 1 ∷ second_proposal 1 ∷ [])
     -- a torn record after the second, and after one that made none
     ∷ hands 1 (started 0 ∷ taken 0 (first_echo 1) ∷ torn ∷ []) 9 (first_echo 1 ∷ first_proposal 1 ∷ [])
     ∷ hands 1 (started 0 ∷ taken 0 (first_echo 1) ∷ taken 0 (second_proposal 1) ∷ torn ∷ []) 15 (first_echo 1 ∷ first_proposal 1 ∷ [])
@@ -103,18 +85,8 @@ restores =
     -- two boards, at 0 and 2: after its own first echo, or before it, board 0 takes board 1's, which made two messages; 10 is none
     ∷ hands 2 (started 0 ∷ taken 0 (first_echo 1) ∷ taken 1 (first_echo 2) ∷ []) 15 (first_echo 1 ∷ first_proposal 1 ∷ first_echo 0x10 ∷ second_echo 0x10 ∷ [])
     ∷ hands 2 (started 0 ∷ taken 1 (first_echo 2) ∷ []) 9 (first_echo 1 ∷ first_echo 0x10 ∷ first_proposal 2 ∷ [])
-    -- the records of a position off the plan and of a sender's third one add nothing; a torn closing echo
-    ∷ hands 1 (started 0 ∷ taken 0 (closing_echo 3) ∷ []) 9 (first_echo 1 ∷ [])
-    ∷ hands 1 (taken 0 (closing_echo 2) ∷ taken 0 (closing_echo 1) ∷ taken 0 (closing_echo 0) ∷ started 0 ∷ []) 21 (first_echo 1 ∷ closing_echo 1 ∷ closing_echo 2 ∷ ready ∷ [])
-    ∷ hands 1 (started 0 ∷ taken 0 (0x01 ∷ 0x00 ∷ 0x07 ∷ []) ∷ []) 3 (first_echo 1 ∷ [])
-    -- a second start, also of a closed board, and no record, after records that made messages; an outgoing buffer of 2,999
-    ∷ withholds 1 (started 0 ∷ taken 0 (first_echo 1) ∷ started 0 ∷ []) 3000 13 9
-    ∷ withholds 1 (answered (taken 0 (closing_echo 0) ∷ taken 0 ready ∷ started 0 ∷ [])) 3000 13 38
-    ∷ withholds 1 (started 0 ∷ taken 0 (first_echo 1) ∷ no_record ∷ []) 3000 21 9
-    ∷ withholds 1 (started 0 ∷ taken 0 (first_echo 1) ∷ []) 2999 18 0
-    -- records of closing messages: an echo at level 1, and of position 65,536; a ready of agreement 2, and from sender 1 of 1
-    ∷ withholds 1 (started 0 ∷ taken 0 (0x01 ∷ 0x01 ∷ 0x07 ∷ 0x00 ∷ []) ∷ []) 3000 21 3
-    ∷ withholds 1 (started 0 ∷ taken 0 (0x01 ∷ 0x00 ∷ 0x07 ∷ 0x80 ∷ 0x80 ∷ 0x04 ∷ []) ∷ []) 3000 21 3
-    ∷ withholds 1 (started 0 ∷ taken 1 (0x02 ∷ 0x00 ∷ 0x08 ∷ []) ∷ []) 3000 16 3
-    ∷ withholds 1 (started 0 ∷ taken 1 ready ∷ []) 3000 14 3
+    -- a second start, and no record, after records that made messages; an outgoing buffer of 2,639
+    ∷ withholds 1 (started 0 ∷ taken 0 (first_echo 1) ∷ started 0 ∷ []) 2640 13 9
+    ∷ withholds 1 (started 0 ∷ taken 0 (first_echo 1) ∷ no_record ∷ []) 2640 21 9
+    ∷ withholds 1 (started 0 ∷ taken 0 (first_echo 1) ∷ []) 2639 18 0
     ∷ []

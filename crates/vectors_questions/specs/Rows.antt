@@ -3,7 +3,7 @@
 -- that every row holds.
 use Rattle.std.specs.Prelude.{◌≡◌, List, [], ◌∷◌, ◌++◌, ℕ, ℤ, pos}
 use Rattle.base.specs.declared.Verdict.{Verdict}
-use Rattle.member.specs.Member.{Member}
+use Rattle.party.specs.Party.{Party}
 use Rattle.board_calls.specs.Calls.{set_up_of, start_questions, take_questions, called_of, answered_of}
 use Rattle.board_calls.specs.Restore.{restore_questions, restored_of}
 
@@ -11,9 +11,9 @@ use Rattle.board_calls.specs.Restore.{restore_questions, restored_of}
 pub data Call : Type 0 where
   set_up : (n t own : ℕ) (plan : List ℕ) → Call
   -- the lengths are the journal's, its used bytes' and the outgoing buffer's
-  start : (m : Member) (input : ℤ) (room used out : ℕ) → Call
-  take : (m : Member) (sender : ℕ) (bytes : List ℕ) (room used out : ℕ) → Call
-  read : (m : Member) → Call
+  start : (p : Party) (input : ℤ) (room used out : ℕ) → Call
+  take : (p : Party) (sender : ℕ) (bytes : List ℕ) (room used out : ℕ) → Call
+  read : (p : Party) → Call
   restore : (n t own : ℕ) (plan journal : List ℕ) (out : ℕ) → Call
 
 -- what a row says of a call
@@ -26,17 +26,17 @@ pub data Row : Type 0 where
 -- a call's verdict
 abbrev pub verdict_of : Call → Verdict
 verdict_of (set_up n t own plan) = (set_up_of n t own 1 plan).verdict
-verdict_of (start m input room used out) = (called_of m used (start_questions m input room used out)).verdict
-verdict_of (take m s bytes room used out) = (called_of m used (take_questions m s bytes room used out)).verdict
-verdict_of (read m) = (answered_of m).verdict
+verdict_of (start p input room used out) = (called_of p used (start_questions p input room used out)).verdict
+verdict_of (take p s bytes room used out) = (called_of p used (take_questions p s bytes room used out)).verdict
+verdict_of (read p) = (answered_of p).verdict
 verdict_of (restore n t own plan journal out) = (restored_of (restore_questions n t own 1 plan journal out)).verdict
 
 -- the used length after it
 abbrev pub used_after : Call → ℕ
 used_after (set_up n t own plan) = 0
-used_after (start m input room used out) = (called_of m used (start_questions m input room used out)).used
-used_after (take m s bytes room used out) = (called_of m used (take_questions m s bytes room used out)).used
-used_after (read m) = 0
+used_after (start p input room used out) = (called_of p used (start_questions p input room used out)).used
+used_after (take p s bytes room used out) = (called_of p used (take_questions p s bytes room used out)).used
+used_after (read p) = 0
 used_after (restore n t own plan journal out) = (restored_of (restore_questions n t own 1 plan journal out)).used
 
 -- what a row claims
@@ -60,21 +60,18 @@ star =
     ∷ []
 
 -- board 0 of four, one of which may be faulty, on that range: set up, then started at 1; and set up, then given board 3's first echo of 2
-abbrev pub fresh : Member
-fresh = (set_up_of 4 1 0 1 range).member
+abbrev pub fresh : Party
+fresh = (set_up_of 4 1 0 1 range).party
 
-abbrev pub begun : Member
-begun = (called_of fresh 0 (start_questions fresh (pos 1) 3 0 3000)).member
+abbrev pub begun : Party
+begun = (called_of fresh 0 (start_questions fresh (pos 1) 3 0 2640)).party
 
-abbrev pub holding : Member
-holding = (called_of fresh 0 (take_questions fresh 3 (0x01 ∷ 0x00 ∷ 0x01 ∷ 0x02 ∷ []) 6 0 3000)).member
+abbrev pub holding : Party
+holding = (called_of fresh 0 (take_questions fresh 3 (0x01 ∷ 0x00 ∷ 0x01 ∷ 0x02 ∷ []) 6 0 2640)).party
 
 -- the record with as many faulty boards as boards
-abbrev pub damaged : Member → Member
-damaged m = record {
-  party = record { n = m.party.n; t = m.party.n; own = m.party.own; agreement = m.party.agreement; plan = m.party.plan; levels = m.party.levels };
-  closing = m.closing;
-}
+abbrev pub damaged : Party → Party
+damaged p = record { n = p.n; t = p.n; own = p.own; agreement = p.agreement; plan = p.plan; levels = p.levels }
 
 -- a start of this agreement at 1 and board 3's first echo of 2, as records, and a byte that begins no record
 abbrev pub start_record : List ℕ
@@ -88,7 +85,7 @@ no_record = 0x03 ∷ []
 
 -- four boards, range, a journal
 abbrev pub replay : List ℕ → Call
-replay journal = restore 4 1 0 range journal 3000
+replay journal = restore 4 1 0 range journal 2640
 
 unfoldable pub table : List Row
 table =
@@ -145,71 +142,71 @@ table =
     -- no spare byte
     ∷ accepts (set_up 4 1 0 (0x02 ∷ 0xFE ∷ 0xFF ∷ 0xFF ∷ 0xFF ∷ 0x0F ∷ 0x00 ∷ [])) 0
     -- ---- start: 19, 18, 20, 13, 12, 17
-    -- a started party with a damaged record, an input off the plan, 3 used bytes of 2, an outgoing buffer of 2,999
-    ∷ refuses (start (damaged begun) (pos 3) 2 3 2999) 19 0
+    -- a started party with a damaged record, an input off the plan, 3 used bytes of 2, an outgoing buffer of 2,639
+    ∷ refuses (start (damaged begun) (pos 3) 2 3 2639) 19 0
     -- not damaged
-    ∷ refuses (start begun (pos 3) 2 3 2999) 18 0
-    -- 3,000
-    ∷ refuses (start begun (pos 3) 2 3 3000) 20 0
+    ∷ refuses (start begun (pos 3) 2 3 2639) 18 0
+    -- 2,640
+    ∷ refuses (start begun (pos 3) 2 3 2640) 20 0
     -- 2 used bytes of 2
-    ∷ refuses (start begun (pos 3) 2 2 3000) 13 0
+    ∷ refuses (start begun (pos 3) 2 2 2640) 13 0
     -- not started
-    ∷ refuses (start fresh (pos 3) 2 2 3000) 12 0
+    ∷ refuses (start fresh (pos 3) 2 2 2640) 12 0
     -- on the plan
-    ∷ refuses (start fresh (pos 2) 2 2 3000) 17 0
+    ∷ refuses (start fresh (pos 2) 2 2 2640) 17 0
     -- 5 bytes
-    ∷ accepts (start fresh (pos 2) 5 2 3000) 5
+    ∷ accepts (start fresh (pos 2) 5 2 2640) 5
     -- started, on the plan, no room
-    ∷ refuses (start begun (pos 2) 2 2 3000) 13 0
+    ∷ refuses (start begun (pos 2) 2 2 2640) 13 0
     -- ---- take: 19, 18, 20, 14, then 15, 22, 23 or 24, 16, 17
-    -- a damaged record, sender 4 of 4, a first echo of agreement 2 without its value, 3 used bytes of 2, an outgoing buffer of 2,999
-    ∷ refuses (take (damaged fresh) 4 (0x02 ∷ 0x00 ∷ 0x01 ∷ []) 2 3 2999) 19 0
+    -- a damaged record, sender 4 of 4, a first echo of agreement 2 without its value, 3 used bytes of 2, an outgoing buffer of 2,639
+    ∷ refuses (take (damaged fresh) 4 (0x02 ∷ 0x00 ∷ 0x01 ∷ []) 2 3 2639) 19 0
     -- not damaged
-    ∷ refuses (take fresh 4 (0x02 ∷ 0x00 ∷ 0x01 ∷ []) 2 3 2999) 18 0
-    -- 3,000
-    ∷ refuses (take fresh 4 (0x02 ∷ 0x00 ∷ 0x01 ∷ []) 2 3 3000) 20 0
+    ∷ refuses (take fresh 4 (0x02 ∷ 0x00 ∷ 0x01 ∷ []) 2 3 2639) 18 0
+    -- 2,640
+    ∷ refuses (take fresh 4 (0x02 ∷ 0x00 ∷ 0x01 ∷ []) 2 3 2640) 20 0
     -- 2 used bytes of 2
-    ∷ refuses (take fresh 4 (0x02 ∷ 0x00 ∷ 0x01 ∷ []) 2 2 3000) 14 0
+    ∷ refuses (take fresh 4 (0x02 ∷ 0x00 ∷ 0x01 ∷ []) 2 2 2640) 14 0
     -- sender 3
-    ∷ refuses (take fresh 3 (0x02 ∷ 0x00 ∷ 0x01 ∷ []) 2 2 3000) 15 3
+    ∷ refuses (take fresh 3 (0x02 ∷ 0x00 ∷ 0x01 ∷ []) 2 2 2640) 15 3
     -- with its value
-    ∷ refuses (take fresh 3 (0x02 ∷ 0x00 ∷ 0x01 ∷ 0x02 ∷ []) 2 2 3000) 16 0
+    ∷ refuses (take fresh 3 (0x02 ∷ 0x00 ∷ 0x01 ∷ 0x02 ∷ []) 2 2 2640) 16 0
     -- of agreement 1
-    ∷ refuses (take fresh 3 (0x01 ∷ 0x00 ∷ 0x01 ∷ 0x02 ∷ []) 2 2 3000) 17 0
+    ∷ refuses (take fresh 3 (0x01 ∷ 0x00 ∷ 0x01 ∷ 0x02 ∷ []) 2 2 2640) 17 0
     -- 8 bytes
-    ∷ accepts (take fresh 3 (0x01 ∷ 0x00 ∷ 0x01 ∷ 0x02 ∷ []) 8 2 3000) 8
+    ∷ accepts (take fresh 3 (0x01 ∷ 0x00 ∷ 0x01 ∷ 0x02 ∷ []) 8 2 2640) 8
     -- sender 4, a message of agreement 2
-    ∷ refuses (take fresh 4 (0x02 ∷ 0x00 ∷ 0x01 ∷ 0x02 ∷ []) 8 2 3000) 14 0
+    ∷ refuses (take fresh 4 (0x02 ∷ 0x00 ∷ 0x01 ∷ 0x02 ∷ []) 8 2 2640) 14 0
     -- sender 4, no room
-    ∷ refuses (take fresh 4 (0x01 ∷ 0x00 ∷ 0x01 ∷ 0x02 ∷ []) 2 2 3000) 14 0
+    ∷ refuses (take fresh 4 (0x01 ∷ 0x00 ∷ 0x01 ∷ 0x02 ∷ []) 2 2 2640) 14 0
     -- sender 4, level 15
-    ∷ refuses (take fresh 4 (0x02 ∷ 0x0F ∷ 0x01 ∷ 0x02 ∷ []) 2 2 3000) 14 0
+    ∷ refuses (take fresh 4 (0x02 ∷ 0x0F ∷ 0x01 ∷ 0x02 ∷ []) 2 2 2640) 14 0
     -- of agreement 2, no room: its number not in the fewest bytes; of level 15; with a spare byte: 22, 23 and 24 before 16 and 17
-    ∷ refuses (take fresh 3 (0x82 ∷ 0x00 ∷ 0x00 ∷ 0x01 ∷ 0x02 ∷ []) 2 2 3000) 22 0
-    ∷ refuses (take fresh 3 (0x02 ∷ 0x0F ∷ 0x01 ∷ 0x02 ∷ []) 2 2 3000) 23 1
-    ∷ refuses (take fresh 3 (0x02 ∷ 0x00 ∷ 0x01 ∷ 0x02 ∷ 0x00 ∷ []) 2 2 3000) 24 4
+    ∷ refuses (take fresh 3 (0x82 ∷ 0x00 ∷ 0x00 ∷ 0x01 ∷ 0x02 ∷ []) 2 2 2640) 22 0
+    ∷ refuses (take fresh 3 (0x02 ∷ 0x0F ∷ 0x01 ∷ 0x02 ∷ []) 2 2 2640) 23 1
+    ∷ refuses (take fresh 3 (0x02 ∷ 0x00 ∷ 0x01 ∷ 0x02 ∷ 0x00 ∷ []) 2 2 2640) 24 4
     -- "Held already, or record fits?": held already, no room; accepted with no record
-    ∷ accepts (take holding 3 (0x01 ∷ 0x00 ∷ 0x01 ∷ 0x02 ∷ []) 2 2 3000) 2
+    ∷ accepts (take holding 3 (0x01 ∷ 0x00 ∷ 0x01 ∷ 0x02 ∷ []) 2 2 2640) 2
     -- the same of agreement 2
-    ∷ refuses (take holding 3 (0x02 ∷ 0x00 ∷ 0x01 ∷ 0x02 ∷ []) 2 2 3000) 16 0
+    ∷ refuses (take holding 3 (0x02 ∷ 0x00 ∷ 0x01 ∷ 0x02 ∷ []) 2 2 2640) 16 0
     -- ---- reading the answer: 19
     -- a damaged record
     ∷ refuses (read (damaged begun)) 19 0
     -- not damaged
     ∷ accepts (read begun) 0
     -- ---- restore: 18, 1, 2, 3, the plan, the records
-    -- an outgoing buffer of 2,999, 17 boards, 6 of them faulty, own number 17, a plan with a spare byte, no record
-    ∷ refuses (restore 17 6 17 (range ++ (0x00 ∷ [])) no_record 2999) 18 0
-    -- 3,000
-    ∷ refuses (restore 17 6 17 (range ++ (0x00 ∷ [])) no_record 3000) 1 0
+    -- an outgoing buffer of 2,639, 17 boards, 6 of them faulty, own number 17, a plan with a spare byte, no record
+    ∷ refuses (restore 17 6 17 (range ++ (0x00 ∷ [])) no_record 2639) 18 0
+    -- 2,640
+    ∷ refuses (restore 17 6 17 (range ++ (0x00 ∷ [])) no_record 2640) 1 0
     -- 16 boards
-    ∷ refuses (restore 16 6 17 (range ++ (0x00 ∷ [])) no_record 3000) 2 0
+    ∷ refuses (restore 16 6 17 (range ++ (0x00 ∷ [])) no_record 2640) 2 0
     -- 5 faulty
-    ∷ refuses (restore 16 5 17 (range ++ (0x00 ∷ [])) no_record 3000) 3 0
+    ∷ refuses (restore 16 5 17 (range ++ (0x00 ∷ [])) no_record 2640) 3 0
     -- own number 15
-    ∷ refuses (restore 16 5 15 (range ++ (0x00 ∷ [])) no_record 3000) 11 3
+    ∷ refuses (restore 16 5 15 (range ++ (0x00 ∷ [])) no_record 2640) 11 3
     -- no spare byte
-    ∷ refuses (restore 16 5 15 range no_record 3000) 21 0
+    ∷ refuses (restore 16 5 15 range no_record 2640) 21 0
     -- ---- a taken record, after a start's: 21, 16, 14
     -- sender 4 of 4, agreement 2, a first echo of 17
     ∷ refuses (replay (start_record ++ (0x02 ∷ 0x04 ∷ 0x02 ∷ 0x00 ∷ 0x01 ∷ 0x11 ∷ []))) 21 3

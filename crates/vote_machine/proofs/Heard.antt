@@ -21,7 +21,7 @@ use Rattle.level_laws.specs.Inner.{heard_from}
 use Rattle.level_laws.proofs.Taken.{taken_back, taken_heard}
 use Rattle.party.specs.Party.{Party, new_party, level_at, with_level, started, hearing}
 use Rattle.party.specs.Run.{starting, taking}
-use Rattle.party_laws.proofs.Laws.{level_same, level_other, level_past, starting_kept_lem, taking_kept, taking_sets}
+use Rattle.party_laws.proofs.Laws.{level_same, level_other, level_past, starting_kept, taking_kept, taking_sets}
 use Rattle.party_laws.proofs.Calls.{new_level, table_level}
 use Rattle.execution.specs.Machine.{start, take}
 use Rattle.vote_machine.specs.Machine.{called, Heard}
@@ -65,7 +65,7 @@ heard_new n t own a plan s m h = go (dec_lt m.level level_count)
 
 pub heard_starting : (p : Party) (x : ℕ) → (T (started p) → ⊥) → (s : ℕ) (m : Message) → Heard (starting p x).party s m → Heard p s m
 heard_starting p x new s m h =
-    let k = starting_kept_lem p x new in
+    let k = starting_kept p x new in
     record {
       number = h.number ∙ k.0.board.agreement;
       body = sets_heard (level_at (starting p x).party m.level) (level_at p m.level) (k.1 m.level) m.body s h.body;

@@ -15,7 +15,7 @@ use Rattle.party.specs.Party.{Party, new_party, level_at, sending, entered, star
 use Rattle.party.specs.Run.{Ran, open_at, step_at, resting, run, starting, taking}
 use Rattle.party.specs.Valid.{settings_pass}
 use Rattle.party_laws.proofs.Laws.{sending_entered, entered_level, formed_new, fresh_new, run_keeps, starting_keeps, taking_keeps}
-use Rattle.party_laws.proofs.Laws.{starting_kept_lem, taking_kept, starting_grown, taking_grown}
+use Rattle.party_laws.proofs.Laws.{starting_kept, taking_kept, starting_grown, taking_grown}
 use Rattle.party_laws.proofs.Calls.{new_level}
 use Rattle.party_life.proofs.Fits.{fits_start, fitting_start, fits_taken, fitting_taken}
 use Rattle.execution.specs.Machine.{Event, start, take}
@@ -77,7 +77,7 @@ regular_taking p r s m k t = taking_keeps Regular (λ q i r. regular_step q r i)
 
 pub le_starting : (p : Party) → Regular p → (x : ℕ) → (T (started p) → ⊥) → Le p (starting p x).party
 le_starting p r x new =
-    kept_le p (starting p x).party r.formed (starting_kept_lem p x new).0 (starting_grown p r.formed.full r.fresh x new).0
+    kept_le p (starting p x).party r.formed (starting_kept p x new).0 (starting_grown p r.formed.full r.fresh x new).0
 
 pub le_taking : (p : Party) → Regular p → (s : ℕ) (m : Message) → Le p (taking p s m).party
 le_taking p r s m = kept_le p (taking p s m).party r.formed (taking_kept p s m) (taking_grown p r.formed.full r.fresh s m).0

@@ -5,9 +5,11 @@ use mathlib.Core.List.Memᴰ
 use mathlib.Core.List.{List, [], ◌∷◌, ◌++◌, Memᴰ}
 use lib.Dec.{T}
 use Rattle.message.specs.declared.Message.{Message}
+use Rattle.journal.specs.declared.Record.{Record}
+use Rattle.journal.specs.declared.Record.TheVariants.{Start, Taken}
 use Rattle.party.specs.Party.{Party}
 use Rattle.party.specs.Run.{Ran}
-use Rattle.party_life.specs.Life.{Record, Start, Taken, replayed, lived, Fits, Life, made_along}
+use Rattle.party_life.specs.Life.{replayed, lived, Fits, Life, made_along}
 use Rattle.party_life.proofs.Fits.{fits_start}
 use Rattle.vote_machine.specs.Machine.{accepts, accepted, called, Sent, event_of}
 use Rattle.vote_machine.specs.Inner.{Regular, Inv, Le}

@@ -11,12 +11,14 @@ use Rattle.plan.specs.Valid.{plan_valid}
 use Rattle.component.specs.Component.{whole_of}
 use Rattle.message.specs.declared.Message.{Message}
 use Rattle.message.specs.Message.{in_table}
+use Rattle.journal.specs.declared.Record.{Record}
+use Rattle.journal.specs.declared.Record.TheVariants.{Start, Taken}
 use Rattle.level.specs.Level.{Level}
 use Rattle.party.specs.Party.{Party, new_party, level_at, entered, started}
 use Rattle.party.specs.Run.{Ran, open_at, step_at, starting, taking}
 use Rattle.party.specs.Valid.{settings_pass}
 use Rattle.party_laws.proofs.Laws.{entry_level, run_kept, taking_kept, taking_keeps, open_sending, sending_entered, entered_down}
-use Rattle.party_life.specs.Life.{Record, Start, Taken, replayed, lived, Fits, Life, made_along}
+use Rattle.party_life.specs.Life.{replayed, lived, Fits, Life, made_along}
 use Rattle.party_life.proofs.Fits.{fits_start, fits_taken}
 use Rattle.execution.specs.History.{after}
 use Rattle.vote_machine.specs.Machine.{called, Heard, Sent, vote_machine, event_of, events_of}

@@ -3,9 +3,11 @@ use Rattle.std.specs.Prelude.{◌≡◌, Bool, List, [], ◌∷◌, ℕ, T, ltb}
 use Rattle.base.specs.Pick.{pick}
 use Rattle.plan.specs.Plan.{Plan}
 use Rattle.message.specs.declared.Message.{Message}
+use Rattle.journal.specs.declared.Record.{Record}
+use Rattle.journal.specs.declared.Record.TheVariants.{Start, Taken}
 use Rattle.party.specs.Party.{Party, new_party, level_at, sending, context_of}
 use Rattle.party.specs.Run.{Ran, resting, starting, taking}
-use Rattle.party_life.specs.Life.{Record, Start, Taken, passes}
+use Rattle.party_life.specs.Life.{passes}
 use Rattle.execution.specs.Machine.{Event, start, take, Machine}
 use Rattle.level_laws.specs.Inner.{heard_from, SentIn}
 

@@ -9,8 +9,8 @@ use mir.ValLaws.{to_z-of_z}
 use Rattle.base.specs.Pick.{pick}
 use Rattle.base.proofs.Bools.{true→T}
 use Rattle.rounding.specs.Rounding.{size_passes, nearest_step, remainder}
-use Rattle.member.specs.Member.{Member}
-use Rattle.member.specs.Tie.{as_member}
+use Rattle.party.specs.Party.{Party}
+use Rattle.party.specs.Tie.{as_party}
 use Rattle.board_calls.specs.Answers.{position_of}
 use Rattle.board_calls.specs.Calls.{start_questions}
 use Rattle.board_calls.specs.Counts.{count_position, start_count_questions}
@@ -22,7 +22,7 @@ use Rattle.board_counts.proofs.start_count.Goals as goal
 
 pub returns-then-not-size_passes : goal.returns-then-not-size_passes
 returns-then-not-size_passes c =
-    refused_starts (as_member c.args.m) c.args.size c.args.count c.args.used (length c.args.journal.now) (length c.args.out.now)
+    refused_starts (as_party c.args.p) c.args.size c.args.count c.args.used (length c.args.journal.now) (length c.args.out.now)
     (sym c.size_passes.ensures ∙ c.if-not-size_passes.true) c.size_refusal-number.ensures
 
 -- the size passes
@@ -34,16 +34,16 @@ round-r-requires c = passes (goal.at.round-r-requires c).Else-not-size_passes
 
 -- the start of the input that was asked for
 module _ (c : After-start-c) where
-  abbrev p : Member
-  p = as_member c.args.m
+  abbrev p : Party
+  p = as_party c.args.p
 
   abbrev input : ℤ
   input = to_z w64 (of_z w64 c.step_input-input.result)
 
-  at : position_of p.party.plan input ≡ count_position p.party.plan c.args.size c.args.count
+  at : position_of p.plan input ≡ count_position p.plan c.args.size c.args.count
   at =
-      ap (position_of p.party.plan) (to_z-of_z w64 c.step_input-input.result (record { sfits = c.step_input-input.type_inv }))
-      ∙ at_count p.party.plan c.args.size c.args.count c.step_input-input.result (to_z w64 (of_z w64 c.round-r.result.step)) c.step_input-input.ensures
+      ap (position_of p.plan) (to_z-of_z w64 c.step_input-input.result (record { sfits = c.step_input-input.type_inv }))
+      ∙ at_count p.plan c.args.size c.args.count c.step_input-input.result (to_z w64 (of_z w64 c.round-r.result.step)) c.step_input-input.ensures
       (to_z-of_z w64 c.round-r.result.step (search rules)
       ∙ c.round-r.ensures.0
       ∙ ap (nearest_step c.args.size) (to_z-of_z w64 c.args.count c.ranges.count))

@@ -10,4 +10,4 @@ returns-in-Accepted c =
 pub returns-in-Refused : goal.returns-in-Refused
 returns-in-Refused c =
     let a = c.args in
-    set_up_refused a.n a.t a.own a.agreement a.bytes.now _ _ c.settle-r.ensures c.in-Refused.is c.no_member.ensures
+    set_up_refused a.n a.t a.own a.agreement a.bytes.now _ _ c.settle-r.ensures c.in-Refused.is c.no_party.ensures

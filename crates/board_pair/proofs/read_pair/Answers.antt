@@ -1,7 +1,7 @@
 -- `board_pair::read_pair` meets its contract, question by question.
 use mathlib.Core.Path.{◌≡◌, sym, ap, ap₂, ◌∙◌}
 use Rattle.base.specs.declared.Verdict.{Verdict}
-use Rattle.member.specs.Tie.{as_member}
+use Rattle.party.specs.Tie.{as_party}
 use Rattle.board_calls.specs.declared.Answered.{Answered}
 use Rattle.board_calls.specs.Calls.{answered_of}
 use Rattle.board_pair.specs.declared.PairAnswer.{PairAnswer}
@@ -14,22 +14,22 @@ pub returns-in-Refused : goal.returns-in-Refused
 returns-in-Refused c =
     let s = c.args in
     c.refuse.ensures
-    ∙ ap pair_gives (sym (first_refused (as_member s.first) (as_member s.second) (own_verdict (as_member s.first) c.read_answer-a.ensures c.in-Refused.is)))
+    ∙ ap pair_gives (sym (first_refused (as_party s.first) (as_party s.second) (own_verdict (as_party s.first) c.read_answer-a.ensures c.in-Refused.is)))
 
--- the first board's reading is accepted
-first-told : (c : In_default) → (answered_of (as_member c.args.first)).verdict ≡ Verdict.Accepted
-first-told c = own_verdict (as_member c.args.first) c.read_answer-a.ensures c.in_default.is
+-- the first party's reading is accepted
+first-told : (c : In_default) → (answered_of (as_party c.args.first)).verdict ≡ Verdict.Accepted
+first-told c = own_verdict (as_party c.args.first) c.read_answer-a.ensures c.in_default.is
 
 pub returns-in-Refused-w : goal.returns-in-Refused-w
 returns-in-Refused-w c =
     let r = c in
     let s = r.args in
     c.refuse-in-Refused-w.ensures
-    ∙ ap pair_gives (sym (second_refused (as_member s.first) (as_member s.second) (first-told (goal.at.returns-in-Refused-w c).In_default) (own_verdict (as_member s.second) r.read_answer-b.ensures c.in-Refused-w.is)))
+    ∙ ap pair_gives (sym (second_refused (as_party s.first) (as_party s.second) (first-told (goal.at.returns-in-Refused-w c).In_default) (own_verdict (as_party s.second) r.read_answer-b.ensures c.in-Refused-w.is)))
 
 -- the second's too
-second-told : (c : In_default-w) → (answered_of (as_member c.args.second)).verdict ≡ Verdict.Accepted
-second-told c = own_verdict (as_member c.args.second) c.read_answer-b.ensures c.in_default-w.is
+second-told : (c : In_default-w) → (answered_of (as_party c.args.second)).verdict ≡ Verdict.Accepted
+second-told c = own_verdict (as_party c.args.second) c.read_answer-b.ensures c.in_default-w.is
 
 pub returns-then-first_number-second_number : goal.returns-then-first_number-second_number
 returns-then-first_number-second_number c =
@@ -37,7 +37,7 @@ returns-then-first_number-second_number c =
     let e = (goal.at.returns-then-first_number-second_number c).In_default in
     let s = e.args in
     c.refuse-then-first_number-second_number.ensures
-    ∙ ap pair_gives (sym (equal_numbers (as_member s.first) (as_member s.second) (first-told e) (second-told r) c.if-first_number-second_number.true))
+    ∙ ap pair_gives (sym (equal_numbers (as_party s.first) (as_party s.second) (first-told e) (second-told r) c.if-first_number-second_number.true))
 
 pub returns-then-first_kind-ne-RANGE : goal.returns-then-first_kind-ne-RANGE
 returns-then-first_kind-ne-RANGE c =
@@ -46,7 +46,7 @@ returns-then-first_kind-ne-RANGE c =
     let e = (goal.at.returns-then-first_kind-ne-RANGE c).In_default in
     let s = e.args in
     c.refuse-then-first_kind-ne-RANGE.ensures
-    ∙ ap pair_gives (sym (first_no_range (as_member s.first) (as_member s.second) (first-told e) (second-told r) n.if-first_number-second_number.false c.if-first_kind-ne-RANGE.true))
+    ∙ ap pair_gives (sym (first_no_range (as_party s.first) (as_party s.second) (first-told e) (second-told r) n.if-first_number-second_number.false c.if-first_kind-ne-RANGE.true))
 
 pub returns-then-second_kind-ne-RANGE : goal.returns-then-second_kind-ne-RANGE
 returns-then-second_kind-ne-RANGE c =
@@ -56,7 +56,7 @@ returns-then-second_kind-ne-RANGE c =
     let e = (goal.at.returns-then-second_kind-ne-RANGE c).In_default in
     let s = e.args in
     c.refuse-then-second_kind-ne-RANGE.ensures
-    ∙ ap pair_gives (sym (second_no_range (as_member s.first) (as_member s.second) (first-told e) (second-told r) n.if-first_number-second_number.false k.if-first_kind-ne-RANGE.false c.if-second_kind-ne-RANGE.true))
+    ∙ ap pair_gives (sym (second_no_range (as_party s.first) (as_party s.second) (first-told e) (second-told r) n.if-first_number-second_number.false k.if-first_kind-ne-RANGE.false c.if-second_kind-ne-RANGE.true))
 
 pub returns : goal.returns
 returns c =
@@ -67,4 +67,4 @@ returns c =
     let s = e.args in
     let pair = c.pair_of-pair.ensures ∙ ap₂ (λ (a b : Answered). pair_of a.answer b.answer) e.read_answer-a.ensures r.read_answer-b.ensures in
     ap (λ (x : PairAnswer). record { verdict = Verdict.Accepted; answer = x }) pair
-    ∙ ap pair_gives (sym (all_pass (as_member s.first) (as_member s.second) (first-told e) (second-told r) n.if-first_number-second_number.false k.if-first_kind-ne-RANGE.false c.if-second_kind-ne-RANGE.false))
+    ∙ ap pair_gives (sym (all_pass (as_party s.first) (as_party s.second) (first-told e) (second-told r) n.if-first_number-second_number.false k.if-first_kind-ne-RANGE.false c.if-second_kind-ne-RANGE.false))

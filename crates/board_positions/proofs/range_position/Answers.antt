@@ -55,6 +55,6 @@ pub returns : goal.returns
 returns c =
     let s = c in
     let m : c.magnitude-x.result ≡ mag s.args.input = c.magnitude-x.ensures ∙ mag_back w64 s.args.input s.ranges.input in
-    c.«on-plan2».ensures
+    c.on_plan-2.ensures
     ∙ ap (λ (x : ℕ). on_plan (as_plan s.args.plan) (x + offset_zero - s.args.plan.low)) m
     ∙ range_natural (as_plan s.args.plan) s.args.input (mag s.args.input) (from_zero w64 s.args.input s.ranges.input c.if-input-lt0.false) (omega arith)

@@ -26,10 +26,10 @@ passes c e = subst (Gave c) e c.ask-a.ensures
 pub replay_all-g-requires : goal.replay_all-g-requires
 replay_all-g-requires c =
     let a = (goal.at.replay_all-g-requires c).After-ask-a in
-    restore_asks (vote a) c.shape-shape.ensures c.new-new.result c.new-new.ensures c.none-none.result c.none-none.ensures (passes a c.in_default.is).0
+    restore_asks (vote a) c.shape-shape.ensures c.new-new.result c.new-new.ensures (passes a c.in_default.is).0
 
 pub returns : goal.returns
 returns c =
     let a = (goal.at.returns c).After-ask-a in
-    restore_gives (vote a) c.shape-shape.ensures c.new-new.result c.new-new.ensures c.none-none.result c.none-none.ensures
+    restore_gives (vote a) c.shape-shape.ensures c.new-new.result c.new-new.ensures
     c.args.journal.now c.replay_all-g.new.sets c.replay_all-g.result (passes a c.in_default.is).1 c.replay_all-g.ensures c.accept.ensures

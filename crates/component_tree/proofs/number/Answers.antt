@@ -20,8 +20,8 @@ ranks-d-requires c =
     let s = c in
     let O = s.requires.0 in
     let room : s.args.n ≤ length (set s.args.ports.now s.args.c 0) = omega (arith, s.requires.0.most) in
-    let N = near_is s.args.ps.now s.args.cs.now s.args.n s.args.ports.now s.requires.0 s.args.c s.requires.2 room c.around.new.near max_vertices c.around.ensures.1 in
-    (omega (arith, O.most), omega (arith, O.most), apart s.args.ps.now s.args.cs.now s.args.n s.args.ports.now s.requires.0 s.args.c s.requires.2 room c.around.new.out c.around.new.near c.around.ensures.0 N, few s.args.ps.now s.args.cs.now s.args.n s.args.ports.now s.requires.0 s.args.c s.requires.2 room c.around.new.out c.around.new.near c.around.ensures.0 N)
+    let N = near_is s.args.ps.now s.args.cs.now s.args.n s.args.ports.now s.requires.0 s.args.c s.requires.2 room c.around.new.near max_vertices c.around.ensures.near in
+    (omega (arith, O.most), omega (arith, O.most), apart s.args.ps.now s.args.cs.now s.args.n s.args.ports.now s.requires.0 s.args.c s.requires.2 room c.around.new.out c.around.new.near c.around.ensures.labels N, few s.args.ps.now s.args.cs.now s.args.n s.args.ports.now s.requires.0 s.args.c s.requires.2 room c.around.new.out c.around.new.near c.around.ensures.labels N)
 
 pub renumber-requires : goal.renumber-requires
 renumber-requires c =
@@ -36,5 +36,5 @@ pub returns : goal.returns
 returns c =
     let s = c in
     let room : s.args.n ≤ length (set s.args.ports.now s.args.c 0) = omega (arith, s.requires.0.most) in
-    let N = near_is s.args.ps.now s.args.cs.now s.args.n s.args.ports.now s.requires.0 s.args.c s.requires.2 room c.around.new.near max_vertices c.around.ensures.1 in
-    (degree_is s.args.ps.now s.args.cs.now s.args.n s.args.ports.now s.requires.0 s.args.c s.requires.2 room c.around.new.out c.around.new.near c.around.ensures.0 N c.ranks-d.ensures.0, ports_are s.args.ps.now s.args.cs.now s.args.n s.args.ports.now s.requires.0 s.args.c s.requires.2 room c.around.new.out c.around.new.near c.around.ensures.0 N c.ranks-d.new.table c.ranks-d.ensures.1 c.renumber.new.ports (omega (arith, centre_below s.requires.0 s.requires.2, s.requires.0.most)) s.requires.1 c.renumber.ensures)
+    let N = near_is s.args.ps.now s.args.cs.now s.args.n s.args.ports.now s.requires.0 s.args.c s.requires.2 room c.around.new.near max_vertices c.around.ensures.near in
+    (degree_is s.args.ps.now s.args.cs.now s.args.n s.args.ports.now s.requires.0 s.args.c s.requires.2 room c.around.new.out c.around.new.near c.around.ensures.labels N c.ranks-d.ensures.0, ports_are s.args.ps.now s.args.cs.now s.args.n s.args.ports.now s.requires.0 s.args.c s.requires.2 room c.around.new.out c.around.new.near c.around.ensures.labels N c.ranks-d.new.table c.ranks-d.ensures.1 c.renumber.new.ports (omega (arith, centre_below s.requires.0 s.requires.2, s.requires.0.most)) s.requires.1 c.renumber.ensures)

@@ -1,5 +1,4 @@
 use mathlib.Core.Path.{refl, ◌∙◌}
-use Prim.Native.Nat.{◌-◌}
 use native.Mathlib.Omega.{arith}
 use borrow.Author.Rules.{rules}
 use Rattle.marks.proofs.Marks.{count_start, count_end, count_step}
@@ -13,7 +12,7 @@ pub rank-k-requires : goal.rank-k-requires
 rank-k-requires c =
     let s = c in
     let o = c.loop-x in
-    (omega (arith, c.wide.ensures, c.shared-slice-known4.given o.x), rank_room s.args.near.now s.args.labels.now s.args.n s.requires.2 o.x o.k c.loop-x-test.true o.invariant.1 s.requires.3)
+    (omega (arith, c.wide.ensures, c.type_inv.labels o.x), rank_room s.args.near.now s.args.labels.now s.args.n s.requires.2 o.x o.k c.loop-x-test.true o.invariant.1 s.requires.3)
 
 pub loop-x-preserved : goal.loop-x-preserved
 loop-x-preserved c =
@@ -22,7 +21,7 @@ loop-x-preserved c =
       search rules,
       c.rank-k.ensures.0 ∙ count_step s.args.near.now o.x o.k _ o.invariant.1 refl,
       ranked_more s.args.near.now s.args.labels.now s.args.n s.requires.2 o.x o.k c.loop-x-test.true o.invariant.1 o.table c.rank-k.new.table c.wide.result
-          c.wide.ensures (omega (arith, c.wide.ensures, c.shared-slice-known4.given o.x)) c.rank-k.ensures.1 o.invariant.2,
+          c.wide.ensures (omega (arith, c.wide.ensures, c.type_inv.labels o.x)) c.rank-k.ensures.1 o.invariant.2,
     )
 
 pub returns : goal.returns

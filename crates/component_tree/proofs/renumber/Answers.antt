@@ -1,5 +1,5 @@
 use mathlib.Core.Path.{ap, ◌∙◌}
-use Prim.Native.Nat.{ℕ, ◌-◌}
+use Prim.Native.Nat.{ℕ}
 use native.Mathlib.Omega.{arith}
 use lib.Dec.{eqb}
 use lib.ListN.{get_or}
@@ -12,9 +12,6 @@ use Rattle.component_tree.proofs.renumber.Goals as goal
 
 pub loop-x-init : goal.loop-x-init
 loop-x-init c = let s = c in (search rules, search rules, written_start (new s.args.ports.now s.args.labels.now s.args.table.now) s.args.ports.now)
-
-pub bounds-table-wide : goal.bounds-table-wide
-bounds-table-wide c = omega (arith, c.wide.ensures, c.shared-slice-known2.given c.loop-x.x)
 
 pub loop-x-preserved : goal.loop-x-preserved
 unfolding marked

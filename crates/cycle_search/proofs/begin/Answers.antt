@@ -17,7 +17,7 @@ join_all-requires c = (search rules, search rules, search rules, search rules, (
 pub keep_ends-requires : goal.keep_ends-requires
 keep_ends-requires c =
     let j = c in
-    let s = j.before.before.before.before.before.before.before.before.before in
+    let s = (goal.at.keep_ends-requires c).Start in
     ((rejected s).one_below, search rules, (sets_of _ j.join_all.new.moved (rows _ _ s.args.j) _ j.join_all.ensures).rooted)
 
 pub returns : goal.returns
@@ -25,7 +25,7 @@ returns c =
     let e = c in
     let k = e in
     let j = k in
-    let s = j.before.before.before.before.before.before.before.before.before in
+    let s = (goal.at.returns c).Start in
     let moved = j.join_all.new.moved in
     let up = j.join_all.new.up in
     let from = k.keep_alone.new.from in

@@ -4,7 +4,6 @@ use Rattle.base.specs.Limits.{max_position}
 use Rattle.format.specs.Format.{says}
 use Rattle.journal.specs.declared.Record.TheVariants.{Start}
 use Rattle.journal.proofs.Laws.{read_next, read_broken}
-use Rattle.journal.proofs.read_position.Goals.{Start}
 use Rattle.journal.proofs.read_position.Goals as goal
 
 pub returns-in-Value : goal.returns-in-Value

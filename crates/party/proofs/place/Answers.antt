@@ -1,5 +1,5 @@
 use native.Mathlib.Omega.{arith}
-use Rattle.message.proofs.Values.{table_parts}
+use Rattle.message.proofs.RoundTrip.{table_parts}
 use Rattle.level_counts.proofs.Slots.{slot_lt}
 use Rattle.party.proofs.place.Goals as goal
 

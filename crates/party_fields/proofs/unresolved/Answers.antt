@@ -11,7 +11,13 @@ places : (s : Start) → length s.args.l.echoed ≡ value_count
 places s = search rules
 
 pub returns-then-l-ne-NOT_YET : goal.returns-then-l-ne-NOT_YET
-returns-then-l-ne-NOT_YET c = (rw (ne_eqb _ _ c.if-l-ne-NOT_YET.true), places (goal.at.returns-then-l-ne-NOT_YET c).Start)
+returns-then-l-ne-NOT_YET c = record {
+  answers = rw (ne_eqb _ _ c.if-l-ne-NOT_YET.true);
+  sized = places (goal.at.returns-then-l-ne-NOT_YET c).Start;
+}
 
 pub returns : goal.returns
-returns c = (rw (eq-eqb _ _ c.if-l-ne-NOT_YET.false), places (goal.at.returns c).Start)
+returns c = record {
+  answers = rw (eq-eqb _ _ c.if-l-ne-NOT_YET.false);
+  sized = places (goal.at.returns c).Start;
+}

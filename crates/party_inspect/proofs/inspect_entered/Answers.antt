@@ -1,7 +1,6 @@
 use mathlib.Core.Path.{◌≡◌, sym, ◌∙◌}
 use lib.Dec.{T}
 use lib.ListN.{length}
-use borrow.Author.Tests.{not-true, not-false}
 use Rattle.base.proofs.Bools.{true→T}
 use Rattle.plan.specs.Plan.{Plan}
 use Rattle.plan.specs.Tie.{shaped}
@@ -22,18 +21,18 @@ places : (s : Start) → length s.args.l.echoed ≡ value_count
 places s = search rules
 
 -- its entry passes
-abbrev start : Else-not-entry_passes → Start
-start d = d.before.before.before.before.before
-
-entry-held : (d : Else-not-entry_passes) → T (entry_fits (start d).args.last.sending (start d).args.last.survey.degree (start d).args.i (start d).args.l.side)
-entry-held d = true→T (sym d.entry_passes.ensures ∙ not-false _ d.if-not-entry_passes.false-raw)
+entry-held : (d : Else-not-entry_passes) → T (entry_fits d.args.last.sending d.args.last.survey.degree d.args.i d.args.l.side)
+entry-held d = true→T (sym d.entry_passes.ensures ∙ d.if-not-entry_passes.false)
 
 pub returns-then-not-entry_passes : goal.returns-then-not-entry_passes
 returns-then-not-entry_passes c =
     let s = (goal.at.returns-then-not-entry_passes c).Start in
     let a = s.args in
     let b = c.entry_passes in
-    (entered_not (plan s) a.last a.ports.now a.i a.l b.result b.ensures _ (not-true _ c.if-not-entry_passes.true), places s)
+    record {
+      settles = entered_not (plan s) a.last a.ports.now a.i a.l b.result b.ensures _ c.if-not-entry_passes.true;
+      sized = places s;
+    }
 
 pub enter-span-requires : goal.enter-span-requires
 enter-span-requires c = (c.requires, entry-held (goal.at.enter-span-requires c).Else-not-entry_passes)
@@ -51,4 +50,7 @@ returns c =
     let b = c.entry_passes in
     let e = c.enter-span in
     let r = c.inspect_part in
-    (entered_part (plan s) a.last a.ports.now a.i a.l b.result b.ensures e.result _ _ r.result (not-false _ c.if-not-entry_passes.false-raw) e.ensures r.ensures, places s)
+    record {
+      settles = entered_part (plan s) a.last a.ports.now a.i a.l b.result b.ensures e.result _ _ r.result c.if-not-entry_passes.false e.ensures r.ensures;
+      sized = places s;
+    }

@@ -1,7 +1,6 @@
 use mathlib.Core.Path.{sym, ◌∙◌}
 use native.Mathlib.Omega.{arith}
 use lib.Dec.{T}
-use borrow.Author.Tests.{not-true, not-false}
 use Rattle.base.specs.Sets.{Set}
 use Rattle.base.proofs.Bools.{true→T}
 use Rattle.plan.specs.Plan.{Plan}
@@ -20,18 +19,15 @@ abbrev component : Start → Set
 component s = members (plan s) s.args.span s.args.ports.now
 
 -- it holds the position
-abbrev start : Else-not-contains → Start
-start d = d.before.before.before.before.before
-
-inside : (d : Else-not-contains) → T (component (start d) (start d).args.l.position)
-inside d = true→T (sym d.contains.ensures ∙ not-false _ d.if-not-contains.false-raw)
+inside : (d : Else-not-contains) → T (members (shaped d.args.shape d.args.ps.now d.args.cs.now) d.args.span d.args.ports.now d.args.l.position)
+inside d = true→T (sym d.contains.ensures ∙ d.if-not-contains.false)
 
 pub returns-then-not-contains : goal.returns-then-not-contains
 returns-then-not-contains c =
-    let s = c.before.before.before.before.before in
+    let s = (goal.at.returns-then-not-contains c).Start in
     let a = s.args in
     let b = c.contains in
-    part_elsewhere (plan s) (component s) a.l a.i a.last _ b.result b.ensures (not-true _ c.if-not-contains.true)
+    part_elsewhere (plan s) (component s) a.l a.i a.last _ b.result b.ensures c.if-not-contains.true
 
 pub size-requires : goal.size-requires
 size-requires c =
@@ -40,21 +36,21 @@ size-requires c =
 
 pub returns-then-size-lt3 : goal.returns-then-size-lt3
 returns-then-size-lt3 c =
-    let s = c.before.before.before.before.before.before.before.before.before in
+    let s = (goal.at.returns-then-size-lt3 c).Start in
     let a = s.args in
     let b = c.contains in
     let u = c.unresolved in
-    part_small (plan s) (component s) a.l a.i a.last _ b.result b.ensures (not-false _ c.if-not-contains.false-raw) u.result (omega (arith, c.size.ensures, c.if-size-lt3.true)) u.ensures.0
+    part_small (plan s) (component s) a.l a.i a.last _ b.result b.ensures c.if-not-contains.false u.result (omega (arith, c.size.ensures, c.if-size-lt3.true)) u.ensures.answers
 
 pub inspect_sending-requires : goal.inspect_sending-requires
 inspect_sending-requires c =
     let s = c in
-    (s.requires, omega (arith, c.size.ensures, c.if-size-lt3.false), inside (goal.at.inspect_sending-requires c).After-contains)
+    (s.requires, omega (arith, c.size.ensures, c.if-size-lt3.false), inside (goal.at.inspect_sending-requires c).Else-not-contains)
 
 pub returns : goal.returns
 returns c =
-    let s = c.before.before.before.before.before.before.before.before.before.before in
+    let s = (goal.at.returns c).Start in
     let a = s.args in
     let b = c.contains in
     let r = c.inspect_sending in
-    part_large (plan s) (component s) a.l a.i a.last _ b.result b.ensures (not-false _ c.if-not-contains.false-raw) r.result (omega (arith, c.size.ensures, c.if-size-lt3.false)) r.ensures.0 r.ensures.1
+    part_large (plan s) (component s) a.l a.i a.last _ b.result b.ensures c.if-not-contains.false r.result (omega (arith, c.size.ensures, c.if-size-lt3.false)) r.ensures.passes r.ensures.last

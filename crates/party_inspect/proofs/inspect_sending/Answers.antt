@@ -14,7 +14,8 @@ pub returns : goal.returns
 returns c =
     let s = c in
     let a = s.args in
-    let v = c.survey_at-s in (
-      sends_passes _ _ _ _ _ v.result v.ensures a.l c.values_pass.result c.values_pass.ensures,
-      sends_part _ _ _ _ _ v.result v.ensures a.i,
-    )
+    let v = c.survey_at-s in
+    record {
+      passes = sends_passes _ _ _ _ _ v.result v.ensures a.l c.values_pass.result c.values_pass.ensures;
+      last = sends_part _ _ _ _ _ v.result v.ensures a.i;
+    }

@@ -1,7 +1,6 @@
 -- `party_replay::start` meets its contract.
 use borrow.Author.Rules.{rules}
 use mathlib.Core.Path.{◌≡◌, sym, ◌∙◌}
-use mathlib.Core.Logic.{⊎_elim}
 use Rattle.plan.specs.Plan.{Plan}
 use Rattle.plan.specs.Tie.{shaped}
 use Rattle.component.specs.Component.{whole_of}
@@ -17,7 +16,7 @@ use lib.ListN.{length, get_or, set}
 use Rattle.party_run.proofs.Parts.{sized_in, chart_more, chart_same}
 use Rattle.party_replay.proofs.Calls.{valid_plan, whole_enterable, start_ready, start_runs}
 use Rattle.party_replay.proofs.Redone.{gives_same, room_same}
-use Rattle.party_replay.proofs.start.Goals.{After-enter-e, Joined-e, Start}
+use Rattle.party_replay.proofs.start.Goals.{After-enter-e, Joined-e, Start, then-e, else-e}
 use Rattle.party_replay.proofs.start.Goals as goal
 
 abbrev plan : Start → Plan
@@ -29,19 +28,18 @@ first s = party_in s.args.v (plan s) s.args.levels s.args.sets.now
 formed : (s : Start) → Formed (first s)
 formed s =
     let a = s.args in
-    let t = s.well-formed.1.1.1.1.1.0 in
+    let t = s.well_formed.1.1.1.1.1.0 in
     (sized_in a.v (plan s) a.levels a.sets.now s.requires.0.valid (levels_full a.levels _ t) (levels_echoes a.levels _ t)).formed
 
 -- level 0 is entered over the whole plan
 entered : (c : After-enter-e)
-    → Enters (plan c.before.before.before.before.before.before.before.before) (whole_of (plan c.before.before.before.before.before.before.before.before))
-    (get_or c.args.levels 0 no_code_level) 0 c.args.x
-    c.enter-e.result c.enter-e.new.ports
+    → let p = shaped c.args.shape c.args.ps.now c.args.cs.now in
+    Enters p (whole_of p) (get_or c.args.levels 0 no_code_level) 0 c.args.x c.enter-e.result c.enter-e.new.ports
 entered c =
-    let s = c.before.before.before.before.before.before.before.before in
-    let a = s.args in
+    let a = c.args in
+    let p = shaped a.shape a.ps.now a.cs.now in
     let h = c.whole-span in
-    holds_enters (plan s) h.result _ (whole_of (plan s)) h.ensures (get_or a.levels 0 no_code_level) 0 a.x c.enter-e.result c.enter-e.new.ports c.enter-e.ensures
+    holds_enters p h.result _ (whole_of p) h.ensures (get_or a.levels 0 no_code_level) 0 a.x c.enter-e.result c.enter-e.new.ports c.enter-e.ensures
 
 pub whole-span-requires : goal.whole-span-requires
 whole-span-requires c = let s = (goal.at.whole-span-requires c).Start in valid_plan (first s) s.requires.0.valid
@@ -58,16 +56,19 @@ charted : (c : Joined-e)
 charted c =
     let chart = c.args.chart in
     let e = c.enter-e.result in
-    ⊎_elim (λ w. w.3 ∙ chart_more chart 0 e w.0.taken) (λ w. w.1 ∙ chart_same chart 0 e w.0.left) c.if-e.branch-raw
+    elim c.if-e.branch [ then-e w ↦ w.d-is ∙ chart_more chart 0 e w.if-e.true | else-e w ↦ w.d-is ∙ chart_same chart 0 e w.if-e.false ]
 
 -- rules are applied to the party that entered
 runs : (c : After-enter-e)
-    → let s = c.before.before.before.before.before.before.before.before in
-    starting (first s) s.args.x ≡ run (party_in s.args.v (plan s) (set s.args.levels 0 c.enter-e.result.level) s.args.sets.now)
+    → let a = c.args in
+    let p = shaped a.shape a.ps.now a.cs.now in
+    starting (party_in a.v p a.levels a.sets.now) a.x ≡ run (party_in a.v p (set a.levels 0 c.enter-e.result.level) a.sets.now)
 runs c =
-    let s = c.before.before.before.before.before.before.before.before in
-    let a = s.args in
-    start_runs a.v (plan s) a.levels a.sets.now a.chart a.ports.now (formed s) s.requires.0.charts a.x s.requires.2 s.requires.3 c.enter-e.result
+    let a = c.args in
+    let p = shaped a.shape a.ps.now a.cs.now in
+    let t = c.well_formed.1.1.1.1.1.0 in
+    let f = (sized_in a.v p a.levels a.sets.now c.requires.0.valid (levels_full a.levels _ t) (levels_echoes a.levels _ t)).formed in
+    start_runs a.v p a.levels a.sets.now a.chart a.ports.now f c.requires.0.charts a.x c.requires.2 c.requires.3 c.enter-e.result
     c.enter-e.new.ports (entered c)
 
 pub run-requires : goal.run-requires
@@ -77,7 +78,7 @@ run-requires c =
     let s = (goal.at.run-requires c).Start in
     let a = s.args in (
       start_ready a.v (plan s) a.levels a.sets.now a.chart a.ports.now (formed s) s.requires.0.charts a.x s.requires.2 s.requires.3 e.enter-e.result
-          e.enter-e.new.ports (entered e) (chart_surveys a.chart _ s.well-formed.1.1.1.1.1.1.0) d.if-e.d (charted d) s.requires.0.rows,
+          e.enter-e.new.ports (entered e) (chart_surveys a.chart _ s.well_formed.1.1.1.1.1.1.0) d.if-e.d (charted d) s.requires.0.rows,
       room_same (sym (runs e)) a.from (length a.out.now) s.requires.1,
     )
 

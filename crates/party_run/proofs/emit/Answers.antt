@@ -29,8 +29,7 @@ returns-in-Quiet c = let a = c.args in none_written a.out.now a.at (quiet_bytes 
 pub returns-in-Send : goal.returns-in-Send
 returns-in-Send c =
     let a = c.args in
-    let e = c.e.given in
-    some_written a.out.now a.at c.put.result c.put.new.out (send_bytes a.number a.i a.e e.0.0 e.1)
+    some_written a.out.now a.at c.put.result c.put.new.out (send_bytes a.number a.i a.e c.in-Send.b c.in-Send.is)
     c.put.ensures
 
 pub returns-in-Enter : goal.returns-in-Enter
@@ -42,6 +41,5 @@ returns-in-Enter c =
 pub returns-in-SendEnter : goal.returns-in-SendEnter
 returns-in-SendEnter c =
     let a = c.args in
-    let e = c.e-in-SendEnter-1.given in
-    some_written a.out.now a.at c.put-in-SendEnter.result c.put-in-SendEnter.new.out (side_bytes a.number a.i a.e e.0.0 e.1)
+    some_written a.out.now a.at c.put-in-SendEnter.result c.put-in-SendEnter.new.out (side_bytes a.number a.i a.e c.in-SendEnter.k c.in-SendEnter.is)
     c.put-in-SendEnter.ensures

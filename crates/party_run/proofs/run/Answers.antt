@@ -12,7 +12,7 @@ use Rattle.party_bounds.proofs.Laws.{Sized}
 use Rattle.party_step.proofs.Typed.{levels_full, levels_echoes, chart_surveys}
 use Rattle.party_run.proofs.Parts.{sized_in, chart_more, chart_same}
 use Rattle.party_run.proofs.Turns.{turn_start, turn_end, turn_limits, turn_next, turn_more, turn_fits, turn_steps, turn_again}
-use Rattle.party_run.proofs.run.Goals.{After-k-1, After-m-1, In-loop-i, Start, Then-applies}
+use Rattle.party_run.proofs.run.Goals.{In-loop-i, Start, Then-applies}
 use Rattle.party_run.proofs.run.Goals as goal
 
 abbrev plan : Start → Plan
@@ -21,10 +21,10 @@ plan s = shaped s.args.shape s.args.ps.now s.args.cs.now
 abbrev first : Start → Party
 first s = party_in s.args.v (plan s) s.args.levels s.args.sets.now
 
-sized : (s : tie.Start) → Sized (first s)
+sized : (s : Start) → Sized (first s)
 sized s =
     let a = s.args in
-    let t = s.well-formed.1.1.1.1.1.0 in
+    let t = s.well_formed.1.1.1.1.1.0 in
     sized_in a.v (plan s) a.levels a.sets.now s.requires.0.valid (levels_full a.levels _ t) (levels_echoes a.levels _ t)
 
 pub loop-i-init : goal.loop-i-init
@@ -32,10 +32,10 @@ loop-i-init c =
     let s = (goal.at.loop-i-init c).Start in
     let a = s.args in
     turn_start a.v (plan s) a.sets.now a.from a.out.now a.levels a.chart a.ports.now (sized s) s.requires.0.charts
-    (chart_surveys a.chart _ s.well-formed.1.1.1.1.1.1.0)
+    (chart_surveys a.chart _ s.well_formed.1.1.1.1.1.1.0)
 
 -- i is a level that sends
-below : (c : tie.In-loop-i) → c.loop-i.i + 1 < level_count
+below : (c : In-loop-i) → c.loop-i.i + 1 < level_count
 below c = omega (arith, c.loop-i.invariant.going.charts.last, c.loop-i-test.true)
 
 pub offset_bounds-d-i : goal.offset_bounds-d-i
@@ -66,7 +66,7 @@ rule_at-a-requires c =
     let s = (goal.at.rule_at-a-requires c).Start in
     let a = s.args in (
       omega (arith, below t),
-      omega (arith, c.rule_at-arg-1.given.0),
+      omega arith,
       turn_limits a.v (plan s) a.sets.now (first s) a.from a.out.now l.ls l.d l.ports l.out l.sent l.rules l.i l.invariant
           t.loop-i-test.true c.context.result c.context.ensures,
     )
@@ -89,111 +89,89 @@ emit-sent-requires c =
       omega (arith, below t),
     )
 
--- the turn of a rule that applies, and what was known before it
-abbrev turn-k : After-k-1 → Then-applies
-turn-k c = c.before.before.before.before.before
-
-abbrev turn-m : After-m-1 → Then-applies
-turn-m c = turn-k c.before.before.before.before
-
-abbrev within : Then-applies → In-loop-i
-within y = y.before.before.before.before.before.before.before.before
-
 pub offset_bounds-ls-i-then-applies : goal.offset_bounds-ls-i-then-applies
-offset_bounds-ls-i-then-applies c = omega (arith, below (within (turn-k (goal.at.offset_bounds-ls-i-then-applies c).After-k-1)))
+offset_bounds-ls-i-then-applies c = omega (arith, below (goal.at.offset_bounds-ls-i-then-applies c).In-loop-i)
 
 pub bounds-ls-i-then-applies : goal.bounds-ls-i-then-applies
-bounds-ls-i-then-applies c = omega (arith, below (within (turn-k (goal.at.bounds-ls-i-then-applies c).After-k-1)))
+bounds-ls-i-then-applies c = omega (arith, below (goal.at.bounds-ls-i-then-applies c).In-loop-i)
 
 pub step-below-requires : goal.step-below-requires
 step-below-requires c =
-    let y = turn-k (goal.at.step-below-requires c).After-k-1 in
-    let n = y.before in
-    let x = n.before.before in
-    let t = within y in
-    let l = t.loop-i in
-    let s = t.before.before.before.before.before in
+    let y = (goal.at.step-below-requires c).Then-applies in
+    let l = y.loop-i in
+    let s = (goal.at.step-below-requires c).Start in
     let a = s.args in
-    turn_steps a.v (plan s) a.sets.now (first s) a.from a.out.now l.ls l.d l.ports l.out l.sent l.rules l.i l.inv
-    t.loop-i-test.taken x.context.result x.context.ensures n.rule_at-a.result n.rule_at-a.ensures n.applies.result n.applies.ensures
-    y.if-applies.taken s.pre.0.rows
+    turn_steps a.v (plan s) a.sets.now (first s) a.from a.out.now l.ls l.d l.ports l.out l.sent l.rules l.i l.invariant
+    y.loop-i-test.true y.context.result y.context.ensures y.rule_at-a.result y.rule_at-a.ensures y.applies.result y.applies.ensures
+    y.if-applies.true s.requires.0.rows
 
 pub overflow_add-j : goal.overflow_add-j
-overflow_add-j c = omega (arith, below (within (turn-m (goal.at.overflow_add-j c).After-m-1)))
+overflow_add-j c = omega (arith, below (goal.at.overflow_add-j c).In-loop-i)
 
 pub offset_bounds-ls-j : goal.offset_bounds-ls-j
-offset_bounds-ls-j c = omega (arith, below (within (turn-m (goal.at.offset_bounds-ls-j c).After-m-1)))
+offset_bounds-ls-j c = omega (arith, below (goal.at.offset_bounds-ls-j c).In-loop-i)
 
 pub bounds-ls-j : goal.bounds-ls-j
-bounds-ls-j c = omega (arith, below (within (turn-m (goal.at.bounds-ls-j c).After-m-1)))
+bounds-ls-j c = omega (arith, below (goal.at.bounds-ls-j c).In-loop-i)
 
 -- a rule is left
-more : (y : tie.Then-applies) → (within y).loop-i.rules < max_rules
+more : (y : Then-applies) → y.loop-i.rules < max_rules
 more y =
-    let n = y.before in
-    let x = n.before.before in
-    let t = within y in
-    let l = t.loop-i in
-    let s = t.before.before.before.before.before in
-    let a = s.args in
-    turn_more a.v (plan s) a.sets.now (first s) a.from a.out.now l.ls l.d l.ports l.out l.sent l.rules l.i l.inv
-    t.loop-i-test.taken x.context.result x.context.ensures n.rule_at-a.result n.rule_at-a.ensures n.applies.result n.applies.ensures
+    let l = y.loop-i in
+    let a = y.args in
+    let p = shaped a.shape a.ps.now a.cs.now in
+    turn_more a.v p a.sets.now (party_in a.v p a.levels a.sets.now) a.from a.out.now l.ls l.d l.ports l.out l.sent l.rules l.i l.invariant
+    y.loop-i-test.true y.context.result y.context.ensures y.rule_at-a.result y.rule_at-a.ensures y.applies.result y.applies.ensures
     y.if-applies.true
 
 pub overflow_add-rules : goal.overflow_add-rules
-overflow_add-rules c = omega (arith, more (turn-m (goal.at.overflow_add-rules c).After-m-1))
+overflow_add-rules c = omega (arith, more (goal.at.overflow_add-rules c).Then-applies)
 
 pub loop-i-smaller-then-below : goal.loop-i-smaller-then-below
 loop-i-smaller-then-below c =
     let k = c in
-    omega (arith, more (turn-m (goal.at.loop-i-smaller-then-below c).After-m-1), below (within (turn-m (goal.at.loop-i-smaller-then-below c).After-m-1)), k.back-i.ensures)
+    omega (arith, more (goal.at.loop-i-smaller-then-below c).Then-applies, below (goal.at.loop-i-smaller-then-below c).In-loop-i, k.back-i.ensures)
 
 pub loop-i-smaller-else-below : goal.loop-i-smaller-else-below
 loop-i-smaller-else-below c =
     let k = c in
-    omega (arith, more (turn-m (goal.at.loop-i-smaller-else-below c).After-m-1), below (within (turn-m (goal.at.loop-i-smaller-else-below c).After-m-1)), k.back-i.ensures)
+    omega (arith, more (goal.at.loop-i-smaller-else-below c).Then-applies, below (goal.at.loop-i-smaller-else-below c).In-loop-i, k.back-i.ensures)
 
 pub overflow_add-d : goal.overflow_add-d
-overflow_add-d c = omega (arith, below (within (turn-m (goal.at.overflow_add-d c).After-m-1)))
+overflow_add-d c = omega (arith, below (goal.at.overflow_add-d c).In-loop-i)
 
 pub offset_bounds-d-j : goal.offset_bounds-d-j
-offset_bounds-d-j c = omega (arith, below (within (turn-m (goal.at.offset_bounds-d-j c).After-m-1)))
+offset_bounds-d-j c = omega (arith, below (goal.at.offset_bounds-d-j c).In-loop-i)
 
 pub bounds-d-j : goal.bounds-d-j
-bounds-d-j c = omega (arith, below (within (turn-m (goal.at.bounds-d-j c).After-m-1)))
+bounds-d-j c = omega (arith, below (goal.at.bounds-d-j c).In-loop-i)
 
 pub loop-i-preserved-then-below : goal.loop-i-preserved-then-below
 loop-i-preserved-then-below c =
     let k = c in
-    let y = turn-m (goal.at.loop-i-preserved-then-below c).After-m-1 in
-    let n = y.before in
-    let x = n.before.before in
-    let t = within y in
-    let l = t.loop-i in
-    let s = t.before.before.before.before.before in
+    let y = (goal.at.loop-i-preserved-then-below c).Then-applies in
+    let l = y.loop-i in
+    let s = (goal.at.loop-i-preserved-then-below c).Start in
     let a = s.args in
     let m = k in
     let o = m.emit-sent in
-    turn_again a.v (plan s) a.sets.now (first s) a.from a.out.now l.ls l.d l.ports l.out l.sent l.rules l.i l.inv
-    t.loop-i-test.taken x.context.result x.context.ensures n.rule_at-a.result n.rule_at-a.ensures n.applies.result n.applies.ensures
-    y.if-applies.taken s.pre.1 m.step-below.result m.step-below.new.ports m.step-below.ensures o.new.out o.result o.ensures.0 o.ensures.1
+    turn_again a.v (plan s) a.sets.now (first s) a.from a.out.now l.ls l.d l.ports l.out l.sent l.rules l.i l.invariant
+    y.loop-i-test.true y.context.result y.context.ensures y.rule_at-a.result y.rule_at-a.ensures y.applies.result y.applies.ensures
+    y.if-applies.true s.requires.1 m.step-below.result m.step-below.new.ports m.step-below.ensures o.new.out o.result o.ensures.0 o.ensures.1
     k.back-i.result k.back-i.ensures _ (chart_more l.d (l.i + 1) m.step-below.result c.if-below.true)
 
 pub loop-i-preserved-else-below : goal.loop-i-preserved-else-below
 loop-i-preserved-else-below c =
     let k = c in
-    let y = turn-m (goal.at.loop-i-preserved-else-below c).After-m-1 in
-    let n = y.before in
-    let x = n.before.before in
-    let t = within y in
-    let l = t.loop-i in
-    let s = t.before.before.before.before.before in
+    let y = (goal.at.loop-i-preserved-else-below c).Then-applies in
+    let l = y.loop-i in
+    let s = (goal.at.loop-i-preserved-else-below c).Start in
     let a = s.args in
     let m = k in
     let o = m.emit-sent in
-    turn_again a.v (plan s) a.sets.now (first s) a.from a.out.now l.ls l.d l.ports l.out l.sent l.rules l.i l.inv
-    t.loop-i-test.taken x.context.result x.context.ensures n.rule_at-a.result n.rule_at-a.ensures n.applies.result n.applies.ensures
-    y.if-applies.taken s.pre.1 m.step-below.result m.step-below.new.ports m.step-below.ensures o.new.out o.result o.ensures.0 o.ensures.1
+    turn_again a.v (plan s) a.sets.now (first s) a.from a.out.now l.ls l.d l.ports l.out l.sent l.rules l.i l.invariant
+    y.loop-i-test.true y.context.result y.context.ensures y.rule_at-a.result y.rule_at-a.ensures y.applies.result y.applies.ensures
+    y.if-applies.true s.requires.1 m.step-below.result m.step-below.new.ports m.step-below.ensures o.new.out o.result o.ensures.0 o.ensures.1
     k.back-i.result k.back-i.ensures _ (chart_same l.d (l.i + 1) m.step-below.result c.if-below.false)
 
 pub overflow_add-i : goal.overflow_add-i

@@ -27,14 +27,14 @@ side-span-requires c = c.requires.has
 
 pub enter-requires : goal.enter-requires
 enter-requires c =
-    let s = c.before.before.before.before.before.before.before in
+    let s = (goal.at.enter-requires c).Start in
     let g = c.gate-x in
     holds_enterable (plan s) _ _ (side s) c.side-span.ensures g.result s.requires.of (subst (λ (x : ℕ). T (side s x)) (sym g.ensures) s.requires.place)
     s.requires.rows
 
 pub returns : goal.returns
 returns c =
-    let s = c.before.before.before.before.before.before.before.before in
+    let s = (goal.at.returns c).Start in
     let g = c.gate-x in
     let e = c.enter in
     subst (λ (x : ℕ). Enters (plan s) (side s) s.args.next s.args.k x e.result e.new.ports) g.ensures

@@ -15,7 +15,7 @@ returns-then-not-w c =
     let b = c in
     let s = (goal.at.returns-then-not-w c).Start in
     let a = s.args in
-    let w = b.Way-of in
+    let w = c.way_of-w in
     stepped_stays (plan s) a.deepest a.ports.now a.centre a.position (way_of a.e) w.result w.ensures a.next
     (not-true _ b.if-not-w.true) c.silent.result c.silent.ensures
 
@@ -24,7 +24,7 @@ descend-requires c =
     let b = c in
     let s = (goal.at.descend-requires c).Start in
     let a = s.args in
-    let w = b.Way-of in
+    let w = c.way_of-w in
     steps_descends (plan s) a.deepest a.ports.now a.centre a.position (way_of a.e) w.result w.ensures s.requires (not-false _ b.if-not-w.false)
 
 pub returns : goal.returns
@@ -32,7 +32,7 @@ returns c =
     let b = c in
     let s = (goal.at.returns c).Start in
     let a = s.args in
-    let w = b.Way-of in
+    let w = c.way_of-w in
     let e = c.descend in
     stepped_enters (plan s) a.deepest a.ports.now a.centre a.position (way_of a.e) w.result w.ensures a.next (not-false _ b.if-not-w.false)
     e.result e.new.ports e.ensures

@@ -17,7 +17,7 @@ append-requires c =
 pub overflow_add-result : goal.overflow_add-result
 overflow_add-result c =
     let s = c in
-    omega (arith, s.well-formed.0, laid_room s.requires.0 s.args.y s.requires.2 c.if-seen-y-eq1.false)
+    omega (arith, s.well_formed.0, laid_room s.requires.0 s.args.y s.requires.2 c.if-seen-y-eq1.false)
 
 pub returns : goal.returns
 returns c =

@@ -8,7 +8,7 @@ pub levels-requires : goal.levels-requires
 levels-requires c =
     let a = c in
     let p = shaped a.args.s a.args.ps.now a.args.cs.now in
-    tree_asks p a.requires c.if-s-eq1.true (omega (arith, c.levels-arg-1.given.0)) (omega (arith, c.levels-arg-then-s-eq1-1.given.0))
+    tree_asks p a.requires c.if-s-eq1.true (omega arith) (omega arith)
 
 pub returns-then-s-eq1 : goal.returns-then-s-eq1
 returns-then-s-eq1 c =

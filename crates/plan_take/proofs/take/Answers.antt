@@ -10,7 +10,7 @@ use Rattle.plan_take.proofs.take.Goals as goal
 pub returns-in_default : goal.returns-in_default
 returns-in_default c =
     let s = c in
-    λ t. told refl refl c.refused-k.ensures (taken_none s.args.p.next (list_in s.args.p.edges s.args.up.now s.args.room.now) s.args.found s.args.at s.requires c.match.keys2 t)
+    λ t. told refl refl c.refused-k.ensures (taken_none s.args.p.next (list_in s.args.p.edges s.args.up.now s.args.room.now) s.args.found s.args.at s.requires c.in_default.not-Value t)
 
 pub take_count-requires : goal.take_count-requires
 take_count-requires c = let s = c in known (list_in s.args.p.edges s.args.up.now s.args.room.now) c.in-Count.is s.requires

@@ -1,7 +1,6 @@
 -- `plan_test::range_valid` meets its contract: each question is a part of `range_valid`.
 use Rattle.plan.specs.Plan.{Plan}
 use native.Mathlib.Omega.{arith}
-use borrow.Author.Tests.{not-true, not-false}
 use Rattle.plan_test.proofs.Answers.{no_range, last_range, refuted, passed}
 use Rattle.plan_test.proofs.range_valid.Goals.{Start}
 use Rattle.plan_test.proofs.range_valid.Goals as goal
@@ -24,8 +23,8 @@ returns-then-low-count c =
 
 pub returns-then-not-all_zero : goal.returns-then-not-all_zero
 returns-then-not-all_zero c =
-    no_range (plan (goal.at.returns-then-not-all_zero c).Start) (λ t. refuted (not-true _ c.if-not-all_zero.true) c.all_zero.ensures t.parents)
+    no_range (plan (goal.at.returns-then-not-all_zero c).Start) (λ t. refuted c.if-not-all_zero.true c.all_zero.ensures t.parents)
 
 pub returns : goal.returns
 returns c =
-    last_range (plan (goal.at.returns c).Start) c.all_zero-2.ensures (omega arith) (omega arith) (omega arith) (passed (not-false _ c.if-not-all_zero.false-raw) c.all_zero.ensures)
+    last_range (plan (goal.at.returns c).Start) c.all_zero-2.ensures (omega arith) (omega arith) (omega arith) (passed c.if-not-all_zero.false c.all_zero.ensures)

@@ -1,9 +1,6 @@
 -- `plan_test::rows_fit` meets its contract. The loop's invariant: the first i rows fit and are noted.
-use mathlib.Core.Bool.{true}
-use Prim.Native.Nat.{◌-◌}
 use native.Mathlib.Omega.{arith}
 use Rattle.plan_test.proofs.Noted.{none_fit, more_fit, stop_fit, end_fit, note_start, note_more}
-use borrow.Author.Tests.{not-true, not-false}
 use borrow.Author.Rules.{rules}
 use Rattle.plan_test.proofs.rows_fit.Goals as goal
 
@@ -16,12 +13,12 @@ row_fits-requires c = (c.loop-i.invariant.4, omega arith, omega arith)
 pub returns-then-not-row_fits : goal.returns-then-not-row_fits
 returns-then-not-row_fits c =
     let o = c.loop-i in
-    stop_fit _ _ _ o.i _ c.loop-i-test.true (not-true _ c.if-not-row_fits.true) c.row_fits.ensures.0
+    stop_fit _ _ _ o.i _ c.loop-i-test.true c.if-not-row_fits.true c.row_fits.ensures.0
 
 pub loop-i-preserved : goal.loop-i-preserved
 loop-i-preserved c =
     let o = c.loop-i in
-    let t = not-false c.row_fits.result c.if-not-row_fits.false-raw in
+    let t = c.if-not-row_fits.false in
     (search rules, search rules, search rules, more_fit _ _ _ o.i t c.row_fits.ensures.0 o.invariant.3, note_more _ _ o.i t c.row_fits.ensures.1)
 
 pub returns : goal.returns

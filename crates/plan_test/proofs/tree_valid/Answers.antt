@@ -2,7 +2,6 @@
 use Rattle.base.specs.Limits.{max_vertices}
 use Rattle.plan.specs.Plan.{Plan}
 use native.Mathlib.Omega.{arith}
-use borrow.Author.Tests.{not-true, not-false}
 use Rattle.plan_test.proofs.Answers.{no_tree, last_tree, refuted, passed, noted_none}
 use Rattle.plan_test.proofs.tree_valid.Goals.{Start}
 use Rattle.plan_test.proofs.tree_valid.Goals as goal
@@ -28,13 +27,13 @@ rows_fit-requires c = (noted_none _ max_vertices max_vertices (omega arith) (ome
 
 pub returns-then-not-rows_fit : goal.returns-then-not-rows_fit
 returns-then-not-rows_fit c =
-    no_tree (plan (goal.at.returns-then-not-rows_fit c).Start) (λ t. refuted (not-true _ c.if-not-rows_fit.true) c.rows_fit.ensures t.fit)
+    no_tree (plan (goal.at.returns-then-not-rows_fit c).Start) (λ t. refuted c.if-not-rows_fit.true c.rows_fit.ensures t.fit)
 
 pub returns-then-not-all_zero : goal.returns-then-not-all_zero
 returns-then-not-all_zero c =
-    no_tree (plan (goal.at.returns-then-not-all_zero c).Start) (λ t. refuted (not-true _ c.if-not-all_zero.true) c.all_zero.ensures t.parents)
+    no_tree (plan (goal.at.returns-then-not-all_zero c).Start) (λ t. refuted c.if-not-all_zero.true c.all_zero.ensures t.parents)
 
 pub returns : goal.returns
 returns c =
-    last_tree (plan (goal.at.returns c).Start) c.all_zero-2.ensures (omega arith) (omega arith) c.if-low-ne0.false (passed (not-false _ c.if-not-rows_fit.false-raw) c.rows_fit.ensures)
-    (passed (not-false _ c.if-not-all_zero.false-raw) c.all_zero.ensures)
+    last_tree (plan (goal.at.returns c).Start) c.all_zero-2.ensures (omega arith) (omega arith) c.if-low-ne0.false (passed c.if-not-rows_fit.false c.rows_fit.ensures)
+    (passed c.if-not-all_zero.false c.all_zero.ensures)

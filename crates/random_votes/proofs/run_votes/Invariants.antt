@@ -6,4 +6,4 @@ abbrev pub invariant-loop : goal.invariant-loop
 invariant-loop l = 0 ≤ l.counter
 
 abbrev pub decreases-loop : goal.decreases-loop
-decreases-loop l = 2440 - l.counter
+decreases-loop l = 2000 - l.counter

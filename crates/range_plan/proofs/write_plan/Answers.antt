@@ -1,12 +1,13 @@
 -- `range_plan::write_plan` meets its contract.
+use mathlib.Core.Path.{sym}
 use mathlib.Core.List.{List, ◌++◌}
-use Prim.Native.Nat.{ℕ}
+use Prim.Native.Nat.{ℕ, ◌≤◌}
 use native.Mathlib.Omega.{arith}
-use lib.ListN.{length-append}
+use lib.ListN.{length, length-append}
+use Rattle.std.proofs.lemmas.List.{length-take-le}
 use Rattle.base.proofs.Puts.{then_put}
 use Rattle.varint.specs.Varint.{varint_bytes}
 use Rattle.varint.proofs.Lengths.{length_limits}
-use Rattle.io.proofs.Counting.{prefix_len_of_le}
 use Rattle.range_plan.proofs.Laws.{kind_short}
 use Rattle.range_plan.proofs.write_plan.Goals as goal
 
@@ -19,8 +20,13 @@ put-b-requires c = omega (arith, kind_short, (length_limits c.args.low).1)
 pub put-requires : goal.put-requires
 put-requires c = omega (arith, kind_short, (length_limits c.args.low).1, (length_limits c.args.width).1)
 
-pub returns : goal.returns
-returns c =
+pub returns-clause-prefix_len : goal.returns-clause-prefix_len
+returns-clause-prefix_len c =
+    let h : c.put.result ≤ length c.put.new.out = omega (arith, kind_short, (length_limits c.args.low).1, (length_limits c.args.width).1) in
+    (h, sym (length-take-le c.put.result c.put.new.out h))
+
+pub returns-clause-value : goal.returns-clause-value
+returns-clause-value c =
     let a = c.args in
     let p1 = c.put-a in
     let p2 = c.put-b in
@@ -36,4 +42,4 @@ returns c =
     let n5 = length-append (b1 ++ b2) b3 in
     let s2 = then_put l p1.new.out p2.new.out 0 p1.result b1 b2 (omega arith) p1.ensures.1 p1.ensures.0 p2.ensures.1 in
     let s3 = then_put l p2.new.out p3.new.out 0 p2.result (b1 ++ b2) b3 (omega arith) s2 (omega arith) p3.ensures.1 in
-    (prefix_len_of_le _ _ (omega arith), (omega arith, s3))
+    (omega arith, s3)

@@ -23,17 +23,16 @@ take_out-requires c =
       omega arith,
       omega (arith, p.auto.labels),
       omega (arith, p.auto.light),
-      labels_below s.args.ps.now s.args.cs.now s.args.alive.now p.new.labels s.args.n (s.args.n - 1) (length p.new.sub) s.requires.0 (omega (arith, p.auto.sub)) p.ensures.0,
+      labels_below s.args.ps.now s.args.cs.now s.args.alive.now p.new.labels s.args.n (s.args.n - 1) (length p.new.sub) s.requires.0 (omega (arith, p.auto.sub)) p.ensures.labels,
     )
 
 pub returns : goal.returns
 returns c =
     let s = c in
     let p = c.components in
-    let t = c.take_out in (
-      round_any s.args.ps.now s.args.cs.now s.args.alive.now p.new.labels p.new.sub p.new.light s.args.n s.requires.0 s.requires.3 p.ensures t.result t.ensures.0,
-      (
-        round_split s.args.ps.now s.args.cs.now s.args.alive.now p.new.labels p.new.sub p.new.light s.args.n s.requires.0 s.requires.3 p.ensures t.new.alive t.ensures.1,
-        round_numbers s.args.alive.now t.new.alive (λ x. ltb x s.args.n && outs p.new.labels p.new.sub p.new.light x) s.requires.2 t.ensures.1,
-      ),
-    )
+    let t = c.take_out in
+    record {
+      value = round_any s.args.ps.now s.args.cs.now s.args.alive.now p.new.labels p.new.sub p.new.light s.args.n s.requires.0 s.requires.3 (p.ensures.labels, (p.ensures.sizes, p.ensures.light)) t.result t.ensures.value;
+      alive = round_split s.args.ps.now s.args.cs.now s.args.alive.now p.new.labels p.new.sub p.new.light s.args.n s.requires.0 s.requires.3 (p.ensures.labels, (p.ensures.sizes, p.ensures.light)) t.new.alive t.ensures.alive;
+      numbers = round_numbers s.args.alive.now t.new.alive (λ x. ltb x s.args.n && outs p.new.labels p.new.sub p.new.light x) s.requires.2 t.ensures.alive;
+    }

@@ -1,9 +1,8 @@
-use Prim.Native.Nat.{◌-◌}
 use native.Mathlib.Omega.{arith}
 use borrow.Author.Rules.{rules}
 use Rattle.marks.specs.Marks.{marked}
-use Rattle.tree_pass.proofs.LabelPass.{labelled_start, labelled_more, labelled_end}
-use Rattle.tree_pass.proofs.NearPass.{near_start, near_more, near_end}
+use Rattle.tree_pass.proofs.LabelPass.{labelled_start, labelled_more}
+use Rattle.tree_pass.proofs.NearPass.{near_start, near_more}
 use Rattle.tree_pass.proofs.Rows.{row_ends}
 use Rattle.tree_pass.proofs.around.Goals as goal
 
@@ -35,15 +34,7 @@ loop-i-preserved c =
       search rules,
       search rules,
       labelled_more s.args.ps.now s.args.cs.now s.args.ins.now s.args.n s.args.m o.i o.out c.pass.new.out c.wide-p.result c.wide-v.result
-          s.requires.0 (omega arith) c.loop-i-test.true c.wide-p.ensures c.wide-v.ensures c.pass.ensures.0 o.invariant.3,
+          s.requires.0 (omega arith) c.loop-i-test.true c.wide-p.ensures c.wide-v.ensures c.pass.ensures.labels o.invariant.3,
       near_more s.args.ps.now s.args.cs.now s.args.ins.now s.args.near.now s.args.c s.args.n s.args.m o.i o.near c.pass.new.near c.wide-p.result c.wide-v.result
-          s.requires.0 (omega arith) c.loop-i-test.true c.wide-p.ensures c.wide-v.ensures c.pass.ensures.1 o.invariant.4,
-    )
-
-pub returns : goal.returns
-returns c =
-    let s = c in
-    let o = c.loop-i in (
-      labelled_end s.args.ps.now s.args.cs.now (marked s.args.ins.now) s.args.n o.i s.args.m o.out (omega arith) o.invariant.3,
-      near_end s.args.ps.now s.args.cs.now s.args.ins.now s.args.near.now s.args.c o.i s.args.m o.near (omega arith) o.invariant.4,
+          s.requires.0 (omega arith) c.loop-i-test.true c.wide-p.ensures c.wide-v.ensures c.pass.ensures.near o.invariant.4,
     )

@@ -1,9 +1,5 @@
-use native.Mathlib.Omega.{arith}
 use Rattle.tree_pass_centre.proofs.LightPass.{cleared_over, cleared_under, cleared_half, cleared_first, cleared_second}
 use Rattle.tree_pass_centre.proofs.clear.Goals as goal
-
-pub overflow_mul-twice : goal.overflow_mul-twice
-overflow_mul-twice c = record { fits = omega (arith, c.wide-twice.ensures, c.shared-slice-known5.given c.args.v) }
 
 pub returns-then-twice-s : goal.returns-then-twice-s
 returns-then-twice-s c =

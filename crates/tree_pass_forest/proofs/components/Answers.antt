@@ -25,16 +25,15 @@ clear_shown-requires c =
       omega (arith, s.requires.2, c.around.auto.out),
       omega (arith, s.requires.3, c.sizes.auto.sub),
       s.requires.4,
-      labels_below s.args.ps.now s.args.cs.now s.args.ins.now c.around.new.out s.args.n s.args.m s.args.n s.requires.0 (omega arith) c.around.ensures.0,
+      labels_below s.args.ps.now s.args.cs.now s.args.ins.now c.around.new.out s.args.n s.args.m s.args.n s.requires.0 (omega arith) c.around.ensures.labels,
     )
 
 pub returns : goal.returns
 returns c =
-    let s = c in (
-      c.around.ensures.0,
-      (
-        c.sizes.ensures,
-        left_light s.args.ps.now s.args.cs.now s.args.ins.now c.around.new.out c.sizes.new.sub s.args.light.now c.clear_shown.new.light s.args.n s.args.m
-            s.requires.0 s.requires.7 s.requires.9 c.around.ensures.0 c.sizes.ensures c.clear_shown.ensures,
-      ),
-    )
+    let s = c in
+    record {
+      labels = c.around.ensures.labels;
+      sizes = c.sizes.ensures;
+      light = left_light s.args.ps.now s.args.cs.now s.args.ins.now c.around.new.out c.sizes.new.sub s.args.light.now c.clear_shown.new.light s.args.n s.args.m
+          s.requires.0 s.requires.7 s.requires.9 c.around.ensures.labels c.sizes.ensures c.clear_shown.ensures;
+    }

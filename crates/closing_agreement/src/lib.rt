@@ -1,1 +1,0 @@
-// Theorems only: agreement, validity and the end of a vote with closing, on logs.

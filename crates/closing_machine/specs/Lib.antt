@@ -1,2 +1,0 @@
-pub mod Machine
-pub mod Inner

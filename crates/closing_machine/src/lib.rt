@@ -1,1 +1,0 @@
-// Theorems only: a vote with closing as a machine.

@@ -1,3 +1,0 @@
-pub mod Computing
-pub mod Alone
-pub mod Needed

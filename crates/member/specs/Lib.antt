@@ -1,5 +1,0 @@
-pub mod Member
-pub mod Run
-pub mod Valid
-pub mod Typed
-pub mod Tie

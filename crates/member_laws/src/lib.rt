@@ -1,1 +1,0 @@
-// Laws of a board in one vote: what its calls keep.

@@ -1,1 +1,0 @@
-// No code: definitions of a board's life by the records of its journal, and laws of them.

@@ -1,3 +1,0 @@
-pub mod Ended
-pub mod Calls
-pub mod Taken

@@ -1,5 +1,0 @@
-pub mod Laws
-pub mod Spelling
-pub mod RoundTrip
-pub mod Broken
-pub mod Theorem

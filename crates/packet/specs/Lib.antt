@@ -1,6 +1,0 @@
-pub mod Packet
-pub mod Writing
-pub mod Format
-pub mod Reading
-pub mod Refusals
-pub mod Statement

@@ -1,4 +1,0 @@
-pub mod Packets
-pub mod Rules
-pub mod Calls
-pub mod Damaged
