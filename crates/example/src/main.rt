@@ -68,7 +68,7 @@ fn take_own(
     journal: &mut [u8; 64],
     out: &mut [u8; level_limits::OUTGOING],
 ) -> io::Result<board::Called> {
-    let next = board::take(called.party, 0, m, journal, called.used, out);
+    let next = board::take(called.party, 0, &m, journal, called.used, out);
     print_call(rt, called.used, next, journal, out)?;
     Ok(next)
 }
@@ -91,10 +91,10 @@ fn main(rt: HostRuntime) -> io::Result<()> {
     let made = board::set_up(1, 0, 0, 1, &[2u8, 0, 2]);
     let started = board::start(made.party, 1, &mut journal, 0, &mut out);
     print_call(&rt, 0, started, &journal, &out)?;
-    let first = take_own(&rt, started, &[1, 0, 1, 0], &mut journal, &mut out)?;
-    let second = take_own(&rt, first, &[1, 0, 2, 0], &mut journal, &mut out)?;
-    let third = take_own(&rt, second, &[1, 0, 3, 0], &mut journal, &mut out)?;
-    let fourth = take_own(&rt, third, &[1, 0, 4, 0], &mut journal, &mut out)?;
+    let first = take_own(&rt, started, [1, 0, 1, 0], &mut journal, &mut out)?;
+    let second = take_own(&rt, first, [1, 0, 2, 0], &mut journal, &mut out)?;
+    let third = take_own(&rt, second, [1, 0, 3, 0], &mut journal, &mut out)?;
+    let fourth = take_own(&rt, third, [1, 0, 4, 0], &mut journal, &mut out)?;
     print_answer(&rt, fourth.party)?;
     print_restored(&rt)
 }

@@ -97,12 +97,7 @@ fn write_calls(rt: &impl Print, s: &State) -> io::Result<()> {
 
 // What came of it.
 fn write_ends(rt: &impl Print, s: &State) -> io::Result<()> {
-    let places = [
-        state::RULES,
-        state::MOST,
-        state::TABLES,
-        state::DIFFERENCES,
-    ];
+    let places = [state::RULES, state::MOST, state::TABLES, state::DIFFERENCES];
     lines(
         rt,
         s,
