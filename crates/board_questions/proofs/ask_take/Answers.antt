@@ -2,9 +2,9 @@
 use mathlib.Core.Path.{◌≡◌, sym, ◌∙◌}
 use mathlib.Core.Bool.{true}
 use mathlib.Core.List.{List}
-use Prim.Native.Nat.{ℕ}
+use Prim.Native.Nat.{ℕ, ◌<◌}
+use lib.ListN.{get_or}
 use native.Mathlib.Omega.{arith}
-use Rattle.varint.specs.Varint.{AllBytes}
 use Rattle.message.specs.declared.Message.{Message}
 use Rattle.message.specs.declared.Exactly.{Exactly}
 use Rattle.message.specs.Message.{in_table}
@@ -27,7 +27,7 @@ pub overflow_cast-s : goal.overflow_cast-s
 overflow_cast-s c = record { fits = omega (arith, c.if-v-sender.false, c.requires (c.at_door-number.ensures.passes c.if-number-ne0.false).0) }
 
 -- a message that is read whole is in the document's table
-table : (s : List ℕ) (m : Message) → AllBytes s → exact_message s ≡ Exactly.One m → in_table m ≡ true
+table : (s : List ℕ) (m : Message) → ((k : ℕ) → get_or s k 0 < 256) → exact_message s ≡ Exactly.One m → in_table m ≡ true
 table s m h e = (exact_message_written s m h e).0
 
 pub place-k-requires : goal.place-k-requires

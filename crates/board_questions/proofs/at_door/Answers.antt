@@ -8,8 +8,8 @@ use Rattle.board_questions.proofs.at_door.Goals as goal
 pub returns-then-not-valid : goal.returns-then-not-valid
 returns-then-not-valid c = door_19 _ _ _ _ (ap not c.if-not-valid.true)
 
-pub returns-then-out-lt-MEMBER_BYTES : goal.returns-then-out-lt-MEMBER_BYTES
-returns-then-out-lt-MEMBER_BYTES c = door_18 _ _ _ _ (ap not c.if-not-valid.false) (omega arith)
+pub returns-then-out-lt-OUTGOING : goal.returns-then-out-lt-OUTGOING
+returns-then-out-lt-OUTGOING c = door_18 _ _ _ _ (ap not c.if-not-valid.false) (omega arith)
 
 pub returns-then-room-used : goal.returns-then-room-used
 returns-then-room-used c = door_20 _ _ _ _ (ap not c.if-not-valid.false) (omega arith) (omega arith)
