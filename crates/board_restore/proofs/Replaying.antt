@@ -1,9 +1,6 @@
 -- The pass that replays the records: those so far are replayed, and their messages written one after the other.
 use mathlib.Core.Path.{◌≡◌, refl, sym, ap, ◌∙◌, subst}
-use mathlib.Core.Logic.{inl, inr}
-use mathlib.Core.List.{List, [], ◌∷◌}
-use types.Run.{OneOf}
-use denote.Enum.Declared.{tag_of}
+use mathlib.Core.List.{List, ◌++◌}
 use Prim.Native.Nat.{ℕ, ◌+◌, ◌≤◌, ◌<◌}
 use native.Mathlib.Omega.{arith}
 use lib.Dec.{T}
@@ -20,7 +17,6 @@ use Rattle.message.specs.declared.Message.{Message}
 use Rattle.journal.specs.declared.Record.{Record}
 use Rattle.journal.specs.declared.RecordRead.{RecordRead}
 use Rattle.journal.specs.Reading.{record_at}
-use Rattle.journal.specs.contracts.RecordRead.{the_type}
 use Rattle.party.specs.declared.Chart.{Chart}
 use Rattle.party.specs.Party.{Party, sending}
 use Rattle.party.specs.Run.{Ran, resting, bytes_of}
@@ -52,13 +48,10 @@ new_charts {p} w e = record {
 -- ---- a record that was not read
 
 abbrev pub NoRecord : RecordRead → Type 0
-NoRecord r = OneOf (1 ∷ 2 ∷ []) (tag_of the_type r)
+NoRecord r = (x : Record) (next : ℕ) → r ≡ RecordRead.Read x next → ⊥
 
 no_record : (r : RecordRead) → NoRecord r → {x : Record} {next : ℕ} → r ≡ RecordRead.Read x next → ⊥
-no_record (RecordRead.Read x next) (inl e) i = let z : ◌≡◌ {A = ℕ} 0 1 = e in omega arith
-no_record (RecordRead.Read x next) (inr e) i = let z : ◌≡◌ {A = ℕ} 0 2 = e in omega arith
-no_record RecordRead.Torn h i = let z : ◌≡◌ {A = ℕ} 0 1 = cc in omega arith
-no_record RecordRead.Bad h i = let z : ◌≡◌ {A = ℕ} 0 1 = cc in omega arith
+no_record r h i = h _ _ i
 
 -- ---- the pass
 

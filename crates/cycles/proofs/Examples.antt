@@ -1,7 +1,7 @@
 -- Edges of which a stronger statement would be false.
 use mathlib.Core.Path.{◌≡◌, refl}
 use mathlib.Core.List.{[], ◌∷◌}
-use mathlib.Core.Bool.{Bool, true, false}
+use mathlib.Core.Bool.{true, false}
 use Prim.Native.Nat.{ℕ}
 use Rattle.tree.specs.Edges.{Edge, Edges, all, label, joined}
 use Rattle.tree.specs.Component.{without}

@@ -3,16 +3,14 @@ use mathlib.Core.Path.{◌≡◌, refl, sym, ap, ◌∙◌}
 use mathlib.Core.List.{List}
 use mathlib.Core.Bool.{Bool, true, false, ◌&&◌}
 use Prim.Native.Nat.{ℕ, ◌*◌, ◌≤◌, ◌<◌}
-use lib.Dec.{T, eqb, leb, ltb}
+use lib.Dec.{T, leb, ltb}
 use borrow.Author.Tests.{ne_eqb}
 use Rattle.base.specs.Limits.{max_boards}
-use Rattle.base.specs.Pick.{pick}
 use Rattle.settings.specs.Settings.{settings_fault}
 use Rattle.settings.proofs.Laws.{ask_all, fault_none}
 use Rattle.base.specs.Found.{Found, found, refused, ask}
 use Rattle.plan.specs.Plan.{Plan}
 use Rattle.plan.specs.Reading.{plan_of, settled_plan, PlanRead, answered}
-use Rattle.plan.proofs.Listed.{ask_yes}
 
 -- an answer, and what it is the answer of
 pub answer : {x : PlanRead} {f g : Found Plan} → x ≡ answered g → f ≡ g → x ≡ answered f

@@ -1,24 +1,23 @@
 -- Reading the edges of a tree: what is found of them, and the bytes from which given edges are read.
-use mathlib.Core.Path.{◌≡◌, refl, sym, ap, ap₂, ◌∙◌, subst}
+use mathlib.Core.Path.{◌≡◌, refl, sym, ap, ap₂, ◌∙◌}
 use mathlib.Core.List.{List, [], ◌∷◌, ◌++◌, append_assoc}
 use mathlib.Core.Bool.{Bool, true, false, not, ◌&&◌}
-use Prim.Native.Nat.{ℕ, zero, suc, ◌+◌, ◌-◌, ◌≤◌, ◌<◌, ◌^◌}
+use Prim.Native.Nat.{ℕ, zero, suc, ◌+◌, ◌≤◌, ◌<◌, ◌^◌}
 use native.Mathlib.Omega.{arith}
 use lib.Dec.{T, eqb, ltb, ltb→lt, lt→ltb, T_not, not_T}
 use lib.ListN.{length, length-append}
-use borrow.Author.Tests.{lt-ltb, le-ltb, eq-eqb, ne_eqb, eqb-false}
+use borrow.Author.Tests.{eq-eqb, ne_eqb}
 use Rattle.base.specs.Limits.{max_degree}
-use Rattle.base.specs.Pick.{pick}
-use Rattle.base.proofs.Bools.{T_and, T-left, T-right, T→true, not-T→false, true→T, false→not-T}
+use Rattle.base.proofs.Bools.{T_and, T-left, T-right, true→T, false→not-T}
 use Rattle.varint.specs.declared.VarintRead.{VarintRead}
 use Rattle.varint.specs.Varint.{varint_bytes}
 use Rattle.varint.specs.Reading.{varint_at}
 use Rattle.varint.proofs.RoundTrip.{varint_read_at}
-use Rattle.tree.specs.Edges.{Edge, Edges, joined, all, edges_at, Below}
+use Rattle.tree.specs.Edges.{Edges, joined, all, edges_at, Below}
 use Rattle.tree.specs.Inner.{Acyclic}
 use Rattle.base.specs.Found.{Found, found, refused, ask}
 use Rattle.edges.specs.Reading.{onward, varint_then, ends_apart, not_joined, room_at_ends, edges_from}
-use Rattle.edges.specs.Inner.{Listed, edges_of_tree}
+use Rattle.edges.specs.Inner.{Listed}
 use Rattle.plan_growth.specs.Inner.{edge}
 use Rattle.plan.specs.Bytes.{edge_bytes}
 use Rattle.plan.proofs.Degrees.{at_none, at_most}

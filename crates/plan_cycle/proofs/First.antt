@@ -1,12 +1,12 @@
 -- Among edges read one after the other at most one is the first that joins ends already joined.
 use mathlib.Core.Path.{◌≡◌, subst}
-use mathlib.Core.List.{List, [], ◌∷◌}
+use mathlib.Core.List.{List}
 use Prim.Native.Nat.{ℕ, zero, suc, ◌≤◌, ◌<◌}
 use native.Mathlib.Decide.{dec_lt}
 use native.Mathlib.Omega.{arith}
 use lib.Dec.{T}
 use Rattle.base.proofs.Bools.{or_right}
-use Rattle.tree.specs.Edges.{Edges, all, joined}
+use Rattle.tree.specs.Edges.{all, joined}
 use Rattle.cycles.specs.Cycles.{closes}
 use Rattle.cycles.specs.Statement.{Rejected}
 use Rattle.cycles.proofs.Closes.{rejected_closes}

@@ -23,7 +23,7 @@ party s = party_in s.args.v (plan s) s.args.levels s.args.sets.now
 sized : (s : Start) → T (party_valid (party s)) → Sized (party s)
 sized s v =
     let a = s.args in
-    let t = s.well-formed.1.1.1.1.1.0 in
+    let t = s.well_formed.1.1.1.1.1.0 in
     sized_in a.v (plan s) a.levels a.sets.now v (levels_full a.levels _ t) (levels_echoes a.levels _ t)
 
 pub append-end-requires : goal.append-end-requires

@@ -24,39 +24,27 @@ rows s = (search (rules, length_mapped), search (rules, length_mapped))
 
 -- its questions were asked
 module _ (c : After-ask_start-a) where
-  abbrev i : After-inspect-i
-  i = c.before.before
-
-  abbrev h : After-shape-shape
-  h = i.before.before.before.before.before.before.before.before.before
-
-  abbrev v : After-vote-v
-  v = h.before.before
-
-  abbrev s : Start
-  s = v.before.before.before
-
   abbrev asks : Party → Found Entry
-  asks p = start_questions p s.args.input (length s.args.journal.now) s.args.used (length s.args.out.now)
+  asks p = start_questions p c.args.input (length c.args.journal.now) c.args.used (length c.args.out.now)
 
   abbrev p : Party
-  p = party_in v.vote-v.result (shaped h.shape-shape.result s.args.p.plan.parent s.args.p.plan.child) s.args.p.levels s.args.p.sets
+  p = party_in c.vote-v.result (shaped c.shape-shape.result c.args.p.plan.parent c.args.p.plan.child) c.args.p.levels c.args.p.sets
 
-  asked : Asks p (length s.args.journal.now) s.args.used (length s.args.out.now) (asks p) c.ask_start-a.result
+  asked : Asks p (length c.args.journal.now) c.args.used (length c.args.out.now) (asks p) c.ask_start-a.result
   asked =
-      c.ask_start-a.ensures.asks _ _ s.args.input
+      c.ask_start-a.ensures.asks _ _ c.args.input
       (c.position_of-x.ensures
-      ∙ ap (position_of (as_plan s.args.p.plan)) (to_z-of_z w64 s.args.input s.fits.input)
-      ∙ ap (λ (u : Plan). position_of u s.args.input) (sym h.shape-shape.ensures))
-      i.inspect-i.ensures.0
+      ∙ ap (position_of (as_plan c.args.p.plan)) (to_z-of_z w64 c.args.input c.ranges.input)
+      ∙ ap (λ (u : Plan). position_of u c.args.input) (sym c.shape-shape.ensures))
+      c.inspect-i.ensures.passes
 
 pub carry_out-g-requires : goal.carry_out-g-requires
 carry_out-g-requires c =
-    let b = (goal.at.carry_out-g-requires c).After-carry_out-arg-1 in
-    carriable (s b).args.p (v b).vote-v.ensures (h b).shape-shape.ensures (asked b) (i b).inspect-i.ensures.0 (i b).inspect-i.ensures.1.0 (rows (s b)).0 (rows (s b)).1
+    let s = (goal.at.carry_out-g-requires c).Start in
+    let b = (goal.at.carry_out-g-requires c).After-ask_start-a in
+    carriable c.args.p c.vote-v.ensures c.shape-shape.ensures (asked b) c.inspect-i.ensures.passes c.inspect-i.ensures.charted (rows s).0 (rows s).1
 
 pub returns : goal.returns
 returns c =
-    let k = c in
-    let b = (goal.at.returns c).After-carry_out-arg-1 in
-    call_gives_lem (s b).args.p (v b).vote-v.ensures (h b).shape-shape.ensures (asks b) _ _ (asked b) k.carry_out-g.ensures
+    let b = (goal.at.returns c).After-ask_start-a in
+    call_gives_lem c.args.p c.vote-v.ensures c.shape-shape.ensures (asks b) _ _ (asked b) c.carry_out-g.ensures

@@ -17,7 +17,7 @@ use Rattle.board_ends.proofs.read_answer.Goals as goal
 pub returns-then-not-i : goal.returns-then-not-i
 returns-then-not-i c =
     let p = c.args.p in
-    no_reading (as_party p) (valid_in p c.vote-v.ensures c.shape-shape.ensures c.inspect-i.ensures.0) c.if-not-i.true
+    no_reading (as_party p) (valid_in p c.vote-v.ensures c.shape-shape.ensures c.inspect-i.ensures.passes) c.if-not-i.true
 
 -- a record has levels
 some : (s : Start) → 0 < length s.args.p.levels
@@ -26,5 +26,5 @@ some s = let l : length s.args.p.levels ≡ level_count = search (rules, length_
 pub returns : goal.returns
 returns c =
     let p = c.args.p in
-    reading (as_party p) (valid_in p c.vote-v.ensures c.shape-shape.ensures c.inspect-i.ensures.0) c.if-not-i.false
-    (c.answer_at-a.ensures ∙ ap (answer_of (as_plan p.plan)) (sym (output p (some c.before.before.before.before.before.before.before.before.before.before.before.before.before.before.before.before))))
+    reading (as_party p) (valid_in p c.vote-v.ensures c.shape-shape.ensures c.inspect-i.ensures.passes) c.if-not-i.false
+    (c.answer_at-a.ensures ∙ ap (answer_of (as_plan p.plan)) (sym (output p (some (goal.at.returns c).Start))))

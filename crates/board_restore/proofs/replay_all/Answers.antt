@@ -14,9 +14,7 @@ pub shape_of-out-in_default : goal.shape_of-out-in_default
 shape_of-out-in_default c = c.loop-at.invariant.long
 
 pub returns-in_default : goal.returns-in_default
-returns-in_default c =
-    let l = c in
-    absurd (replaying_read l.requires l.loop-at.invariant c.loop-at-test.true (subst NoRecord c.read_at.ensures c.match.keys2))
+returns-in_default c = absurd (replaying_read c.requires c.loop-at.invariant c.loop-at-test.true (subst NoRecord c.read_at.ensures c.in_default.not-Read))
 
 pub replay-g-requires : goal.replay-g-requires
 replay-g-requires c =

@@ -16,7 +16,7 @@ pub loop-at-smaller : goal.loop-at-smaller
 loop-at-smaller c = omega (arith, c.loop-at-test.true, (record_place c.args.journal.now c.loop-at.at _ _ (sym c.read_at.ensures ∙ c.in-Read.is)).0)
 
 pub loop-at-preserved : goal.loop-at-preserved
-loop-at-preserved c = λ p w o. scanning_next w (c.loop-at.invariant p w o) c.loop-at-test.true o (sym c.read_at.ensures ∙ c.in-Read.is) c.fault-number.ensures (λ i. (c.shared-slice-known.given i).fits) c.if-number-ne0.false c.started_by-started.ensures
+loop-at-preserved c = λ p w o. scanning_next w (c.loop-at.invariant p w o) c.loop-at-test.true o (sym c.read_at.ensures ∙ c.in-Read.is) c.fault-number.ensures (λ i. (c.type_inv.journal i).fits) c.if-number-ne0.false c.started_by-started.ensures
 
 pub returns-in-Torn : goal.returns-in-Torn
 returns-in-Torn c = λ p w o. scanned_torn w (c.loop-at.invariant p w o) c.loop-at-test.true (sym c.read_at.ensures ∙ c.in-Torn.is)

@@ -1,5 +1,4 @@
 -- `cycle_ends::keep_alone` meets its contract. The loop's invariant: each vertex passed is kept twice at its own place.
-use Prim.Native.Nat.{◌-◌}
 use native.Mathlib.Omega.{arith}
 use borrow.Author.Rules.{rules}
 use Rattle.base.proofs.Loops.{stored}

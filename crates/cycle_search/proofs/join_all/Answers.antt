@@ -1,6 +1,6 @@
 -- `cycle_search::join_all` meets its contract. The loop's invariant: the sets are those of the first i edges, and can be undone.
 use mathlib.Core.Path.{◌≡◌}
-use Prim.Native.Nat.{◌-◌, ◌<◌}
+use Prim.Native.Nat.{◌<◌}
 use native.Mathlib.Omega.{arith}
 use lib.ListN.{length}
 use borrow.Author.Rules.{rules}

@@ -1,6 +1,6 @@
 -- `cycle_search::undo_all` meets its contract. The loop's invariant: the edges from i on are undone and marked, and the rest is asked for.
 use mathlib.Core.Path.{◌≡◌}
-use Prim.Native.Nat.{ℕ, ◌-◌, ◌≤◌}
+use Prim.Native.Nat.{ℕ, ◌≤◌}
 use lib.ListN.{length}
 use Rattle.base.specs.Limits.{max_vertices}
 use Rattle.tree.specs.Edges.{Edges}

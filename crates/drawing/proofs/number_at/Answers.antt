@@ -13,6 +13,7 @@ use Rattle.edges.specs.Rows.{rows}
 use Rattle.plan.specs.Bytes.{edge_bytes}
 use Rattle.drawing.specs.Drawing.{number_at}
 use Rattle.drawing.proofs.Plans.{no_edges, edge_length, stands}
+use Rattle.drawing.proofs.number_at.Goals.{After-size-2, After-size-in-loop-i, After-size-in-loop-i-2, In-loop-i}
 use Rattle.drawing.proofs.number_at.Goals as goal
 
 pub overflow_add-at : goal.overflow_add-at
@@ -22,7 +23,7 @@ pub loop-i-init : goal.loop-i-init
 loop-i-init c = (omega arith, rw (no_edges c.args.one.now c.args.two.now) (omega arith), search_start _, omega arith)
 
 -- in a turn there is a row, and the places are small
-small : (c : tie.In-loop-i) → (c.loop-i.i < 254) × (c.loop-i.at ≤ 2550)
+small : (c : In-loop-i) → (c.loop-i.i < 254) × (c.loop-i.at ≤ 2550)
 small c =
     let k = c.kept-n.ensures.1 in (
       omega (arith, k),
@@ -33,17 +34,17 @@ pub offset_bounds-one-i : goal.offset_bounds-one-i
 offset_bounds-one-i c = record { fits = omega (arith, (small (goal.at.offset_bounds-one-i c).In-loop-i).0) }
 
 pub bounds-one-i : goal.bounds-one-i
-bounds-one-i c = (small (goal.at.bounds-one-i c).After-way_told-1).0
+bounds-one-i c = (small (goal.at.bounds-one-i c).In-loop-i).0
 
 -- the first end has at most five bytes
-first : (c : tie.After-size-in-loop-i) → c.size-in-loop-i.result ≤ 5
+first : (c : After-size-in-loop-i) → c.size-in-loop-i.result ≤ 5
 first c = omega (arith, c.size-in-loop-i.ensures, (length_limits (get_or c.args.one.now c.loop-i.i 0)).1)
 
 pub overflow_add-second : goal.overflow_add-second
-overflow_add-second c = record { fits = omega (arith, first (goal.at.overflow_add-second c).After-size-in-loop-i, (small (goal.at.overflow_add-second c).After-way_told-1).1) }
+overflow_add-second c = record { fits = omega (arith, first (goal.at.overflow_add-second c).After-size-in-loop-i, (small (goal.at.overflow_add-second c).In-loop-i).1) }
 
 -- what is found by the lengths of the code is found by those of the definition
-found : (c : tie.After-size-2) (r : ℕ)
+found : (c : After-size-2) (r : ℕ)
     → r ≡ smallest c.kept-n.result (stands (c.size.result + c.size-2.result) c.args.one.now c.args.two.now c.args.place)
     → r ≡ number_at c.args.count c.args.one.now c.args.two.now c.args.place
 found c r e =
@@ -57,23 +58,23 @@ returns-then-second-place c =
     let o = c.loop-i in
     let h = c.size.result + c.size-2.result in
     let e : (h + length (edge_bytes (rows ps c.args.two.now o.i))) + length (varint_bytes (get_or ps o.i 0)) ≡ c.args.place = omega (arith, c.size-in-loop-i.ensures) in
-    found (goal.at.returns-then-second-place c).At-loop-i o.i (search_hit _ c.kept-n.result o.i o.invariant.2 c.loop-i-test.true (eq-eqb _ _ e))
+    found (goal.at.returns-then-second-place c).After-size-2 o.i (search_hit _ c.kept-n.result o.i o.invariant.2 c.loop-i-test.true (eq-eqb _ _ e))
 
 pub offset_bounds-two-i : goal.offset_bounds-two-i
-offset_bounds-two-i c = record { fits = omega (arith, (small (goal.at.offset_bounds-two-i c).After-way_told-1).0) }
+offset_bounds-two-i c = record { fits = omega (arith, (small (goal.at.offset_bounds-two-i c).In-loop-i).0) }
 
 pub bounds-two-i : goal.bounds-two-i
-bounds-two-i c = (small (goal.at.bounds-two-i c).After-size-arg-1).0
+bounds-two-i c = (small (goal.at.bounds-two-i c).In-loop-i).0
 
 -- and so has the second
-second : (c : tie.After-size-in-loop-i-2) → c.size-in-loop-i-2.result ≤ 5
+second : (c : After-size-in-loop-i-2) → c.size-in-loop-i-2.result ≤ 5
 second c = omega (arith, c.size-in-loop-i-2.ensures, (length_limits (get_or c.args.two.now c.loop-i.i 0)).1)
 
 pub overflow_add-at-in-loop-i : goal.overflow_add-at-in-loop-i
-overflow_add-at-in-loop-i c = record { fits = omega (arith, first (goal.at.overflow_add-at-in-loop-i c).Else-second-place, second (goal.at.overflow_add-at-in-loop-i c).After-size-in-loop-i-2, (small (goal.at.overflow_add-at-in-loop-i c).After-size-arg-1).1) }
+overflow_add-at-in-loop-i c = record { fits = omega (arith, first (goal.at.overflow_add-at-in-loop-i c).After-size-in-loop-i, second (goal.at.overflow_add-at-in-loop-i c).After-size-in-loop-i-2, (small (goal.at.overflow_add-at-in-loop-i c).In-loop-i).1) }
 
 pub overflow_add-i : goal.overflow_add-i
-overflow_add-i c = record { fits = omega (arith, (small (goal.at.overflow_add-i c).After-size-arg-1).0) }
+overflow_add-i c = record { fits = omega (arith, (small (goal.at.overflow_add-i c).In-loop-i).0) }
 
 pub loop-i-smaller : goal.loop-i-smaller
 loop-i-smaller c = omega arith
@@ -87,7 +88,7 @@ loop-i-preserved c =
     let e = edge_length ps cs o.i in
     let x = c.size-in-loop-i.ensures in
     let y = c.size-in-loop-i-2.ensures in
-    let f = first (goal.at.loop-i-preserved c).Else-second-place in
+    let f = first (goal.at.loop-i-preserved c).After-size-in-loop-i in
     let g = second (goal.at.loop-i-preserved c).After-size-in-loop-i-2 in
     let other : (h + length (edge_bytes (rows ps cs o.i))) + length (varint_bytes (get_or ps o.i 0)) ≡ c.args.place → ⊥ =
     λ q. c.if-second-place.false (omega (arith, q, x))

@@ -13,6 +13,7 @@ use Rattle.edges.specs.Rows.{rows}
 use Rattle.plan.specs.Bytes.{edge_bytes}
 use Rattle.drawing.specs.Drawing.{plan_bytes}
 use Rattle.drawing.proofs.Plans.{kind_short, no_edges, edge_more}
+use Rattle.drawing.proofs.write_plan.Goals.{In-loop-i}
 use Rattle.drawing.proofs.write_plan.Goals as goal
 
 pub put-head-requires : goal.put-head-requires
@@ -27,7 +28,7 @@ loop-i-init c =
     (omega arith, rw e (omega arith), rw e (sym (put_none c.put-at.new.out c.put-at.result)), refl, omega arith)
 
 -- in a turn there is a row, and room for its two ends
-room : (c : tie.In-loop-i) → (c.loop-i.i < 254) × (c.loop-i.at + 10 ≤ length c.loop-i.out)
+room : (c : In-loop-i) → (c.loop-i.i < 254) × (c.loop-i.at + 10 ≤ length c.loop-i.out)
 room c =
     let k = c.kept-n.ensures.1 in (
       omega (arith, k),
@@ -38,23 +39,23 @@ pub offset_bounds-one-i : goal.offset_bounds-one-i
 offset_bounds-one-i c = record { fits = omega (arith, (room (goal.at.offset_bounds-one-i c).In-loop-i).0) }
 
 pub bounds-one-i : goal.bounds-one-i
-bounds-one-i c = (room (goal.at.bounds-one-i c).After-put-arg-in-loop-i-1).0
+bounds-one-i c = (room (goal.at.bounds-one-i c).In-loop-i).0
 
 pub put-second-requires : goal.put-second-requires
-put-second-requires c = omega (arith, (room (goal.at.put-second-requires c).After-put-arg-in-loop-i-1).1, (length_limits (get_or c.args.one.now c.loop-i.i 0)).1)
+put-second-requires c = omega (arith, (room (goal.at.put-second-requires c).In-loop-i).1, (length_limits (get_or c.args.one.now c.loop-i.i 0)).1)
 
 pub offset_bounds-two-i : goal.offset_bounds-two-i
-offset_bounds-two-i c = record { fits = omega (arith, (room (goal.at.offset_bounds-two-i c).After-put-arg-in-loop-i-1).0) }
+offset_bounds-two-i c = record { fits = omega (arith, (room (goal.at.offset_bounds-two-i c).In-loop-i).0) }
 
 pub bounds-two-i : goal.bounds-two-i
-bounds-two-i c = (room (goal.at.bounds-two-i c).After-way_told-1).0
+bounds-two-i c = (room (goal.at.bounds-two-i c).In-loop-i).0
 
 pub put-at-requires-in-loop-i : goal.put-at-requires-in-loop-i
 put-at-requires-in-loop-i c =
     let i = c.loop-i.i in
     omega (
       arith,
-      (room (goal.at.put-at-requires-in-loop-i c).After-way_told-1).1,
+      (room (goal.at.put-at-requires-in-loop-i c).In-loop-i).1,
       (length_limits (get_or c.args.one.now i 0)).1,
       (length_limits (get_or c.args.two.now i 0)).1,
       c.put-second.ensures.0,
@@ -62,7 +63,7 @@ put-at-requires-in-loop-i c =
     )
 
 pub overflow_add-i : goal.overflow_add-i
-overflow_add-i c = omega (arith, (room (goal.at.overflow_add-i c).After-way_told-1).0)
+overflow_add-i c = omega (arith, (room (goal.at.overflow_add-i c).In-loop-i).0)
 
 pub loop-i-smaller : goal.loop-i-smaller
 loop-i-smaller c = omega arith
@@ -80,7 +81,7 @@ loop-i-preserved c =
     let x : List ℕ = varint_bytes (get_or ps o.i 0) in
     let y : List ℕ = varint_bytes (get_or cs o.i 0) in
     let more : (b ++ x) ++ y ≡ edge_bytes (rows ps cs (o.i + 1)) = edge_more ps cs o.i in
-    let r = room (goal.at.loop-i-preserved c).After-way_told-1 in
+    let r = room (goal.at.loop-i-preserved c).In-loop-i in
     let n1 = (length_limits (get_or ps o.i 0)).1 in
     let n2 = (length_limits (get_or cs o.i 0)).1 in
     let m1 = length-append b x in

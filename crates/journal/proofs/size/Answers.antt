@@ -13,8 +13,7 @@ overflow_add-result c =
 
 pub overflow_add-result-in-Taken : goal.overflow_add-result-in-Taken
 overflow_add-result-in-Taken c =
-    let g = c.r-in-Taken-1.given in
-    omega (arith, head_length 2 g.0.0 (omega arith), pieces_most 4 g.0.0, message_most g.0.1.0)
+    omega (arith, head_length 2 c.in-Taken.sender (omega arith), pieces_most 4 c.in-Taken.sender, message_most c.in-Taken.m)
 
 pub returns-in-Start : goal.returns-in-Start
 returns-in-Start c =

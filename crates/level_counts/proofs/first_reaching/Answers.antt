@@ -1,6 +1,6 @@
 -- The search: nothing below i has k senders.
 use mathlib.Core.Path.{◌≡◌, sym, ap, ◌∙◌}
-use Prim.Native.Nat.{ℕ, ◌-◌}
+use Prim.Native.Nat.{ℕ}
 use native.Mathlib.Omega.{arith}
 use Rattle.base.specs.Pick.{smallest}
 use Rattle.base.proofs.Loops.{search_start, search_next, search_hit}

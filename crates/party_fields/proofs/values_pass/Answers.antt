@@ -4,9 +4,9 @@ use Rattle.party_fields.proofs.values_pass.Goals as goal
 pub returns-then-not-value_passes : goal.returns-then-not-value_passes
 returns-then-not-value_passes c =
     let a = c.args in
-    first_fails a.d a.l c.value-Passes.result c.value-Passes.ensures (not-true _ c.if-not-value_passes.true)
+    first_fails a.d a.l c.value_passes.result c.value_passes.ensures c.if-not-value_passes.true
 
 pub returns : goal.returns
 returns c =
     let a = c.args in
-    first_passes a.d a.l c.value-Passes.result c.value_passes-2.result c.value-Passes.ensures (not-false _ c.if-not-value_passes.false-raw) c.value_passes-2.ensures
+    first_passes a.d a.l c.value_passes.result c.value_passes-2.result c.value_passes.ensures c.if-not-value_passes.false c.value_passes-2.ensures

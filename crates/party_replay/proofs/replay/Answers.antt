@@ -16,28 +16,24 @@ first s = party_in s.args.v (shaped s.args.shape s.args.ps.now s.args.cs.now) s.
 
 pub start-requires : goal.start-requires
 start-requires c =
-    let k = c in
-    let s = k.before.before.before.before.before in
-    let g = k.r.given in
-    let f = fits_start (first s) g.0.0 g.0.1.0 (subst (Fits (first s)) g.1 s.requires.2) in
-    (s.requires.0, room_same (sym (replayed_start (first s) s.args.r g.1)) s.args.from (length s.args.out.now) s.requires.1, not-T→false _ f.1, f.2)
+    let s = (goal.at.start-requires c).Start in
+    let r = c.in-Start in
+    let f = fits_start (first s) r.agreement r.x (subst (Fits (first s)) r.is s.requires.2) in
+    (s.requires.0, room_same (sym (replayed_start (first s) s.args.r r.is)) s.args.from (length s.args.out.now) s.requires.1, not-T→false _ f.1, f.2)
 
 pub take-requires : goal.take-requires
 take-requires c =
-    let k = c in
     let s = (goal.at.take-requires c).Start in
-    let g = k.r-in-Taken-1.given in
-    let f = fits_taken (first s) g.0.0 g.0.1.0 (subst (Fits (first s)) g.1 s.requires.2) in
-    (s.requires.0, room_same (sym (replayed_taken (first s) s.args.r g.1)) s.args.from (length s.args.out.now) s.requires.1, f.1, T→true _ f.2)
+    let r = c.in-Taken in
+    let f = fits_taken (first s) r.s r.m (subst (Fits (first s)) r.is s.requires.2) in
+    (s.requires.0, room_same (sym (replayed_taken (first s) s.args.r r.is)) s.args.from (length s.args.out.now) s.requires.1, f.1, T→true _ f.2)
 
 pub returns-in-Start : goal.returns-in-Start
 returns-in-Start c =
-    let k = c in
-    let s = k.before.before.before.before.before in
-    gives_same (replayed_start (first s) s.args.r k.in-Start.is) c.start.ensures
+    let s = (goal.at.returns-in-Start c).Start in
+    gives_same (replayed_start (first s) s.args.r c.in-Start.is) c.start.ensures
 
 pub returns-in-Taken : goal.returns-in-Taken
 returns-in-Taken c =
-    let k = c in
     let s = (goal.at.returns-in-Taken c).Start in
-    gives_same (replayed_taken (first s) s.args.r k.in-Taken.is) c.take.ensures
+    gives_same (replayed_taken (first s) s.args.r c.in-Taken.is) c.take.ensures

@@ -91,7 +91,7 @@ runs c =
     let t = c.well_formed.1.1.1.1.1.0 in
     let f = (sized_in a.v p a.levels a.sets.now c.requires.0.valid (levels_full a.levels _ t) (levels_echoes a.levels _ t)).formed in
     let h = taken_held a.v p a.levels a.sets.now a.chart a.ports.now f c.requires.0.charts a.s a.m c.requires.2 c.requires.3
-        c.place-k.result c.place-k.ensures c.contains.result c.contains.ensures in
+    c.place-k.result c.place-k.ensures c.contains.result c.contains.ensures in
     taken_runs a.v p a.levels a.sets.now a.chart a.ports.now f c.requires.0.charts a.s a.m c.requires.2 c.requires.3
     c.place-k.result c.place-k.ensures c.add.result c.add.ensures (h ∙ c.if-contains.false)
 

@@ -1,5 +1,4 @@
 -- `plan_cycle::collect` meets its contract. The loop's invariant: the first i rows are the edges before the one whose groups stand at `first` and `second`.
-use Prim.Native.Nat.{◌-◌}
 use native.Mathlib.Omega.{arith}
 use Rattle.plan_cycle.proofs.Collected.{collected_start, collected_room, collected_edge, collected_next, collected_end}
 use borrow.Author.Rules.{rules}

@@ -1,5 +1,4 @@
 -- `plan_cycle::list_marked` meets its contract. The loop's invariant: the cycle lists the marked ones of the first i rows.
-use Prim.Native.Nat.{◌-◌}
 use native.Mathlib.Omega.{arith}
 use Rattle.plan_cycle.proofs.Marked.{lists_none, lists_on, lists_off, lists_all}
 use borrow.Author.Rules.{rules}

@@ -1,7 +1,6 @@
 -- `plan_finish::finish` meets its contract, question 11.
 use mathlib.Core.Path.{refl, sym, ap, ◌∙◌, subst}
 use mathlib.Core.Bool.{not}
-use Prim.Native.Nat.{◌-◌}
 use native.Mathlib.Omega.{arith}
 use lib.Dec.{T}
 use lib.Seq.{length-take-le}

@@ -1,5 +1,4 @@
 -- `plan_growth::absorb` meets its contract. The loop's invariant: row `row` and those after it have still to bring along what hangs where they lead.
-use Prim.Native.Nat.{◌-◌}
 use native.Mathlib.Omega.{arith}
 use borrow.Author.Rules.{rules}
 use Rattle.plan_growth.proofs.Columns.{laid_short}

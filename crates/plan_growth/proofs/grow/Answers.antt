@@ -1,5 +1,5 @@
 -- `plan_growth::grow` meets its contract. The loop's invariant: the columns hold the rows of the first i edges, which hang.
-use Prim.Native.Nat.{◌+◌, ◌-◌}
+use Prim.Native.Nat.{◌+◌}
 use native.Mathlib.Omega.{arith}
 use borrow.Author.Rules.{rules}
 use Rattle.base.specs.Limits.{max_vertices, max_rows}

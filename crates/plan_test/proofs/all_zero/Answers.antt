@@ -1,6 +1,5 @@
 -- `plan_test::all_zero` meets its contract. The loop's invariant: whether all is 0 is decided by what was passed and what is left.
 use mathlib.Core.Path.{sym, ◌∙◌}
-use Prim.Native.Nat.{◌-◌}
 use native.Mathlib.Omega.{arith}
 use Rattle.plan_test.proofs.Noted.{zero_start, zero_next, zero_end}
 use Rattle.plan_test.proofs.all_zero.Goals as goal

@@ -1,6 +1,4 @@
 -- `plan_test::rows_fit` meets its contract. The loop's invariant: the first i rows fit and are noted.
-use mathlib.Core.Bool.{true}
-use Prim.Native.Nat.{◌-◌}
 use native.Mathlib.Omega.{arith}
 use Rattle.plan_test.proofs.Noted.{none_fit, more_fit, stop_fit, end_fit, note_start, note_more}
 use borrow.Author.Rules.{rules}

@@ -1,5 +1,4 @@
 -- `union_find::fresh` meets its contract. The loop's invariant: each position passed is its own root, of weight 1.
-use Prim.Native.Nat.{◌-◌}
 use native.Mathlib.Omega.{arith}
 use borrow.Author.Rules.{rules}
 use Rattle.base.proofs.Loops.{stored}
