@@ -1,5 +1,4 @@
 use native.Mathlib.Omega.{arith}
-use Prim.Native.Nat.{◌-◌}
 use Rattle.costs.proofs.give_all.Goals as goal
 
 pub loop-t-smaller : goal.loop-t-smaller
