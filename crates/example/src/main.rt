@@ -48,8 +48,8 @@ fn print_call(
 }
 
 // Is the answer 1?
-fn print_answer(rt: &impl Print, m: party::Party) -> io::Result<()> {
-    let r = board::read_answer(m);
+fn print_answer(rt: &impl Print, p: party::Party) -> io::Result<()> {
+    let r = board::read_answer(p);
     let a = r.answer;
     let board::Answer::At(z) = a else {
         return println!(rt; "no answer");
