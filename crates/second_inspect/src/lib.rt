@@ -1,0 +1,48 @@
+// Question 19, written from document 01's sentence for the second implementation: is the record one
+// "whose settings pass 1 to 3, whose plan part a plan reading gives, whose sender sets name only
+// boards below n, whose outputs are on the plan, whose entered levels run from 0 without a gap,
+// level 0 over the whole plan and each next over a side of the one before, with every position in
+// its level's component and every result value at most d"? While it asks, a lent table of the second
+// implementation is filled with what the record tells. Of it only is proved that it is safe and
+// ends.
+pub mod entry;
+pub mod fill;
+pub mod part;
+
+use second_plan::table;
+use second_plan::table::Table;
+use second_sheet::sheet;
+use second_sheet::sheet::Sheet;
+
+// The levels in order: each is entered if the record says so, asked, and filled.
+fn levels_pass(sheet: &Sheet, table: &mut Table) -> bool {
+    for level in 0..sheet::LEVELS {
+        if !entry::level_passes(sheet, table, level) {
+            return false;
+        }
+    }
+    true
+}
+
+// The settings, the plan, the senders and the levels are asked and filled.
+fn passes(sheet: &Sheet, table: &mut Table) -> bool {
+    if !part::read(sheet, table) {
+        return false;
+    }
+    if !part::comes_back(sheet) {
+        return false;
+    }
+    if !fill::sets_pass(sheet, table) {
+        return false;
+    }
+    levels_pass(sheet, table)
+}
+
+// Question 19 of a record: 0, and the table is filled; or 19, and it is empty.
+pub fn inspect(sheet: &Sheet, table: &mut Table) -> u32 {
+    if passes(sheet, table) {
+        return 0;
+    }
+    *table = table::empty();
+    19
+}
