@@ -1,1 +1,2 @@
 // Demand 3 by probe counts: theorems only.
+#![tactic(auto)]

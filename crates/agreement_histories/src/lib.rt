@@ -1,1 +1,2 @@
 // Histories that meet demand 3's premises. Definitions and laws, no code.
+#![tactic(auto)]

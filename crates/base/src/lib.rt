@@ -1,5 +1,7 @@
 // What all layers share: document 01's limits, each named once; the answer of a call; and in specs/ and proofs/ choice by a test, finite sets and
 // their counts, bytes written into a buffer.
+#![tactic(auto)]
+
 ghost use Rattle.std.specs.Prelude.{◌≡◌};
 ghost use Rattle.base.specs.Tie.{limits};
 

@@ -1,4 +1,6 @@
 // The calls of a script on a board's party: a start, or a take of a message that was handed over.
+#![tactic(auto)]
+
 ghost use Rattle.bench_calls.specs.Room.{HasRoom};
 
 // The most boards of a vote.

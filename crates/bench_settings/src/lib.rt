@@ -1,4 +1,6 @@
 // The settings of a vote, and readings of the script as numbers.
+#![tactic(auto)]
+
 ghost use Rattle.std.specs.Prelude.{◌≡◌};
 ghost use Rattle.range_plan.specs.Range.{integer};
 

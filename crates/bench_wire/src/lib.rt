@@ -1,4 +1,6 @@
 // The messages handed over, in order: of each one its maker, then its bytes.
+#![tactic(auto)]
+
 ghost use Rattle.std.specs.Prelude.{◌≡◌, ◌+◌, ◌<◌, ◌≤◌, length};
 ghost use Rattle.base.specs.Limits.{message_size};
 ghost use Rattle.bench_wire.specs.Wire.{message_room, wire_size};

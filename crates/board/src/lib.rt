@@ -1,4 +1,6 @@
 // A board's calls: set-up, start, take, reading the answer, restore, reading a pair, start by count, reading a count. None asks anything of the caller.
+#![tactic(auto)]
+
 pub use board_calls::{Answer, Answered, Called, SetUp};
 pub use board_counts::{CountStarted, read_count, start_count};
 pub use board_door::{start, take};

@@ -1,4 +1,6 @@
 // What a board's calls give: accepted or refused.
+#![tactic(auto)]
+
 ghost use Rattle.std.specs.Prelude.{◌≡◌};
 ghost use Rattle.base.specs.declared.Verdict.{Verdict};
 ghost use Rattle.base.specs.Found.{refused};

@@ -1,4 +1,6 @@
 // A start by a probe's count, and the answer as a count. Neither asks anything of the caller.
+#![tactic(auto)]
+
 ghost use Rattle.std.specs.Prelude.{◌≡◌, T, eqb, pos, length};
 ghost use Rattle.base.specs.Pick.{pick};
 ghost use Rattle.base.specs.Found.{refused};

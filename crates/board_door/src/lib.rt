@@ -1,4 +1,6 @@
 // Start and take: their questions, and what these found carried out. Neither asks anything of the caller.
+#![tactic(auto)]
+
 ghost use Rattle.std.specs.Prelude.{length};
 ghost use Rattle.plan.specs.Tie.{shaped};
 ghost use Rattle.party.specs.Tie.{party_in, as_party};

@@ -1,4 +1,6 @@
 // Set-up and reading the answer, the two calls with neither a journal nor an outgoing buffer. Neither asks anything of the caller.
+#![tactic(auto)]
+
 ghost use Rattle.std.specs.Prelude.{◌≡◌};
 ghost use Rattle.party.specs.Tie.{as_party};
 ghost use Rattle.board_calls.specs.Calls.{set_up_of, answered_of};

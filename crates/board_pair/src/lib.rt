@@ -1,4 +1,6 @@
 // The reading of a pair: two range votes under two agreement numbers, read as one. It asks nothing of the caller.
+#![tactic(auto)]
+
 ghost use Rattle.std.specs.Prelude.{◌≡◌};
 ghost use Rattle.base.specs.Found.{refused};
 ghost use Rattle.party.specs.Tie.{as_party};

@@ -1,4 +1,6 @@
 // Inputs and answers as the caller knows them: vertices and readings.
+#![tactic(auto)]
+
 ghost use Rattle.std.specs.Prelude.{◌≡◌, ◌^◌, ◌<◌};
 ghost use Rattle.std.specs.Int.Signed.{mag};
 ghost use Rattle.signed.specs.Signed.{from_offset};

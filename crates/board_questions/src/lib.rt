@@ -1,4 +1,6 @@
 // The questions of a start and a take: what they find, and the record to write.
+#![tactic(auto)]
+
 ghost use Rattle.std.specs.Prelude.{◌≡◌, true, ◌≤◌};
 ghost use Rattle.base.specs.Limits.{max_boards};
 ghost use Rattle.board_questions.specs.Inner.{AtDoor, fitted, AsksStart, AsksTake};

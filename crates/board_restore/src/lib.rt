@@ -1,4 +1,6 @@
 // Restore, a party from its journal: the records are read once for their questions, and then replayed.
+#![tactic(auto)]
+
 ghost use Rattle.std.specs.Prelude.{◌≡◌, length};
 ghost use Rattle.plan.specs.Tie.{shaped, as_plan};
 ghost use Rattle.party.specs.Run.{resting};

@@ -1,6 +1,8 @@
 // Components of a plan: size, centre, ports, neighbours, sides. A range takes a constant time for each, a tree at most two passes over its rows.
 // A plan is lent as its shape and its rows, ps and cs. A component of a range is its span. A component of a tree lives in an array of bytes:
 // 1 for each member as it is entered, and after the survey the member's port and one more; 0 elsewhere.
+#![tactic(auto)]
+
 ghost use Rattle.std.specs.Prelude.{◌≡◌, ◌≤◌, T};
 ghost use Rattle.tree.specs.Component.{upto};
 ghost use Rattle.tree.specs.Inner.{middle};

@@ -1,4 +1,6 @@
 // Components of a tree given by its rows: the ports of all positions and the neighbours of the centre, each by one pass over the rows.
+#![tactic(auto)]
+
 ghost use Rattle.std.specs.Prelude.{◌≡◌, ℕ, suc, ◌+◌, ◌≤◌, ◌<◌, T, eqb, ltb, length, get_or, set};
 ghost use Rattle.base.specs.Limits.{max_vertices};
 ghost use Rattle.base.specs.Pick.{pick};

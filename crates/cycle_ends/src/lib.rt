@@ -1,6 +1,8 @@
 // Two vertices kept at the root of each set of joined vertices, between which the cycle runs inside the set:
 // how they begin, and what becomes of them where undoing an edge parts a set in two. The search that joins
 // the edges and undoes them is crate cycle_search.
+#![tactic(auto)]
+
 ghost use Rattle.std.specs.Prelude.{◌≡◌, ℕ, ◌≤◌, ◌<◌, length, get_or, set};
 ghost use Rattle.base.specs.Pick.{pick};
 ghost use Rattle.base.specs.Limits.{max_vertices};

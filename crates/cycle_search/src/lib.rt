@@ -4,6 +4,8 @@
 // root, and at every other root that root twice, since the cycle does not run there. Where undoing an edge
 // parts the two, the edge is on the cycle; on each side the edge's own end replaces a kept vertex that lies
 // on the other side. What is kept at the roots is crate cycle_ends.
+#![tactic(auto)]
+
 ghost use Rattle.std.specs.Prelude.{◌≡◌, ℕ, ◌+◌, ◌≤◌, ◌<◌, length, get_or};
 ghost use Rattle.base.specs.Sets.{bit};
 ghost use Rattle.base.specs.Limits.{max_vertices, max_rows};

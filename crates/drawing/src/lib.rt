@@ -1,4 +1,6 @@
 // Drawings of trees, as an installer writes them: the edges drawn so far, and the plan that they make. What a line says is crate drawing_lines.
+#![tactic(auto)]
+
 ghost use Rattle.std.specs.Prelude.{◌≡◌, ◌+◌, ◌≤◌, length};
 ghost use Rattle.base.specs.Limits.{max_rows};
 ghost use Rattle.base.specs.Put.{put_at};

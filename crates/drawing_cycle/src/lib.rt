@@ -1,1 +1,2 @@
 // The cycle of a drawing's plan, edge by edge as drawn: laws only.
+#![tactic(auto)]

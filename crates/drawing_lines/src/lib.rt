@@ -1,4 +1,6 @@
 // A line of a drawing, as an installer writes it: what it says, read byte by byte.
+#![tactic(auto)]
+
 ghost use Rattle.std.specs.Prelude.{◌≡◌, drop};
 ghost use Rattle.drawing_lines.specs.Inner.{no_line, word_of, is_vertex, is_range, line_with, Tells, Scans};
 

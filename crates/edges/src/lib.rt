@@ -1,4 +1,6 @@
 // The edges of a tree as they are read, one after the other: questions 7 to 9 asked of each, and the lent columns that keep them.
+#![tactic(auto)]
+
 ghost use Rattle.std.specs.Prelude.{◌≡◌, [], ◌∷◌, ◌||◌, ℕ, ◌+◌, ◌≤◌, ◌<◌, eqb, length, get_or};
 ghost use Rattle.base.specs.Sets.{bit};
 ghost use Rattle.base.specs.Limits.{max_vertices, max_degree};

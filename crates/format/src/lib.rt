@@ -1,4 +1,6 @@
 // One field of a format: the varint at a place, within limits.
+#![tactic(auto)]
+
 ghost use Rattle.std.specs.Prelude.{◌≡◌};
 ghost use Rattle.format.specs.Reading.{field_at};
 

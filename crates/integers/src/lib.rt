@@ -1,1 +1,2 @@
 // Signed numbers: their order and distances, and what the machine computes of them. Laws only.
+#![tactic(auto)]

@@ -1,4 +1,6 @@
 // Journal records: a start, or a taken message.
+#![tactic(auto)]
+
 ghost use Rattle.std.specs.Prelude.{◌≡◌, ◌++◌, ◌+◌, ◌≤◌, length};
 ghost use Rattle.base.specs.Put.{put_at};
 ghost use Rattle.varint.specs.Varint.{varint_bytes};

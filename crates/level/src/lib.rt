@@ -1,4 +1,6 @@
 // One level of a party: what the board did at it, and the fourteen rules over what it heard there.
+#![tactic(auto)]
+
 ghost use Rattle.std.specs.Prelude.{◌≡◌, replicate};
 ghost use Rattle.level.specs.Level.{blank_level, slot_count};
 ghost use Rattle.level.specs.Rules;

@@ -1,4 +1,6 @@
 // Where a level keeps the sets of senders of its messages, and the searches through them that several rules share.
+#![tactic(auto)]
+
 ghost use Rattle.std.specs.Prelude.{◌≡◌, ◌+◌, ◌-◌, ◌≤◌, ◌<◌, leb, length, get_or};
 ghost use Rattle.base.specs.Limits.{max_degree};
 ghost use Rattle.base.specs.Pick.{pick, smallest};

@@ -1,4 +1,6 @@
 // What rules 2 and 3 count and choose, of the sets of senders of a level: first echoes and the first proposal.
+#![tactic(auto)]
+
 ghost use Rattle.std.specs.Prelude.{◌≡◌, not, ◌&&◌, ◌+◌, ◌*◌, ◌≤◌, ◌<◌, eqb, length, get_or};
 ghost use Rattle.base.specs.Limits.{max_degree, max_boards};
 ghost use Rattle.base.specs.Pick.{smallest};

@@ -1,4 +1,6 @@
 // What rule 4 counts and chooses, of the sets of senders of a level: the first result.
+#![tactic(auto)]
+
 ghost use Rattle.std.specs.Prelude.{◌≡◌, ◌≤◌, ◌<◌, length};
 ghost use Rattle.base.specs.Limits.{max_degree, max_boards};
 ghost use Rattle.level_counts.specs.Places.{bit_places, slot_count};

@@ -1,4 +1,6 @@
 // What rules 12 and 13 count and choose, of the sets of senders of a level, to leave it on others' word: a side, the centre.
+#![tactic(auto)]
+
 ghost use Rattle.std.specs.Prelude.{◌≡◌, ◌+◌, ◌≤◌, ◌<◌, length, get_or};
 ghost use Rattle.base.specs.Limits.{max_degree, max_boards};
 ghost use Rattle.senders.specs.Senders.{at_least};

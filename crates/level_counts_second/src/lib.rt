@@ -1,4 +1,6 @@
 // What rules 6 and 7 count and choose, of the sets of senders of a level: second echoes and the second proposal.
+#![tactic(auto)]
+
 ghost use Rattle.std.specs.Prelude.{◌≡◌, not, ◌&&◌, ◌+◌, ◌≤◌, ◌<◌, leb, length};
 ghost use Rattle.base.specs.Limits.{max_degree, max_boards};
 ghost use Rattle.base.specs.Pick.{pick, smallest};

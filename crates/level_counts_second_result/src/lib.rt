@@ -1,4 +1,6 @@
 // What rule 8 counts and chooses, of the sets of senders of a level: the result and its grade.
+#![tactic(auto)]
+
 ghost use Rattle.std.specs.Prelude.{◌≡◌, ◌≤◌, ◌<◌, length};
 ghost use Rattle.base.specs.Limits.{max_degree, max_boards};
 ghost use Rattle.level_counts.specs.Places.{slot_count};

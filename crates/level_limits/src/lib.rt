@@ -1,4 +1,6 @@
 // The limits of a level's record, tied to the definitions, and the limits of a party's life, which follow from them.
+#![tactic(auto)]
+
 ghost use Rattle.std.specs.Prelude.{◌≡◌};
 ghost use Rattle.level_limits.specs.Tie.{limits};
 

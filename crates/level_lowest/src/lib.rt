@@ -1,4 +1,6 @@
 // Which rule of a level is applied: the lowest of the fourteen that applies.
+#![tactic(auto)]
+
 ghost use Rattle.std.specs.Prelude.{◌≡◌, ◌≤◌, length};
 ghost use Rattle.level.specs.Level.{slot_count};
 ghost use Rattle.level.specs.Inner.{InLimits};

@@ -1,4 +1,6 @@
 // A byte for each position, 1 for a member: counts, searches, members set, each in one pass.
+#![tactic(auto)]
+
 ghost use Rattle.std.specs.Prelude.{◌≡◌, ℕ, ◌≤◌, eqb, ltb, length, get_or};
 ghost use Rattle.base.specs.Limits.{max_vertices};
 ghost use Rattle.base.specs.Pick.{pick, smallest};

@@ -1,4 +1,6 @@
 // Messages: varints of agreement number, level, kind and value.
+#![tactic(auto)]
+
 ghost use Rattle.std.specs.Prelude.{◌≡◌, ◌++◌, ◌+◌, ◌≤◌, ◌<◌, Bool, true, false, length};
 ghost use Rattle.base.specs.Put.{put_at};
 ghost use Rattle.format.specs.Reading.{read_at};

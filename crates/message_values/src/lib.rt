@@ -1,4 +1,6 @@
 // The table's limits of a message's value, by its kind.
+#![tactic(auto)]
+
 ghost use Rattle.std.specs.Prelude.{◌≡◌};
 ghost use Rattle.message_values.specs.Values.{value_low, value_high};
 

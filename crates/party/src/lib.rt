@@ -1,4 +1,6 @@
 // A party: the settings, the plan and the levels of one board in one vote.
+#![tactic(auto)]
+
 ghost use Rattle.std.specs.Prelude.{◌≡◌, true, ◌+◌, ◌*◌, length};
 ghost use Rattle.base.specs.Limits.{level_count};
 ghost use Rattle.message.specs.Message.{in_table};

@@ -1,4 +1,6 @@
 // The tests of question 19 that look at one part of a record by itself: the sets of senders, an output, a level's results, how it was entered.
+#![tactic(auto)]
+
 ghost use Rattle.std.specs.Prelude.{◌≡◌, length};
 ghost use Rattle.level.specs.Level.{value_count};
 ghost use Rattle.party.specs.Valid.{value_passes};

@@ -1,4 +1,6 @@
 // Question 19: is a record one of a party? One pass over the plan part, one over the sets of senders, and a few over the plan's positions for each entered level (on a range: none).
+#![tactic(auto)]
+
 ghost use Rattle.std.specs.Prelude.{◌≡◌, ◌≤◌, T, length};
 ghost use Rattle.plan.specs.Tie.{shaped};
 ghost use Rattle.component.specs.Component.{size_of, degree_of};

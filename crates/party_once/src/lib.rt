@@ -1,1 +1,2 @@
 // No board makes a message twice in one life. A theorem, no code.
+#![tactic(auto)]

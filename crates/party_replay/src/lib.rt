@@ -1,4 +1,6 @@
 // What a record's call does: a start, or a message taken, and then rules until none applies.
+#![tactic(auto)]
+
 ghost use Rattle.std.specs.Prelude.{◌≡◌, true, false, ◌<◌, length};
 ghost use Rattle.plan.specs.Tie.{shaped};
 ghost use Rattle.message.specs.Message.{in_table};

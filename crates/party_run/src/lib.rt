@@ -1,4 +1,6 @@
 // Rules applied until none does, with the messages that they make.
+#![tactic(auto)]
+
 ghost use Rattle.std.specs.Prelude.{◌≡◌, ◌+◌, ◌-◌, ◌≤◌, ◌<◌, length};
 ghost use Rattle.base.specs.Put.{put_at};
 ghost use Rattle.base.specs.Limits.{level_count};

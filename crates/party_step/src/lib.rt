@@ -1,4 +1,6 @@
 // One rule's step: a level entered, and the next level after a rule.
+#![tactic(auto)]
+
 ghost use Rattle.std.specs.Prelude.{◌≡◌};
 ghost use Rattle.plan.specs.Tie.{shaped};
 ghost use Rattle.component.specs.Component.{side_of};

@@ -1,4 +1,6 @@
 // Plans: a tree of modes or a range of readings, and what is kept of them.
+#![tactic(auto)]
+
 ghost use Rattle.std.specs.Prelude.{◌≡◌, ◌-◌, ◌≤◌, length};
 ghost use Rattle.tree.specs.Edges.{Below};
 ghost use Rattle.tree.specs.Growth.{growth_order};

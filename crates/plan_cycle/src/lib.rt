@@ -1,4 +1,6 @@
 // The cycle that a rejected plan's edges close: from the plan's bytes alone.
+#![tactic(auto)]
+
 ghost use Rattle.std.specs.Prelude.{◌≡◌, ◌≤◌, ◌<◌, length, set};
 ghost use Rattle.base.specs.Found.{refused};
 ghost use Rattle.base.specs.Limits.{max_vertices, max_rows};

@@ -1,4 +1,6 @@
 // The end of a plan, after its last group. The edges' columns are lent (crate edges), and the bytes, for their length.
+#![tactic(auto)]
+
 ghost use Rattle.std.specs.Prelude.{◌≡◌, not, List, ℕ, T};
 ghost use Rattle.edges.specs.Inner.{list_in};
 ghost use Rattle.plan.specs.Reading.{answered};

@@ -1,4 +1,6 @@
 // A plan group by group: which group comes next. What a group that was read makes of the plan so far is crate plan_take, and its end plan_finish.
+#![tactic(auto)]
+
 ghost use Rattle.std.specs.Prelude.{◌≡◌};
 ghost use Rattle.varint.specs.Reading.{past_of};
 ghost use Rattle.plan_groups.specs.declared.Next.{Next};

@@ -1,5 +1,7 @@
 // A tree's edges laid as rows in an order in which it grows from vertex 0, in linear time: the edges are taken one by one; each hangs at both its ends
 // in chains, the latest first, and the chain at a vertex is walked once, when a row reaches it.
+#![tactic(auto)]
+
 ghost use Rattle.std.specs.Prelude.{◌≡◌, [], ◌∷◌, ◌+◌, ◌<◌, ◌≤◌, T, eqb, length, get_or, set};
 ghost use Rattle.base.specs.Limits.{max_vertices, max_rows};
 ghost use Rattle.base.specs.Pick.{pick};

@@ -1,4 +1,6 @@
 // How many different messages a sound board makes at most in a vote on a plan, with at most t faulty boards, from the plan's bytes alone: seven at each level that sends.
+#![tactic(auto)]
+
 ghost use Rattle.std.specs.Prelude.{◌≡◌, ◌≤◌, ◌+◌, T};
 ghost use Rattle.base.specs.Limits.{sending_levels, max_width};
 ghost use Rattle.base.specs.Found.{found};

@@ -1,4 +1,6 @@
 // The plan's reader: the lent plan bytes and the offset reached, together. It moves through the plan group by group; what each group says is asked of plain numbers.
+#![tactic(auto)]
+
 ghost use Rattle.std.specs.Prelude.{◌≡◌};
 ghost use Rattle.varint.specs.Reading.{varint_at, past_of};
 ghost use Rattle.edges.specs.Inner.{Lent};

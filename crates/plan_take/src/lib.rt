@@ -1,4 +1,6 @@
 // What a group that was read makes of the plan so far. The edges' columns are lent (crate edges).
+#![tactic(auto)]
+
 ghost use Rattle.std.specs.Prelude.{ℕ, T};
 ghost use Rattle.varint.specs.declared.VarintRead.{VarintRead};
 ghost use Rattle.edges.specs.Inner.{list_in};

@@ -1,4 +1,6 @@
 // Question 19's plan clause: is a plan part what reading a plan gives? One pass over its rows.
+#![tactic(auto)]
+
 ghost use Rattle.std.specs.Prelude.{◌≡◌, [], suc, ◌<◌, ◌≤◌, T, length, drop};
 ghost use Rattle.edges.specs.Rows.{rows};
 ghost use Rattle.plan.specs.Valid.{row_fits, rows_fit, all_zero, tree_valid, range_valid, plan_valid};

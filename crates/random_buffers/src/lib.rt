@@ -1,4 +1,6 @@
 // Bytes of both implementations in one array: the first's and, so many places on, the second's.
+#![tactic(auto)]
+
 use second_wire::num;
 
 // An outgoing buffer, with more bytes than a call asks for; the two of both implementations.

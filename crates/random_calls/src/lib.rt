@@ -1,4 +1,6 @@
 // What calls are given and what they give, as plain numbers.
+#![tactic(auto)]
+
 use second_wire::num::Room;
 
 // The settings that a set-up or a restore is given.

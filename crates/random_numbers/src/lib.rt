@@ -1,4 +1,6 @@
 // Pseudo-random numbers, and the state of a run: one table of numbers, read and written within it.
+#![tactic(auto)]
+
 use second_wire::num;
 
 const SIZE: usize = 2048;

@@ -1,4 +1,6 @@
 // What the trial of changed records draws at random: settings, plans, calls and changes.
+#![tactic(auto)]
+
 pub mod change;
 pub mod lead;
 pub mod plans;

@@ -1,4 +1,6 @@
 // The library's record as a sheet of numbers, and back.
+#![tactic(auto)]
+
 use level::Level;
 use party::Party;
 use plan::Plan;

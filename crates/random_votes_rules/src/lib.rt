@@ -1,4 +1,6 @@
 // Which rules a start or take applied, read off the library's party before and after it: each rule leaves its own mark in a level's record, once, but for rule 6. And how many messages its levels made.
+#![tactic(auto)]
+
 pub mod messages;
 pub mod traces;
 

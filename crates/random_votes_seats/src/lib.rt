@@ -1,4 +1,6 @@
 // Calls of a seat with what is lent to them, what faulty boards say, what every board must refuse, cuts, and damaged journals.
+#![tactic(auto)]
+
 pub mod bad;
 pub mod cuts;
 pub mod damage;

@@ -1,4 +1,6 @@
 // Counts rounded to steps, and a step's answer as a count.
+#![tactic(auto)]
+
 ghost use Rattle.std.specs.Prelude.{◌≡◌, ◌^◌, ◌<◌, T, nat_abs};
 ghost use Rattle.std.specs.Int.Signed.{mag};
 ghost use Rattle.rounding.specs.Rounding.{size_passes, with_sign, nearest_step, remainder, lesser, greater, count_answer};

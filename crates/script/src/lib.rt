@@ -1,4 +1,6 @@
 // The bench script, byte by byte: a line of any length is read with no buffer.
+#![tactic(auto)]
+
 ghost use Rattle.std.specs.Prelude.{◌≡◌, drop};
 ghost use Rattle.base.specs.Pick.{pick};
 ghost use Rattle.script.specs.Inner.{no_line, word_of, line_with, step_by, Tells, Scans};

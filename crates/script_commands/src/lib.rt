@@ -1,4 +1,6 @@
 // The first word of a line, letter by letter.
+#![tactic(auto)]
+
 ghost use Rattle.std.specs.Prelude.{◌≡◌, length};
 ghost use Rattle.base.specs.Pick.{pick};
 ghost use Rattle.script_commands.specs.Commands.{spelling};

@@ -1,4 +1,6 @@
 // A number of a line, digit by digit.
+#![tactic(auto)]
+
 ghost use Rattle.std.specs.Prelude.{◌≡◌, ◌&&◌};
 ghost use Rattle.base.specs.Pick.{pick};
 ghost use Rattle.script_numbers.specs.Numbers.{is_digit};

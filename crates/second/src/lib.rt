@@ -1,6 +1,8 @@
 // The vote written a second time from the sentences of documents 01 and 02, with plain tables and
 // loops over all boards, values, positions and edges. It is compared with the first implementation
 // byte for byte; of itself it is proved only that it is safe and ends.
+#![tactic(auto)]
+
 pub mod ask;
 pub mod pair;
 pub mod reading;

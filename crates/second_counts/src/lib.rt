@@ -1,5 +1,7 @@
 // Document 02's votes by counts, written a second time from its sentences: "Probes give signed 64-bit counts; stations vote in steps of g counts". Of it only is
 // proved that it is safe and ends.
+#![tactic(auto)]
+
 pub mod codes;
 pub mod rounding;
 

@@ -1,5 +1,7 @@
 // The cycle that a rejected plan's edges close, found a second time from document 02's sentence, in
 // two ways. Of it only is proved that it is safe and ends.
+#![tactic(auto)]
+
 mod bits;
 pub mod cycle;
 mod joined;

@@ -5,6 +5,8 @@
 // its level's component and every result value at most d"? While it asks, a lent table of the second
 // implementation is filled with what the record tells. Of it only is proved that it is safe and
 // ends.
+#![tactic(auto)]
+
 pub mod entry;
 pub mod fill;
 pub mod part;

@@ -1,6 +1,8 @@
 // How busy one vote makes the wire, found a second time from the sentences of documents 01 and 02: the
 // sending levels of a plan's deepest component, by going down every chain of sides. Of it only is
 // proved that it is safe and ends.
+#![tactic(auto)]
+
 mod chains;
 mod sides;
 

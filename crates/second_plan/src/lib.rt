@@ -1,5 +1,7 @@
 // The table that a board keeps, and plans read into it, written a second time from document 01's
 // sentences. Of it only is proved that it is safe and ends.
+#![tactic(auto)]
+
 pub mod plans;
 pub mod table;
 pub mod trees;

@@ -1,2 +1,4 @@
 // A record as plain numbers, for question 19 of the second implementation.
+#![tactic(auto)]
+
 pub mod sheet;

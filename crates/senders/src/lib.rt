@@ -1,4 +1,6 @@
 // Sets of senders as masks: digit s is 1 where board s is in the set.
+#![tactic(auto)]
+
 ghost use Rattle.std.specs.Prelude.{◌≡◌, ◌<◌, ◌≤◌, ◌^◌};
 ghost use Rattle.base.specs.Limits.{max_boards};
 ghost use Rattle.senders.specs.Senders.{is_in, with_sender, union, at_least};

@@ -1,4 +1,6 @@
 // Questions 1 to 3: a board's settings.
+#![tactic(auto)]
+
 ghost use Rattle.std.specs.Prelude.{◌≡◌};
 ghost use Rattle.settings.specs.Settings.{settings_fault};
 

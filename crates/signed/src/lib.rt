@@ -1,4 +1,6 @@
 // Signed numbers as varints: 2z for z of 0 or more, else -2z-1.
+#![tactic(auto)]
+
 ghost use Rattle.std.specs.Prelude.{◌≡◌, ◌+◌, ◌≤◌};
 ghost use Rattle.varint.specs.Writing.{written_of, buffer_of};
 ghost use Rattle.signed.specs.Signed.{zigzag, unzigzag, signed_at, signed_bytes, offset, from_offset, offset_of_zigzag};

@@ -1,5 +1,7 @@
 // How many rounds take a tree apart, each component of three or more positions losing its centre in a round. A round takes a few passes over
 // the rows and the positions, for all components of the forest at once.
+#![tactic(auto)]
+
 ghost use Rattle.std.specs.Prelude.{◌≡◌, ◌&&◌, ◌||◌, ℕ, ◌-◌, ◌≤◌, ◌<◌, T, ltb, length, get_or, set};
 ghost use Rattle.base.specs.Limits.{max_vertices};
 ghost use Rattle.base.specs.Pick.{pick};

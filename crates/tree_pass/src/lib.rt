@@ -1,4 +1,6 @@
 // A pass over the rows of a tree in growth order: labels and neighbours. Sizes and the centre: tree_pass_centre.
+#![tactic(auto)]
+
 ghost use Rattle.std.specs.Prelude.{◌≡◌, ◌&&◌, ◌||◌, ℕ, ◌≤◌, ◌<◌, length, get_or};
 ghost use Rattle.base.specs.Limits.{max_vertices};
 ghost use Rattle.tree.specs.Edges.{label, adjacent};

@@ -1,4 +1,6 @@
 // A pass back over the rows of a tree in growth order: sizes of subtrees, and the smallest light member.
+#![tactic(auto)]
+
 ghost use Rattle.std.specs.Prelude.{◌≡◌, not, ◌&&◌, ℕ, ◌≤◌, ◌<◌, length, get_or};
 ghost use Rattle.base.specs.Pick.{smallest};
 ghost use Rattle.base.specs.Sets.{bit};

@@ -1,4 +1,6 @@
 // Passes over the rows of a tree in growth order, for all components of a forest at once: labels, sizes of subtrees, light members.
+#![tactic(auto)]
+
 ghost use Rattle.std.specs.Prelude.{◌≡◌, not, ◌&&◌, ℕ, ◌≤◌, ◌<◌, T, length, get_or};
 ghost use Rattle.base.specs.Limits.{max_vertices};
 ghost use Rattle.base.specs.Sets.{bit};

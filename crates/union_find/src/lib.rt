@@ -1,4 +1,6 @@
 // Disjoint sets of positions (union-find by size) over lent arrays: are two positions joined through the edges so far?
+#![tactic(auto)]
+
 ghost use Rattle.std.specs.Prelude.{◌≡◌, [], ◌∷◌, ◌+◌, ◌≤◌, ◌<◌, length, get_or, set};
 ghost use Rattle.base.specs.Limits.{max_vertices};
 ghost use Rattle.tree.specs.Edges.{Edges};

@@ -1,4 +1,6 @@
 // Varints (document 01 calls them groups): a whole number in seven-bit pieces, low piece first, in the fewest bytes, at most 2^32 - 1.
+#![tactic(auto)]
+
 ghost use Rattle.std.specs.Prelude.{◌≡◌, ◌+◌, ◌≤◌, ◌<◌, length};
 ghost use Rattle.base.specs.Put.{put_at};
 ghost use Rattle.varint.specs.Varint.{piece_size, pieces, varint_bytes};
