@@ -1,5 +1,5 @@
 // Standard input as steps of a script.
-ghost use Rattle.std.specs.Prelude.{◌≤◌};
+ghost use Rattle.std.specs.Prelude.{◌≤◌, length};
 
 use script::{Line, Step};
 use std::io;
@@ -55,16 +55,16 @@ impl Input {
         }
     }
 
-    // How many bytes the last read brought; there is room for no more than these.
-    fn held(self) -> usize
-        ensures { result ≤ 4096 }
+    // How many of the bytes the last read brought.
+    fn held(self, bytes: &[u8]) -> usize
+        ensures { result ≤ length bytes.now }
     {
-        self.got.min(BYTES)
+        self.got.min(bytes.len())
     }
 
     // Reads on to the end of the line, or of the bytes that the last read brought.
-    fn scanned(self, bytes: &[u8; BYTES]) -> Input {
-        let n = self.held();
+    fn scanned(self, bytes: &[u8]) -> Input {
+        let n = self.held(bytes);
         let found = script::scan(self.line, &bytes[..n], self.at);
         let step = found.step;
         let line = found.line;
@@ -79,7 +79,7 @@ impl Input {
 
     // Reads on in the bytes; where none are left, standard input brings more.
     pub fn next(self, from: &mut impl Read, bytes: &mut [u8; BYTES]) -> io::Result<Input> {
-        if self.held() <= self.at {
+        if self.held(bytes) <= self.at {
             let got = from.read(bytes)?;
             return Ok(self.filled(got));
         }

@@ -1,5 +1,5 @@
 // Standard input as lines of drawings.
-ghost use Rattle.std.specs.Prelude.{◌≤◌};
+ghost use Rattle.std.specs.Prelude.{◌≤◌, length};
 
 use drawing_lines::{Line, Said};
 use std::io::Read;
@@ -71,16 +71,16 @@ impl Input {
         }
     }
 
-    // How many bytes the last read brought; there is room for no more than these.
-    fn held(self) -> usize
-        ensures { result ≤ 4096 }
+    // How many of the bytes the last read brought.
+    fn held(self, bytes: &[u8]) -> usize
+        ensures { result ≤ length bytes.now }
     {
-        self.got.min(BYTES)
+        self.got.min(bytes.len())
     }
 
     // Reads on to the end of the line, or of the bytes that the last read brought.
-    fn scanned(self, bytes: &[u8; BYTES]) -> Input {
-        let n = self.held();
+    fn scanned(self, bytes: &[u8]) -> Input {
+        let n = self.held(bytes);
         let found = drawing_lines::scan(self.begun(), &bytes[..n], self.at);
         let line = found.line;
         Input {
@@ -95,7 +95,7 @@ impl Input {
 
     // Reads on in the bytes; where none are left, standard input brings more.
     pub fn next(self, from: &mut impl Read, bytes: &mut [u8; BYTES]) -> Input {
-        if self.held() <= self.at {
+        if self.held(bytes) <= self.at {
             return match from.read(bytes) {
                 Ok(got) => self.filled(got),
                 Err(_) => self.ended(true),

@@ -23,8 +23,9 @@ fn print_ends(rt: &impl Print, is_loop: bool) -> io::Result<()> {
     print!(rt; "vertices are numbered from 0 without gaps, or an edge is missing")
 }
 
-fn print_above(rt: &impl Print, most: usize, what: &str) -> io::Result<()> {
-    print!(rt; "more than {most}{what}")
+fn print_above(rt: &impl Print, most: usize, what: &[u8]) -> io::Result<()> {
+    print!(rt; "more than {most}")?;
+    rt.write_all(what)
 }
 
 // A range refused by 10.
@@ -32,7 +33,7 @@ fn print_wide(rt: &impl Print) -> io::Result<()> {
     print_above(
         rt,
         base::MAX_WIDTH as usize + 1,
-        " positions, or a reading above ",
+        b" positions, or a reading above ",
     )?;
     print!(rt; "{}", base::OFFSET_ZERO - 1)
 }
@@ -44,11 +45,11 @@ fn print_cause(rt: &impl Print, number: u8, is_loop: bool) -> io::Result<()> {
         6 => print_above(
             rt,
             base::MAX_ROWS,
-            " edges: too large a tree, or a ring in it",
+            b" edges: too large a tree, or a ring in it",
         ),
         7 => print_ends(rt, is_loop),
         8 => print!(rt; "a ring, or an edge given twice"),
-        9 => print_above(rt, base::MAX_DEGREE as usize, " edges at one vertex"),
+        9 => print_above(rt, base::MAX_DEGREE as usize, b" edges at one vertex"),
         10 => print_wide(rt),
         _ => print!(rt; "see the table of refusals"),
     }
@@ -127,8 +128,10 @@ fn print_bound(rt: &impl Print, levels: u32, messages: u32) -> io::Result<()> {
 }
 
 // A plan that passes, with so many positions, which are called so.
-fn print_plan(rt: &impl Print, plan: &[u8], positions: u64, called: &str) -> io::Result<()> {
-    print!(rt; "passes, {positions}{called}, plan")?;
+fn print_plan(rt: &impl Print, plan: &[u8], positions: u64, called: &[u8]) -> io::Result<()> {
+    print!(rt; "passes, {positions}")?;
+    rt.write_all(called)?;
+    print!(rt; ", plan")?;
     print::bytes(rt, plan)?;
     println!(rt)
 }
@@ -146,7 +149,7 @@ fn print_verdict(
     let v = b.verdict;
     match v {
         Verdict::Accepted => {
-            print_plan(rt, plan, drawing::vertices(count) as u64, " vertices")?;
+            print_plan(rt, plan, drawing::vertices(count) as u64, b" vertices")?;
             print_bound(rt, b.levels, b.messages)
         }
         Verdict::Refused { number, place } => print_refusal(
@@ -174,7 +177,7 @@ fn print_range_verdict(rt: &impl Print, plan: &[u8], positions: u64) -> io::Resu
     let v = b.verdict;
     match v {
         Verdict::Accepted => {
-            print_plan(rt, plan, positions, " positions")?;
+            print_plan(rt, plan, positions, b" positions")?;
             print_bound(rt, b.levels, b.messages)
         }
         Verdict::Refused { number, place } => print_refused(rt, number, place, false),

@@ -1,6 +1,7 @@
 // A fixed run of every call, for tools/costs to count the instructions of each: sound boards take every message of a vote, then each board is
 // restored and read, and gets calls that find nothing to do. Standard input: n, t, the plan's length in two bytes (the low one first), the
-// plan, and each board's input in three bytes. Every call stands at two places, so that the compiler keeps it a function of its own.
+// plan, and each board's input in three bytes. Every call stands at two places, so that a compiler rather keeps it
+// a function of its own.
 #![tactic(auto)]
 
 ghost use Rattle.std.specs.Prelude.{IfOk, ◌≡◌, ◌+◌, ◌*◌, ◌≤◌, ◌<◌, length};
