@@ -8,6 +8,7 @@ use native.Mathlib.Omega.{arith}
 use lib.Dec.{T}
 use lib.IntN.{ℤ}
 use lib.ListN.{length}
+use Rattle.std.specs.Prelude.{Ok}
 use Rattle.base.specs.Sets.{Set}
 use Rattle.base.specs.Limits.{max_width, outgoing_size}
 use Rattle.base.proofs.Bools.{true→T, not-T→false}
@@ -17,9 +18,8 @@ use Rattle.varint.proofs.Lengths.{length_at_most}
 use Rattle.plan.specs.Plan.{Plan}
 use Rattle.plan_laws.proofs.Shape.{shape}
 use Rattle.message.specs.declared.Message.{Message}
-use Rattle.message.specs.declared.Exactly.{Exactly}
+use Rattle.message.specs.Reading.{Exactly, exact_message}
 use Rattle.message.specs.Message.{message_bytes}
-use Rattle.message.specs.Reading.{exact_message}
 use Rattle.message.proofs.RoundTrip.{message_length_most}
 use Rattle.level.specs.Level.{no_output}
 use Rattle.journal.specs.declared.Record.{Record}
@@ -70,12 +70,12 @@ module _ (v : Instance) (plan : Plan) (bad : Set) (f : Shared v plan) where
       ∙ ap (λ (rs : List Record). found (lived_replay (new_board v plan i) rs)) (sym (records_of_lem v plan bad f h a i k))
 
   -- what a board handed over is of the vote
-  handed_number : (h : History) → Allowed v bad h → (j : ℕ) (bytes : List ℕ) → Handed j bytes h → j < v.n → (m : Message) → exact_message bytes ≡ Exactly.One m
+  handed_number : (h : History) → Allowed v bad h → (j : ℕ) (bytes : List ℕ) → Handed j bytes h → j < v.n → (m : Message) → exact_message bytes ≡ Ok m
       → m.number ≡ v.agreement
   handed_number h a j bytes g l m e =
       let x = handed_made v plan bad f h a j bytes g in
       let s : Sent (state_of v plan h j) x.0 = (makes_state v plan bad f h a j l x.0).0 ((made_records v plan bad f h a j x.0).0 x.2) in
-      let y : Exactly.One m ≡ Exactly.One x.0 = sym e ∙ ap exact_message x.1 ∙ sent_read v plan bad f h a j l x.0 s in
+      let y : ◌≡◌ {A = Exactly} (Ok m) (Ok x.0) = sym e ∙ ap exact_message x.1 ∙ sent_read v plan bad f h a j l x.0 s in
       let z : m ≡ x.0 = cc in
       ap (λ (y : Message). y.number) z ∙ s.number ∙ (state_board v plan bad f h a j l).agreement
 
@@ -145,7 +145,7 @@ module _ (v : Instance) (plan : Plan) (bad : Set) (f : Shared v plan) where
     pub take_accepted : (j : ℕ) (bytes : List ℕ) → Handed j bytes h → (e : Entry) × (take_finds p j bytes lent used ≡ found e)
     take_accepted j bytes g = go (held_by p j m) refl
       where
-        one : (j < v.n) × ((m : Message) × (bytes ≡ message_bytes m) × (exact_message bytes ≡ Exactly.One m))
+        one : (j < v.n) × ((m : Message) × (bytes ≡ message_bytes m) × (exact_message bytes ≡ Ok m))
         one = handed_one v plan bad f h a j bytes g
 
         m : Message
@@ -181,7 +181,7 @@ module _ (v : Instance) (plan : Plan) (bad : Set) (f : Shared v plan) where
       -- "and has taken every message that sound boards handed over": one that was handed over can be taken
       pub can_take : (j : ℕ) (bytes : List ℕ) → Handed j bytes h →
           let s = calls i (take_message_lem p j bytes lent used) in
-          Allowed v bad (s ∷ h) × ((m : Message) × (exact_message bytes ≡ Exactly.One m) × Took (s ∷ h) i j m)
+          Allowed v bad (s ∷ h) × ((m : Message) × (exact_message bytes ≡ Ok m) × Took (s ∷ h) i j m)
       can_take j bytes g =
           let x = take_accepted h a i o.0 p lent used c room long j bytes g in
           let m = (handed_one v plan bad f h a j bytes g).1 in

@@ -6,6 +6,7 @@ use mathlib.Core.List.{List, [], ◌∷◌, Memᴰ}
 use Prim.Native.Nat.{ℕ, ◌<◌}
 use native.Mathlib.Omega.{arith}
 use lib.IntN.{ℤ}
+use Rattle.std.specs.Prelude.{Some, None}
 use Rattle.base.specs.Sets.{Set}
 use Rattle.plan.specs.Plan.{Plan}
 use Rattle.plan.specs.Positions.{reading_of}
@@ -13,8 +14,7 @@ use Rattle.message.specs.declared.Message.{Message}
 use Rattle.level.specs.Level.{no_output}
 use Rattle.party.specs.Party.{Party, output_of}
 use Rattle.party_laws.proofs.Laws.{Output, level_holds, output_stays}
-use Rattle.board_calls.specs.declared.Answer.{Answer}
-use Rattle.board_calls.specs.Answers.{answer_of}
+use Rattle.board_calls.specs.Answers.{answer_of, Answer}
 use Rattle.board_calls.specs.Calls.{answered_of}
 use Rattle.board_laws.proofs.Counts.{count_refused}
 use Rattle.execution.specs.Machine.{Event, Machine}
@@ -37,7 +37,7 @@ module _ (v : Instance) (plan : Plan) (bad : Set) (f : Shared v plan) where
 
   -- a state that answers z
   abbrev Says : ℤ → Party → Type 0
-  Says z s = Inv s × (answer_of plan (output_of s) ≡ Answer.At z)
+  Says z s = Inv s × (answer_of plan (output_of s) ≡ Some z)
 
   -- an output never changes
   says_rises : (z : ℤ) (s : Party) (e : Event Message ℕ) → Says z s → Says z ((machine_of v plan).run s e)
@@ -53,7 +53,7 @@ module _ (v : Instance) (plan : Plan) (bad : Set) (f : Shared v plan) where
   later_seen j (cuts k) H i P x = x
 
   -- a reading is a mark of a state with that answer: a call whose party is the board's and that gives an answer
-  module _ (i : ℕ) (k : i < v.n) (q : Party) (z : ℤ) (e : (answered_of q).answer ≡ Answer.At z) (c : Call) (tale : call_tale c ≡ marks)
+  module _ (i : ℕ) (k : i < v.n) (q : Party) (z : ℤ) (e : (answered_of q).answer ≡ Some z) (c : Call) (tale : call_tale c ≡ marks)
       (of : (h : History) → Refuses c ⊎ Accepts v bad i h (board_after h i) c → ((board_after h i).stage ≡ running) × (q ≡ (board_after h i).party)) where
     reading_seen : (h : History) → Allowed v bad h → Memᴰ (calls i c) h → Seen (machine_of v plan) i (Says z) (told v plan h)
     unfolding told
@@ -71,11 +71,11 @@ module _ (v : Instance) (plan : Plan) (bad : Set) (f : Shared v plan) where
         go (inl y) ih = subst (λ (y : Step). May v bad y h → Seen M i (Says z) (added v plan (whose y) (tale_of (board_after h (whose y)) y) (told v plan h))) y first m
         go (inr y) ih = later_seen (whose s) (tale_of (board_after h (whose s)) s) (told v plan h) i (Says z) (ih y)
 
-  no_answer : {x : Answer} {z : ℤ} → x ≡ Answer.None → x ≡ Answer.At z → ⊥
-  no_answer {x} {z} n e = let y : Answer.None ≡ Answer.At z = sym n ∙ e in let o : ◌≡◌ {A = ℕ} 0 1 = cc in omega arith
+  no_answer : {x : Answer} {z : ℤ} → x ≡ None → x ≡ Some z → ⊥
+  no_answer {x} {z} n e = let y : None ≡ Some z = sym n ∙ e in let o : ◌≡◌ {A = ℕ} 0 1 = cc in omega arith
 
-  pub read_seen : (h : History) → Allowed v bad h → (i : ℕ) → i < v.n → (q : Party) (z : ℤ) → WasRead h i q → (answered_of q).answer ≡ Answer.At z
-      → Seen (machine_of v plan) i (λ s. Inv s × (answer_of plan (output_of s) ≡ Answer.At z)) (told v plan h)
+  pub read_seen : (h : History) → Allowed v bad h → (i : ℕ) → i < v.n → (q : Party) (z : ℤ) → WasRead h i q → (answered_of q).answer ≡ Some z
+      → Seen (machine_of v plan) i (λ s. Inv s × (answer_of plan (output_of s) ≡ Some z)) (told v plan h)
   read_seen h a i k q z (inl x) e = reading_seen i k q z e (read_answer q) (ap answer_tale e) of h a x
     where
       of : (h : History) → Refuses (read_answer q) ⊎ Accepts v bad i h (board_after h i) (read_answer q) → ((board_after h i).stage ≡ running) × (q ≡ (board_after h i).party)
@@ -89,7 +89,7 @@ module _ (v : Instance) (plan : Plan) (bad : Set) (f : Shared v plan) where
 
   module _ (h : History) (a : Allowed v bad h) where
     -- an answer, held then or read earlier, is that of the board's state
-    pub answers_state : (i : ℕ) → i < v.n → (z : ℤ) → Answers v h i z → answer_of plan (output_of (state_of v plan h i)) ≡ Answer.At z
+    pub answers_state : (i : ℕ) → i < v.n → (z : ℤ) → Answers v h i z → answer_of plan (output_of (state_of v plan h i)) ≡ Some z
     answers_state i k z (inl e) = sym (answer_now_lem v plan bad f h a i k) ∙ e
     answers_state i k z (inr (q, x, e)) =
         (still M (Says z) (says_rises z) v.n bad (told v plan h) (told_valid v plan bad f h a) i (read_seen h a i k q z x e)).1
@@ -106,5 +106,5 @@ module _ (v : Instance) (plan : Plan) (bad : Set) (f : Shared v plan) where
         low (inr l) d = subst (λ (y : Plan). output_of (state_of v plan h i) < y.count) (state_plan v plan bad f h a i k) l
 
     -- a board with an output has an answer
-    pub output_answers : (i : ℕ) → i < v.n → (output_of (state_of v plan h i) ≡ no_output → ⊥) → (z : ℤ) × (answer_now v h i ≡ Answer.At z)
+    pub output_answers : (i : ℕ) → i < v.n → (output_of (state_of v plan h i) ≡ no_output → ⊥) → (z : ℤ) × (answer_now v h i ≡ Some z)
     output_answers i k d = (reading_of plan (output_of (state_of v plan h i)), answer_now_lem v plan bad f h a i k ∙ answer_at plan (output_of (state_of v plan h i)) d)

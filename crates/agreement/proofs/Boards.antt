@@ -7,6 +7,7 @@ use native.Mathlib.Omega.{arith}
 use lib.Dec.{T}
 use lib.IntN.{ℤ}
 use borrow.Author.Tests.{ne_eqb}
+use Rattle.std.specs.Prelude.{Ok, Some, None}
 use Rattle.base.specs.Sets.{Set}
 use Rattle.base.specs.Limits.{outgoing_size}
 use Rattle.base.proofs.Bools.{T→true}
@@ -14,7 +15,6 @@ use Rattle.base.specs.Found.{Found}
 use Rattle.plan.specs.Plan.{Plan}
 use Rattle.plan.specs.Positions.{reading_of}
 use Rattle.message.specs.declared.Message.{Message}
-use Rattle.message.specs.declared.Exactly.{Exactly}
 use Rattle.message.specs.Message.{message_bytes}
 use Rattle.message.specs.Reading.{exact_message}
 use Rattle.level.specs.Level.{Level, no_output}
@@ -26,7 +26,6 @@ use Rattle.party.specs.Valid.{party_valid}
 use Rattle.party_laws.proofs.Laws.{SameBoard, Formed}
 use Rattle.party_laws.proofs.Calls.{new_level}
 use Rattle.party_life.specs.Life.{lived, made_along}
-use Rattle.board_calls.specs.declared.Answer.{Answer}
 use Rattle.board_calls.specs.Answers.{answer_of}
 use Rattle.board_calls.specs.Calls.{answered_of, no_party}
 use Rattle.board_calls.specs.Restore.{Replay, restored_of}
@@ -49,27 +48,27 @@ use Rattle.agreement.proofs.Histories.{state_lived, tied}
 
 -- ---- answers
 
-pub answered_none : (answered_of no_party).answer ≡ Answer.None
+pub answered_none : (answered_of no_party).answer ≡ None
 unfolding answered_of party_valid
 answered_none = refl
 
-pub answer_none : (plan : Plan) (x : ℕ) → x ≡ no_output → answer_of plan x ≡ Answer.None
+pub answer_none : (plan : Plan) (x : ℕ) → x ≡ no_output → answer_of plan x ≡ None
 unfolding answer_of
 answer_none plan x e = rw e
 
-pub answer_at : (plan : Plan) (x : ℕ) → (x ≡ no_output → ⊥) → answer_of plan x ≡ Answer.At (reading_of plan x)
+pub answer_at : (plan : Plan) (x : ℕ) → (x ≡ no_output → ⊥) → answer_of plan x ≡ Some (reading_of plan x)
 unfolding answer_of
 answer_at plan x d = rw (ne_eqb x no_output d)
 
 -- an answer is an output's reading
-pub answer_reading : (plan : Plan) (x : ℕ) (z : ℤ) → answer_of plan x ≡ Answer.At z → (x ≡ no_output → ⊥) × (reading_of plan x ≡ z)
+pub answer_reading : (plan : Plan) (x : ℕ) (z : ℤ) → answer_of plan x ≡ Some z → (x ≡ no_output → ⊥) × (reading_of plan x ≡ z)
 answer_reading plan x z e = (there, same)
   where
     there : x ≡ no_output → ⊥
-    there n = let f : Answer.None ≡ Answer.At z = sym (answer_none plan x n) ∙ e in let o : ◌≡◌ {A = ℕ} 0 1 = cc in omega arith
+    there n = let f : None ≡ Some z = sym (answer_none plan x n) ∙ e in let o : ◌≡◌ {A = ℕ} 0 1 = cc in omega arith
 
     same : reading_of plan x ≡ z
-    same = let f : Answer.At (reading_of plan x) ≡ Answer.At z = sym (answer_at plan x there) ∙ e in cc
+    same = let f : Some (reading_of plan x) ≡ Some z = sym (answer_at plan x there) ∙ e in cc
 
 -- a party that has not started has none
 new_output : (n t own a : ℕ) (plan : Plan) → output_of (lived (new_party n t own a plan) []).party ≡ no_output
@@ -171,6 +170,6 @@ module _ (v : Instance) (plan : Plan) (bad : Set) (f : Shared v plan) where
         (made_sent v.n v.t i v.agreement plan (settings_pass_lem v plan f i k) (plan_valid_lem v plan f i k) w.records w.life m)
 
     -- reading a made message's bytes gives it
-    pub sent_read : (m : Message) → Sent (state_of v plan h i) m → exact_message (message_bytes m) ≡ Exactly.One m
+    pub sent_read : (m : Message) → Sent (state_of v plan h i) m → exact_message (message_bytes m) ≡ Ok m
     sent_read m s =
         tied_read v plan f i k (board_after h i) (log M i (told v plan h)) (held M i (told v plan h)) w m (subst (λ (q : Party). Sent q m) state_records s)

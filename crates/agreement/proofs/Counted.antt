@@ -9,10 +9,10 @@ use native.Mathlib.Omega.{arith}
 use borrow.Author.Tests.{leb-true, leb-false}
 use lib.Dec.{T, leb}
 use lib.ListN.{length, drop}
+use Rattle.std.specs.Prelude.{Ok}
 use Rattle.base.specs.Pick.{pick}
 use Rattle.plan.specs.Plan.{Plan}
 use Rattle.message.specs.declared.Message.{Message}
-use Rattle.message.specs.declared.Exactly.{Exactly}
 use Rattle.level.specs.Level.{no_output}
 use Rattle.journal.specs.declared.Record.{Record}
 use Rattle.journal.specs.declared.Record.TheVariants.{Start, Taken}
@@ -26,7 +26,7 @@ use Rattle.agreement.specs.History.{StartInput, voted_input, Act, a_start, a_tak
 -- the record of a call
 abbrev pub Says : Plan → Act → Record → Type 0
 Says plan (a_start x input) r = (a : ℕ) × (Start a x ≡ r) × (position_of plan (voted_input input) ≡ x) × (x ≡ no_output → ⊥)
-Says plan (a_take s e) r = (m : Message) × (e ≡ Exactly.One m) × (Taken s m ≡ r)
+Says plan (a_take s e) r = (m : Message) × (e ≡ Ok m) × (Taken s m ≡ r)
 
 -- the call wrote the newest of the records rs, where `older` were there before, from the party p on
 pub record Wrote (plan : Plan) (p : Party) (c : Counted) (rs older : List Record) : Type 0 where
@@ -40,7 +40,7 @@ pub record Wrote (plan : Plan) (p : Party) (c : Counted) (rs older : List Record
 pub record Repeats (c : Counted) (rs : List Record) : Type 0 where
   pub sender : ℕ
   pub message : Message
-  pub act : c.act ≡ a_take sender (Exactly.One message)
+  pub act : c.act ≡ a_take sender (Ok message)
   pub held : Memᴰ (Taken sender message) rs
   pub made : c.made ≡ []
   pub used : c.used ≡ length (journal_bytes rs)
@@ -173,9 +173,9 @@ module _ (plan : Plan) (p : Party) where
   says_start (a_take s e) b x (m, i, j) = absurd (subst (λ (r : Record). T (not (is_start r))) j tt)
 
   -- a record of a message taken is that take's
-  pub says_take : (a : Act) (s : ℕ) (m : Message) → Says plan a (Taken s m) → a ≡ a_take s (Exactly.One m)
+  pub says_take : (a : Act) (s : ℕ) (m : Message) → Says plan a (Taken s m) → a ≡ a_take s (Ok m)
   says_take (a_start y input) s m (c, e, at, on) = absurd (subst (λ (r : Record). T (is_start r)) e tt)
   says_take (a_take t e) s m (n, i, j) =
       let k : t ≡ s = cc in
       let l : n ≡ m = cc in
-      (λ z. a_take (k z) (i z)) ∙ ap (λ (y : Message). a_take s (Exactly.One y)) l
+      (λ z. a_take (k z) (i z)) ∙ ap (λ (y : Message). a_take s (Ok y)) l

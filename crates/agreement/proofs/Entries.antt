@@ -8,6 +8,7 @@ use native.Mathlib.Omega.{arith}
 use lib.Dec.{T, leb, ltb, eqb, T_not, leb→le, ltb→lt, eqb→eq, eqb_refl}
 use lib.IntN.{ℤ, pos, negsuc}
 use lib.ListN.{length}
+use Rattle.std.specs.Prelude.{Ok, Err}
 use Rattle.base.specs.Pick.{pick}
 use Rattle.base.specs.Limits.{max_number, offset_zero, max_boards, max_width, outgoing_size}
 use Rattle.base.proofs.Bools.{T→true, true→T}
@@ -15,9 +16,8 @@ use Rattle.base.specs.Found.{Found, found, ask}
 use Rattle.plan.specs.Plan.{Plan}
 use Rattle.plan.proofs.Listed.{asked}
 use Rattle.message.specs.declared.Message.{Message}
-use Rattle.message.specs.declared.Exactly.{Exactly}
+use Rattle.message.specs.Reading.{Exactly, broken, exact_message}
 use Rattle.message.specs.Message.{in_table}
-use Rattle.message.specs.Reading.{exact_message}
 use Rattle.message.proofs.RoundTrip.{message_table, exact_message_at}
 use Rattle.level.specs.Level.{no_output}
 use Rattle.journal.specs.declared.Record.{Record}
@@ -64,7 +64,7 @@ module _ (p : Plan) where
 -- ---- messages
 
 -- what is read as one message is in the table
-pub exact_table : (s : List ℕ) (m : Message) → exact_message s ≡ Exactly.One m → in_table m ≡ true
+pub exact_table : (s : List ℕ) (m : Message) → exact_message s ≡ Ok m → in_table m ≡ true
 exact_table s m e = message_table s 0 m (length s) (exact_message_at s m e)
 
 -- ---- accepted calls
@@ -141,7 +141,7 @@ start_at_lem p input lent used x r ran e at =
     e ∙ (λ z. found (fresh (s z) (does z)))
 
 pub take_recorded : (p : Party) (s : ℕ) (bytes : List ℕ) (room used out : ℕ) (r : Record) (ran : Ran) → take_questions p s bytes room used out ≡ found (fresh r ran)
-    → (m : Message) × (exact_message bytes ≡ Exactly.One m) × (Taken s m ≡ r) × Recorded p room used r ran
+    → (m : Message) × (exact_message bytes ≡ Ok m) × (Taken s m ≡ r) × Recorded p room used r ran
 unfolding take_questions replayed
 take_recorded p s bytes room used out r ran e = go (exact_message bytes) refl fourteen.1
   where
@@ -154,8 +154,8 @@ take_recorded p s bytes room used out r ran e = go (exact_message bytes) refl fo
     new m false e = fitted room used (Taken s m) r (taking p s m) ran e
 
     go : (x : Exactly) → exact_message bytes ≡ x → take_message p s room used x ≡ found (fresh r ran)
-        → (m : Message) × (x ≡ Exactly.One m) × (Taken s m ≡ r) × Recorded p room used r ran
-    go (Exactly.One m) i f =
+        → (m : Message) × (x ≡ Ok m) × (Taken s m ≡ r) × Recorded p room used r ran
+    go (Ok m) i f =
         let sixteen = asked (eqb m.number p.agreement) 16 0 (pick (held_by p s m) (found again) (fitting room used (Taken s m) (taking p s m))) (fresh r ran) f in
         let w = new m (held_by p s m) sixteen.1 in (
           m,
@@ -167,7 +167,7 @@ take_recorded p s bytes room used out r ran e = go (exact_message bytes) refl fo
             does = w.2;
           }),
         )
-    go (Exactly.Broken fault at) i f = let z : ◌≡◌ {A = ℕ} 0 1 = cc in absurd (omega arith)
+    go (Err y) i f = let z : ◌≡◌ {A = ℕ} 0 1 = cc in absurd (omega arith)
 
 -- the record of an accepted call is within its limits
 pub fits_limits : (p : Party) → p.agreement ≤ max_number → p.n ≤ max_boards → p.plan.count ≤ max_width + 1 → (r : Record) → Fits p r → InLimits r

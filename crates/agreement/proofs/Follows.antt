@@ -8,18 +8,18 @@ use native.Mathlib.Omega.{arith}
 use lib.Dec.{T, leb, ltb, eqb, eqb→eq}
 use lib.IntN.{ℤ}
 use lib.ListN.{length}
+use Rattle.std.specs.Prelude.{Ok, Some, None, Err}
 use Rattle.base.specs.Pick.{pick}
 use Rattle.base.specs.Sets.{Set}
 use Rattle.base.specs.Limits.{last_level}
 use Rattle.base.proofs.Bools.{T-right, T_and, true→T}
-use Rattle.base.specs.declared.Verdict.{Verdict}
+use Rattle.base.specs.Verdict.{Verdict}
 use Rattle.base.specs.Found.{Found, found, refused, ask}
 use Rattle.plan.specs.Plan.{Plan}
 use Rattle.plan.proofs.Listed.{asked}
 use Rattle.message.specs.declared.Message.{Message}
-use Rattle.message.specs.declared.Exactly.{Exactly}
+use Rattle.message.specs.Reading.{Exactly, broken, exact_message}
 use Rattle.message.specs.Message.{body_in_table}
-use Rattle.message.specs.Reading.{exact_message}
 use Rattle.senders.specs.Senders.{is_in}
 use Rattle.level.specs.Level.{no_output, senders, held}
 use Rattle.journal.specs.declared.Record.{Record}
@@ -31,8 +31,7 @@ use Rattle.journal.proofs.Records.{journal_length}
 use Rattle.party.specs.Party.{Party, level_at, started, held_by}
 use Rattle.party.specs.Run.{Ran, starting, taking}
 use Rattle.party_life.specs.Life.{replayed}
-use Rattle.board_calls.specs.declared.Answer.{Answer}
-use Rattle.board_calls.specs.Answers.{position_of}
+use Rattle.board_calls.specs.Answers.{position_of, Answer}
 use Rattle.board_calls.specs.Calls.{Entry, again, fresh, fitting, set_up_of, start_questions, take_message, take_questions, answered_of}
 use Rattle.board_calls.specs.Restore.{Replay}
 use Rattle.vote_machine.specs.Machine.{Heard}
@@ -79,7 +78,7 @@ start_fresh p input lent used e = position_fresh p (voted_input input) (length l
 
 -- a take without one read a message that was heard before
 held_heard : (p : Party) (s : ℕ) (bytes : List ℕ) (room used out : ℕ) → take_questions p s bytes room used out ≡ found again
-    → (m : Message) × (exact_message bytes ≡ Exactly.One m) × Heard p s m
+    → (m : Message) × (exact_message bytes ≡ Ok m) × Heard p s m
 unfolding take_questions held_by held
 held_heard p s bytes room used out e = go (exact_message bytes) refl (asked (ltb s p.n) 14 0 (take_message p s room used (exact_message bytes)) again (past_door p room used out _ again e)).1
   where
@@ -87,8 +86,8 @@ held_heard p s bytes room used out e = go (exact_message bytes) refl (asked (ltb
     before m true x = tt
     before m false x = absurd (fitting_fresh room used (Taken s m) (taking p s m) x)
 
-    go : (x : Exactly) → exact_message bytes ≡ x → take_message p s room used x ≡ found again → (m : Message) × (x ≡ Exactly.One m) × Heard p s m
-    go (Exactly.One m) g k =
+    go : (x : Exactly) → exact_message bytes ≡ x → take_message p s room used x ≡ found again → (m : Message) × (x ≡ Ok m) × Heard p s m
+    go (Ok m) g k =
         let sixteen = asked (eqb m.number p.agreement) 16 0 (pick (held_by p s m) (found again) (fitting room used (Taken s m) (taking p s m))) again k in (
           m,
           refl,
@@ -98,7 +97,7 @@ held_heard p s bytes room used out e = go (exact_message bytes) refl (asked (ltb
                 (before m (held_by p s m) sixteen.1);
           },
         )
-    go (Exactly.Broken fault at) g k = let o : ◌≡◌ {A = ℕ} 0 1 = cc in absurd (omega arith)
+    go (Err y) g k = let o : ◌≡◌ {A = ℕ} 0 1 = cc in absurd (omega arith)
 
 module _ (v : Instance) (plan : Plan) (bad : Set) (f : Shared v plan) where
   -- a board's calls beside its records
@@ -142,8 +141,8 @@ module _ (v : Instance) (plan : Plan) (bad : Set) (f : Shared v plan) where
     by_set_up (Verdict.Refused number place) p = ih
 
     by_answer : (z : Answer) → FollowsIn i (after_answer (board_after h i) z)
-    by_answer Answer.None = ih
-    by_answer (Answer.At z) = ih
+    by_answer None = ih
+    by_answer (Some z) = ih
 
     -- a restore leaves both as they were
     restored_counted : (lent : Lent) (q : Found Replay) → (after_restore (board_after h i) lent q).counted ≡ (board_after h i).counted

@@ -7,25 +7,23 @@ use Prim.Native.Nat.{ℕ, ◌≤◌, ◌<◌}
 use native.Mathlib.Omega.{arith}
 use lib.Dec.{eqb, eqb→eq}
 use lib.ListN.{length, take}
+use Rattle.std.specs.Prelude.{Ok, Some, None}
 use Rattle.base.specs.Pick.{pick}
 use Rattle.base.specs.Sets.{Set}
-use Rattle.base.specs.declared.Verdict.{Verdict}
+use Rattle.base.specs.Verdict.{Verdict}
 use Rattle.base.proofs.Bools.{true→T}
 use Rattle.base.specs.Found.{Found, found, refused}
 use Rattle.plan.specs.Plan.{Plan}
 use Rattle.message.specs.declared.Message.{Message}
-use Rattle.message.specs.declared.Exactly.{Exactly}
+use Rattle.message.specs.Reading.{Exactly, exact_message}
 use Rattle.message.specs.Message.{message_bytes}
-use Rattle.message.specs.Reading.{exact_message}
 use Rattle.journal.specs.declared.Record.{Record}
 use Rattle.party.specs.Party.{Party, output_of}
 use Rattle.party.specs.Run.{Ran}
 use Rattle.party.specs.Valid.{party_valid}
 use Rattle.party_life.specs.Life.{lived}
-use Rattle.board_calls.specs.declared.Answer.{Answer}
-use Rattle.board_calls.specs.declared.Answered.{Answered}
-use Rattle.board_calls.specs.Answers.{position_of, answer_of}
-use Rattle.board_calls.specs.Calls.{SetUp, Entry, again, fresh, set_up_of, answered_of}
+use Rattle.board_calls.specs.Answers.{position_of, answer_of, Answer}
+use Rattle.board_calls.specs.Calls.{SetUp, Entry, again, fresh, set_up_of, answered_of, Answered}
 use Rattle.board_calls.specs.Restore.{Replay}
 use Rattle.board_laws.proofs.Counts.{count_refused}
 use Rattle.execution.specs.Machine.{Event, Machine}
@@ -45,7 +43,7 @@ use Rattle.agreement.proofs.Tied.{new_board, AtStage, Tied, tied_unborn, set_up_
 use Rattle.agreement.proofs.Keeps.{tied_set_up, tied_read, tied_fresh, tied_counting, tied_guarding, tied_restored, cut_may, tied_cut}
 
 -- a reading that is refused gives no answer
-pub refused_answer : (p : Party) (k at : ℕ) → (answered_of p).verdict ≡ Verdict.Refused k at → (answered_of p).answer ≡ Answer.None
+pub refused_answer : (p : Party) (k at : ℕ) → (answered_of p).verdict ≡ Verdict.Refused k at → (answered_of p).answer ≡ None
 unfolding answered_of
 refused_answer p k at e = go (party_valid p) e
   where
@@ -53,9 +51,9 @@ refused_answer p k at e = go (party_valid p) e
     yes_answer = record { verdict = Verdict.Accepted; answer = answer_of p.plan (output_of p) }
 
     no_answer : Answered
-    no_answer = record { verdict = Verdict.Refused 19 0; answer = Answer.None }
+    no_answer = record { verdict = Verdict.Refused 19 0; answer = None }
 
-    go : (b : Bool) → (pick b yes_answer no_answer).verdict ≡ Verdict.Refused k at → (pick b yes_answer no_answer).answer ≡ Answer.None
+    go : (b : Bool) → (pick b yes_answer no_answer).verdict ≡ Verdict.Refused k at → (pick b yes_answer no_answer).answer ≡ None
     go true e = let z : ◌≡◌ {A = ℕ} 0 1 = cc in absurd (omega arith)
     go false e = refl
 
@@ -96,9 +94,9 @@ module _ (v : Instance) (plan : Plan) (bad : Set) (f : Shared v plan) where
     by_entry a (refused number place) room used e g = stays
 
     by_answer : (a : Answer) → b.stage ≡ running → Goes i (after_answer b a) (answer_tale a) H
-    by_answer Answer.None e = stays
-    by_answer (Answer.At z) e =
-        record { tied = tied_guarding v plan f i seat b (log M i H) (held M i H) w e (after_answer b (Answer.At z)).guarded (omega arith); may = tt }
+    by_answer None e = stays
+    by_answer (Some z) e =
+        record { tied = tied_guarding v plan f i seat b (log M i H) (held M i H) w e (after_answer b (Some z)).guarded (omega arith); may = tt }
 
     by_restore : (lent : Lent) → Begins lent.journal w.records → (q : Found Replay) → ((r : Replay) → q ≡ found r → r ≡ lived_replay (new_board v plan i) w.records)
         → Goes i (after_restore b lent q) (restore_tale q) H
@@ -117,7 +115,7 @@ module _ (v : Instance) (plan : Plan) (bad : Set) (f : Shared v plan) where
     by_hand : (bytes : List ℕ) → b.stage ≡ running → (m : Message) → bytes ≡ message_bytes m → Sent (lived (new_board v plan i) w.records).party m
         → Goes i (after_own b (hands i bytes)) (hand_tale (exact_message bytes)) H
     by_hand bytes e m g o =
-        let x : exact_message bytes ≡ Exactly.One m = ap exact_message g ∙ tied_read v plan f i seat b (log M i H) (held M i H) w m o in
+        let x : exact_message bytes ≡ Ok m = ap exact_message g ∙ tied_read v plan f i seat b (log M i H) (held M i H) w m o in
         subst (λ (y : Exactly). Goes i (after_own b (hands i bytes)) (hand_tale y) H) (sym x)
         (record {
           tied = tied_guarding v plan f i seat b (log M i H) (held M i H) w e (after_own b (hands i bytes)).guarded (omega arith);

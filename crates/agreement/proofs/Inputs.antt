@@ -8,6 +8,7 @@ use native.Mathlib.Omega.{arith}
 use lib.Dec.{T, eqb, eqb→eq}
 use lib.IntN.{ℤ}
 use lib.ListN.{length, drop}
+use Rattle.std.specs.Prelude.{Ok, Some, None, Err}
 use Rattle.base.specs.Pick.{pick}
 use Rattle.base.specs.Sets.{Set}
 use Rattle.base.proofs.Bools.{true→T}
@@ -15,15 +16,13 @@ use Rattle.base.specs.Found.{Found, found, refused}
 use Rattle.plan.specs.Plan.{Plan}
 use Rattle.plan.specs.Positions.{reading_of}
 use Rattle.message.specs.declared.Message.{Message}
-use Rattle.message.specs.declared.Exactly.{Exactly}
-use Rattle.message.specs.Reading.{exact_message}
+use Rattle.message.specs.Reading.{Exactly, broken, exact_message}
 use Rattle.level.specs.Level.{no_output}
 use Rattle.journal.specs.declared.Record.{Record}
 use Rattle.journal.specs.declared.Record.TheVariants.{Start}
 use Rattle.party.specs.Party.{Party}
 use Rattle.party.specs.Run.{starting}
-use Rattle.board_calls.specs.declared.Answer.{Answer}
-use Rattle.board_calls.specs.Answers.{position_of}
+use Rattle.board_calls.specs.Answers.{position_of, Answer}
 use Rattle.board_calls.specs.Calls.{Entry, again, fresh, answered_of}
 use Rattle.board_calls.specs.Restore.{Replay}
 use Rattle.execution.specs.Machine as machine
@@ -130,16 +129,16 @@ module _ (v : Instance) (plan : Plan) (bad : Set) (f : Shared v plan) where
         subst (λ (d : Event Message ℕ). T (not (is_start d))) y tt
 
     answer_idle : (x : Answer) → T (not (acting (answer_tale x)))
-    answer_idle Answer.None = tt
-    answer_idle (Answer.At z) = tt
+    answer_idle None = tt
+    answer_idle (Some z) = tt
 
     restore_idle : (x : Found Replay) → T (not (acting (restore_tale x)))
     restore_idle (found r) = tt
     restore_idle (refused number place) = tt
 
     hand_idle : (x : Exactly) → T (not (acting (hand_tale x)))
-    hand_idle (Exactly.One m) = tt
-    hand_idle (Exactly.Broken fault at) = tt
+    hand_idle (Ok m) = tt
+    hand_idle (Err e) = tt
 
     cut_idle : (s : Stage) (n : ℕ) → T (not (acting (cut_tale s n)))
     cut_idle waiting n = tt

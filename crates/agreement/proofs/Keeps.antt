@@ -7,14 +7,14 @@ use Prim.Native.Nat.{ℕ, suc, ◌+◌, ◌-◌, ◌≤◌, ◌<◌}
 use native.Mathlib.Omega.{arith}
 use lib.ListN.{length, take, drop, length-drop}
 use lib.Seq.{drop-drop}
+use Rattle.std.specs.Prelude.{Ok}
 use Rattle.base.specs.Limits.{max_width}
-use Rattle.base.specs.declared.Verdict.{Verdict}
+use Rattle.base.specs.Verdict.{Verdict}
 use Rattle.base.proofs.Bools.{T→true}
 use Rattle.base.specs.Found.{found}
 use Rattle.plan.specs.Plan.{Plan}
 use Rattle.plan_laws.proofs.Shape.{shape}
 use Rattle.message.specs.declared.Message.{Message}
-use Rattle.message.specs.declared.Exactly.{Exactly}
 use Rattle.message.specs.Message.{in_table, message_bytes}
 use Rattle.message.specs.Reading.{exact_message}
 use Rattle.message.proofs.RoundTrip.{exact_message_read}
@@ -71,7 +71,7 @@ module _ (v : Instance) (plan : Plan) (f : Shared v plan) (i : ℕ) (seat : i < 
     le_now = le_lived p (board_regular v plan f i seat) rs w.life
 
     -- what its party has made is in the table and of this vote, so reading its bytes gives it
-    pub tied_read : (m : Message) → Sent (lived (new_board v plan i) w.records).party m → exact_message (message_bytes m) ≡ Exactly.One m
+    pub tied_read : (m : Message) → Sent (lived (new_board v plan i) w.records).party m → exact_message (message_bytes m) ≡ Ok m
     tied_read m o =
         exact_message_read m (T→true (in_table m) (sent_proper now (regular_lived p (board_regular v plan f i seat) rs w.life) m o))
         (omega (arith, o.number, le_now.board.agreement, f.number))

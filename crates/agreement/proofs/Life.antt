@@ -7,7 +7,7 @@ use lib.ListN.{length}
 use Rattle.base.specs.Put.{put_at}
 use Rattle.base.specs.Sets.{Set}
 use Rattle.base.specs.Limits.{max_width, outgoing_size}
-use Rattle.base.specs.declared.Verdict.{Verdict}
+use Rattle.base.specs.Verdict.{Verdict}
 use Rattle.base.specs.Found.{Found, found}
 use Rattle.plan.specs.Plan.{Plan}
 use Rattle.plan_laws.proofs.Shape.{shape}

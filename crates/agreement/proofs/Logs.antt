@@ -2,10 +2,10 @@
 use mathlib.Core.Path.{◌≡◌, refl}
 use mathlib.Core.List.{List, Memᴰ}
 use Prim.Native.Nat.{ℕ}
+use Rattle.std.specs.Prelude.{Ok}
 use Rattle.base.specs.Sets.{Set}
 use Rattle.plan.specs.Plan.{Plan}
 use Rattle.message.specs.declared.Message.{Message}
-use Rattle.message.specs.declared.Exactly.{Exactly}
 use Rattle.message.specs.Message.{message_bytes}
 use Rattle.message.specs.Reading.{exact_message}
 use Rattle.party.specs.Party.{level_at}
@@ -61,7 +61,7 @@ module _ (v : Instance) (plan : Plan) (bad : Set) (h : History) (given : Premise
 
   -- a message that calls of sound boards made, by whichever way it counts as handed over
   given_taken : (Given : ℕ → List ℕ → Type 0) → ((i : ℕ) (m : Message) → Sound v bad i → Made h i m → Given i (message_bytes m))
-      → ((i j : ℕ) (bytes : List ℕ) (m : Message) → Sound v bad i → Sound v bad j → Given j bytes → exact_message bytes ≡ Exactly.One m → Took h i j m)
+      → ((i j : ℕ) (bytes : List ℕ) (m : Message) → Sound v bad i → Sound v bad j → Given j bytes → exact_message bytes ≡ Ok m → Took h i j m)
       → (i j : ℕ) (m : Message) → Sound v bad i → Sound v bad j → Made h j m → Took h i j m
   given_taken Given handed taken i j m g k x =
       taken i j (message_bytes m) m g k (handed j m k x)

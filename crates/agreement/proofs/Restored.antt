@@ -9,6 +9,7 @@ use lib.Dec.{leb, eqb, le→leb}
 use lib.ListN.{length, take, drop, length-append, take-append-drop}
 use lib.Seq.{take_at}
 use borrow.Author.Tests.{lt-leb}
+use Rattle.std.specs.Prelude.{Err}
 use Rattle.base.specs.Pick.{pick}
 use Rattle.base.specs.Limits.{max_boards, outgoing_size}
 use Rattle.base.proofs.Bools.{T-left}
@@ -18,9 +19,9 @@ use Rattle.plan.specs.Reading.{plan_of, settled_plan}
 use Rattle.plan.proofs.Listed.{ask_yes, asked}
 use Rattle.plan.proofs.Answers.{settle_plan}
 use Rattle.journal.specs.declared.Record.{Record}
-use Rattle.journal.specs.declared.RecordRead.{RecordRead}
+use Rattle.journal.specs.declared.RecordError.TheVariants.{Torn}
+use Rattle.journal.specs.Reading.{whole_record, record_at, records_in}
 use Rattle.journal.specs.Journal.{record_bytes}
-use Rattle.journal.specs.Reading.{record_at, records_in}
 use Rattle.journal.specs.Records.{AllInLimits, journal_bytes}
 use Rattle.journal.proofs.Records.{Holds, holds_whole, holds_records, holds_end, journal_none, journal_before, journal_record, journal_length, record_pos, records_fewer}
 use Rattle.party.specs.Party.{Party, new_party}
@@ -37,13 +38,13 @@ fits_pass p at r go f = ask_yes (eqb (fault p r) 0) (fault p r) at go (T-left (e
 
 module _ (f : ℕ) (j : List ℕ) (at : ℕ) (r : Ran) where
   -- a whole record
-  replay_read : (rec : Record) (next : ℕ) → at < length j → record_at j at ≡ RecordRead.Read rec next
+  replay_read : (rec : Record) (next : ℕ) → at < length j → record_at j at ≡ whole_record rec next
       → replay_from (suc f) j at r ≡ record_fits r.party at rec (replay_from f j next (following r (replayed r.party rec)))
   unfolding replay_from
   replay_read rec next l e = rw (lt-leb (length j) at l, e)
 
   -- a torn one, at which the records end
-  replay_torn : record_at j at ≡ RecordRead.Torn → replay_from f j at r ≡ found (record { ran = r; used = at })
+  replay_torn : record_at j at ≡ Err Torn → replay_from f j at r ≡ found (record { ran = r; used = at })
   unfolding replay_from
   replay_torn e = go f
     where
@@ -79,7 +80,7 @@ pub record Begins (j : List ℕ) (rs : List Record) : Type 0 where
   pub limits : AllInLimits rs
   pub tail : List ℕ
   pub bytes : j ≡ journal_bytes rs ++ tail
-  pub torn : record_at j (length (journal_bytes rs)) ≡ RecordRead.Torn
+  pub torn : record_at j (length (journal_bytes rs)) ≡ Err Torn
 
 pub holds_begins : {j : List ℕ} {rs : List Record} → Holds j rs → Begins j rs
 holds_begins h = record { limits = h.limits; tail = h.tail; bytes = h.bytes; torn = holds_end h }
@@ -93,7 +94,7 @@ pub lendable_begins : (used journal : List ℕ) (rs : List Record) → Holds use
 lendable_begins used journal rs h (inl e) = holds_begins (subst (λ (j : List ℕ). Holds j rs) (sym e) h)
 lendable_begins used journal rs h (inr t) = go (records_in used) (holds_records h) t.kept t.torn
   where
-    go : (ts : List Record) → ts ≡ rs → take (length (journal_bytes ts)) journal ≡ journal_bytes ts → record_at journal (length (journal_bytes ts)) ≡ RecordRead.Torn
+    go : (ts : List Record) → ts ≡ rs → take (length (journal_bytes ts)) journal ≡ journal_bytes ts → record_at journal (length (journal_bytes ts)) ≡ Err Torn
         → Begins journal rs
     go ts e k d =
         subst (Begins journal) e (record {

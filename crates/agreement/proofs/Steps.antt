@@ -9,7 +9,7 @@ use lib.Dec.{eqb, eqb_refl}
 use lib.ListN.{length, take, drop, length-append, length-take}
 use Rattle.base.specs.Sets.{Set}
 use Rattle.base.proofs.Bools.{T→true}
-use Rattle.base.specs.declared.Verdict.{Verdict}
+use Rattle.base.specs.Verdict.{Verdict}
 use Rattle.base.specs.Found.{Found, found, refused}
 use Rattle.plan.specs.Plan.{Plan}
 use Rattle.message.specs.declared.Message.{Message}

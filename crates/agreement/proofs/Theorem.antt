@@ -3,10 +3,10 @@ use mathlib.Core.Path.{◌≡◌, refl, sym, ◌∙◌}
 use mathlib.Core.Logic.{inl}
 use Prim.Native.Nat.{ℕ}
 use lib.IntN.{ℤ}
+use Rattle.std.specs.Prelude.{Some}
 use Rattle.base.specs.Sets.{Set}
 use Rattle.plan.specs.Plan.{Plan}
 use Rattle.party.specs.Party.{Party, output_of}
-use Rattle.board_calls.specs.declared.Answer.{Answer}
 use Rattle.log_agreement.specs.Logs as logs
 use Rattle.log_agreement.proofs.Theorem.{log_demand3}
 use Rattle.agreement.specs.History.{Instance, History}
@@ -40,7 +40,7 @@ module _ (v : Instance) (plan : Plan) (bad : Set) (h : History) (given : Premise
       (y.0, started_stands v plan bad f h a i g.0 x y.0 y.1)
 
   -- where what was made is taken, every sound board has an answer
-  answers : Delivered v bad h → (i : ℕ) → Sound v bad i → (z : ℤ) × (answer_now v h i ≡ Answer.At z)
+  answers : Delivered v bad h → (i : ℕ) → Sound v bad i → (z : ℤ) × (answer_now v h i ≡ Some z)
   answers d i g =
       let r = on_logs.ending (log_complete v plan bad h given d) i g in
       output_answers v plan bad f h a i g.0 (λ e. r.1.0 (sym r.1.1 ∙ e))

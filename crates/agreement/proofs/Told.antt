@@ -7,15 +7,15 @@ use mathlib.Core.List.{List, [], ◌∷◌}
 use Prim.Native.Nat.{ℕ, ◌-◌, ◌≤◌}
 use lib.Dec.{eqb}
 use lib.ListN.{length, take, drop}
+use Rattle.std.specs.Prelude.{Ok, Some, None, Err}
 use Rattle.base.specs.Pick.{pick}
 use Rattle.base.specs.Sets.{Set}
 use Rattle.base.specs.Found.{Found, found, refused}
 use Rattle.plan.specs.Plan.{Plan}
 use Rattle.message.specs.declared.Message.{Message}
-use Rattle.message.specs.declared.Exactly.{Exactly}
-use Rattle.message.specs.Reading.{exact_message}
+use Rattle.message.specs.Reading.{Exactly, broken, exact_message}
 use Rattle.journal.specs.Reading.{records_from}
-use Rattle.board_calls.specs.declared.Answer.{Answer}
+use Rattle.board_calls.specs.Answers.{Answer}
 use Rattle.board_calls.specs.Calls.{Entry, again, fresh, answered_of}
 use Rattle.board_calls.specs.Restore.{Replay}
 use Rattle.execution.specs.Machine.{Event, Machine}
@@ -46,8 +46,8 @@ entry_tale (found (fresh r ran)) = acts (event_of r)
 entry_tale (refused number place) = nothing
 
 abbrev pub answer_tale : Answer → Tale
-answer_tale Answer.None = nothing
-answer_tale (Answer.At z) = marks
+answer_tale None = nothing
+answer_tale (Some z) = marks
 
 abbrev pub restore_tale : Found Replay → Tale
 restore_tale (found r) = marks
@@ -63,8 +63,8 @@ call_tale (restore n t own agreement plan lent) = restore_tale (restore_finds n 
 
 -- the message that the bytes are
 abbrev pub hand_tale : Exactly → Tale
-hand_tale (Exactly.One m) = gives m
-hand_tale (Exactly.Broken fault at) = nothing
+hand_tale (Ok m) = gives m
+hand_tale (Err e) = nothing
 
 -- how many whole records the bytes begin with
 abbrev pub whole_records : List ℕ → ℕ
@@ -146,7 +146,7 @@ module _ (v : Instance) (plan : Plan) where
   later_handed i (cuts k) h j m x = x
 
   -- the bytes of a message handed over are that message handed over
-  pub handed_told : (h : History) (j : ℕ) (bytes : List ℕ) (m : Message) → Handed j bytes h → exact_message bytes ≡ Exactly.One m
+  pub handed_told : (h : History) (j : ℕ) (bytes : List ℕ) (m : Message) → Handed j bytes h → exact_message bytes ≡ Ok m
       → logs.Handed (machine_of v plan) j m (told h)
   unfolding told
   handed_told [] j bytes m x e = absurd (Memᴰ.not-nil x)

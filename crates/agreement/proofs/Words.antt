@@ -6,14 +6,14 @@ use mathlib.Core.List.Memᴰ
 use mathlib.Core.List.{List, [], ◌∷◌, Memᴰ}
 use Prim.Native.Nat.{ℕ, ◌<◌}
 use lib.IntN.{ℤ}
+use Rattle.std.specs.Prelude.{Ok}
 use Rattle.base.specs.Sets.{Set}
 use Rattle.base.specs.Found.{found}
 use Rattle.plan.specs.Plan.{Plan}
 use Rattle.plan.specs.Positions.{reading_of}
 use Rattle.message.specs.declared.Message.{Message}
-use Rattle.message.specs.declared.Exactly.{Exactly}
+use Rattle.message.specs.Reading.{Exactly, exact_message}
 use Rattle.message.specs.Message.{message_bytes}
-use Rattle.message.specs.Reading.{exact_message}
 use Rattle.journal.specs.declared.Record.{Record}
 use Rattle.journal.specs.declared.Record.TheVariants.{Start, Taken}
 use Rattle.party.specs.Party.{Party}
@@ -68,8 +68,8 @@ module _ (v : Instance) (plan : Plan) (bad : Set) (f : Shared v plan) where
         to : Took h i s m → TakeRecorded h i s m
         to (c, k, e) =
             let y = record_of plan (new_board v plan i) (board_after h i).counted (records_of h i) (follows v plan bad f h a i) c k in
-            let t : Says plan (a_take s (Exactly.One m)) y.0 = subst (λ (q : Act). Says plan q y.0) e y.2 in
-            let o : Exactly.One m ≡ Exactly.One t.0 = t.1 in
+            let t : Says plan (a_take s (Ok m)) y.0 = subst (λ (q : Act). Says plan q y.0) e y.2 in
+            let o : ◌≡◌ {A = Exactly} (Ok m) (Ok t.0) = t.1 in
             let g : m ≡ t.0 = cc in
             subst (λ (r : Record). Memᴰ r (records_of h i)) (sym (ap (Taken s) g ∙ t.2)) y.1
 
@@ -136,7 +136,7 @@ module _ (v : Instance) (plan : Plan) (bad : Set) (f : Shared v plan) where
             (sym (own s h ∙ ap (after_entry (board_after h i) (a_start (position_of p.plan z) input) p lent used) g)) (Memᴰ.head refl)
 
     -- right after an accepted take of the bytes of m, fresh or already held, the board has taken m
-    pub take_counts : (s : ℕ) (bytes : List ℕ) (m : Message) → exact_message bytes ≡ Exactly.One m → (e : Entry) → take_finds p s bytes lent used ≡ found e
+    pub take_counts : (s : ℕ) (bytes : List ℕ) (m : Message) → exact_message bytes ≡ Ok m → (e : Entry) → take_finds p s bytes lent used ≡ found e
         → Took (calls i (take_message_lem p s bytes lent used) ∷ h) i s m
     take_counts s bytes m o e g = (
       record { act = a_take s (exact_message bytes); made = made_in e; used = (called_of p used (found e)).used },
@@ -149,12 +149,12 @@ module _ (v : Instance) (plan : Plan) (bad : Set) (f : Shared v plan) where
 
   -- what was handed over are the bytes of a message, which they read as
   pub handed_one : (h : History) → Allowed v bad h → (i : ℕ) (bytes : List ℕ) → Handed i bytes h
-      → (i < v.n) × ((m : Message) × (bytes ≡ message_bytes m) × (exact_message bytes ≡ Exactly.One m))
+      → (i < v.n) × ((m : Message) × (bytes ≡ message_bytes m) × (exact_message bytes ≡ Ok m))
   handed_one [] a i bytes x = absurd (Memᴰ.not-nil x)
   handed_one (s ∷ h) (m, a) i bytes x = go (Memᴰ.cases_cons x) (handed_one h a i bytes)
     where
       Reads : Type 0
-      Reads = (i < v.n) × ((m : Message) × (bytes ≡ message_bytes m) × (exact_message bytes ≡ Exactly.One m))
+      Reads = (i < v.n) × ((m : Message) × (bytes ≡ message_bytes m) × (exact_message bytes ≡ Ok m))
 
       now : May v bad (hands i bytes) h → Reads
       now (o, up, (y, e, k)) =
@@ -168,10 +168,10 @@ module _ (v : Instance) (plan : Plan) (bad : Set) (f : Shared v plan) where
 
   -- "has taken every message that sound boards handed over": whatever message the bytes read as was taken, which is that they read as one and it was taken
   pub taken_one : (h : History) → Allowed v bad h → (i j : ℕ) (bytes : List ℕ) → Handed j bytes h
-      → ((m : Message) → exact_message bytes ≡ Exactly.One m → Took h i j m) ↔ ((m : Message) × (exact_message bytes ≡ Exactly.One m) × Took h i j m)
+      → ((m : Message) → exact_message bytes ≡ Ok m → Took h i j m) ↔ ((m : Message) × (exact_message bytes ≡ Ok m) × Took h i j m)
   taken_one h a i j bytes x = (
     λ t. let y = (handed_one h a j bytes x).1 in (y.0, y.2, t y.0 y.2),
-    λ t m e. let f : Exactly.One t.0 ≡ Exactly.One m = sym t.1 ∙ e in let g : t.0 ≡ m = cc in subst (Took h i j) g t.2,
+    λ t m e. let f : ◌≡◌ {A = Exactly} (Ok t.0) (Ok m) = sym t.1 ∙ e in let g : t.0 ≡ m = cc in subst (Took h i j) g t.2,
   )
 
   -- "a lost call has handed nothing over": what a board handed over, a call of it that is not lost made

@@ -1,12 +1,12 @@
 -- Document 01, "Journal and cuts": which lists of steps 01 allows the sound boards.
-use Rattle.std.specs.Prelude.{◌≡◌, ◌⊎◌, ℕ, ◌≤◌, length, take}
+use Rattle.std.specs.Prelude.{◌≡◌, ◌⊎◌, ℕ, ◌≤◌, length, take, Err}
 use mathlib.Core.List.{List, [], ◌∷◌, Memᴰ}
 use Rattle.base.specs.Sets.{Set, Sound as SoundOf}
-use Rattle.base.specs.declared.Verdict.{Verdict}
+use Rattle.base.specs.Verdict.{Verdict}
 use Rattle.base.specs.Found.{refused}
 use Rattle.message.specs.declared.Message.{Message}
 use Rattle.message.specs.Message.{message_bytes}
-use Rattle.journal.specs.declared.RecordRead.{RecordRead}
+use Rattle.journal.specs.declared.RecordError.TheVariants.{Torn}
 use Rattle.journal.specs.Reading.{record_at, records_in}
 use Rattle.journal.specs.Records.{journal_bytes}
 use Rattle.party.specs.Party.{Party}
@@ -53,7 +53,7 @@ pub record Ours (v : Instance) (i n t own agreement : ℕ) (plan : List ℕ) : T
 -- used bytes if the power fails before the next record is written, and the next restore may be lent it again.
 pub record TornAfter (used journal : List ℕ) : Type 0 where
   pub kept : take (length (journal_bytes (records_in used))) journal ≡ journal_bytes (records_in used)
-  pub torn : record_at journal (length (journal_bytes (records_in used))) ≡ RecordRead.Torn
+  pub torn : record_at journal (length (journal_bytes (records_in used))) ≡ Err Torn
 
 -- what a restore may be lent: exactly the used bytes, or their whole records and then a torn one, which covers more histories
 abbrev pub Lendable : List ℕ → List ℕ → Type 0

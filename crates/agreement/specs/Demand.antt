@@ -1,5 +1,5 @@
 -- Demand 3, sentence by sentence.
-use Rattle.std.specs.Prelude.{◌≡◌, ◌⊎◌, Bool, true, false, ◌&&◌, ℕ, ◌*◌, ◌≤◌, ◌<◌, eqb, ℤ}
+use Rattle.std.specs.Prelude.{◌≡◌, ◌⊎◌, Bool, true, false, ◌&&◌, ℕ, ◌*◌, ◌≤◌, ◌<◌, eqb, ℤ, Ok, Some}
 use mathlib.Core.List.{List, [], ◌∷◌, Memᴰ}
 use Rattle.base.specs.Pick.{pick}
 use Rattle.base.specs.Sets.{Set, count}
@@ -11,11 +11,10 @@ use Rattle.plan.specs.Plan.{Plan}
 use Rattle.plan.specs.Positions.{edges_of, reading_of}
 use Rattle.plan.specs.Reading.{plan_of}
 use Rattle.message.specs.declared.Message.{Message}
-use Rattle.message.specs.declared.Exactly.{Exactly}
 use Rattle.message.specs.Message.{message_bytes}
 use Rattle.message.specs.Reading.{exact_message}
 use Rattle.party.specs.Party.{Party}
-use Rattle.board_calls.specs.declared.Answer.{Answer}
+use Rattle.board_calls.specs.Answers.{Answer}
 use Rattle.board_calls.specs.Calls.{answered_of, no_party}
 use Rattle.board_calls.specs.Restore.{Replay, restored_of}
 use Rattle.agreement.specs.History.{Instance, StartInput, voted_input, set_up, start, take_message_lem, read_answer, read_count, restore, restore_finds, read_as_count, Step, calls, hands, cut, History, Stage, waiting, running, down, a_start, a_take, Counted, Board, board_after}
@@ -33,7 +32,7 @@ Started h i x z = (input : StartInput) × StartedBy h i x input × (voted_input 
 
 -- it took message m from board s, held already or not
 abbrev pub Took : History → ℕ → ℕ → Message → Type 0
-Took h i s m = (c : Counted) × Memᴰ c (board_after h i).counted × (c.act ≡ a_take s (Exactly.One m))
+Took h i s m = (c : Counted) × Memᴰ c (board_after h i).counted × (c.act ≡ a_take s (Ok m))
 
 -- a call of it made the message m: "what a board's calls made leaves lost calls out"
 abbrev pub Made : History → ℕ → Message → Type 0
@@ -87,11 +86,11 @@ answer_now v h i = (answered_of (party_now v h i)).answer
 abbrev pub WasRead : History → ℕ → Party → Type 0
 WasRead h i p =
     Memᴰ (calls i (read_answer p)) h
-    ⊎ ((g : ℕ) × (c : ℤ) × (a : ℤ) × Memᴰ (calls i (read_count p g c)) h × ((read_as_count p g c).answer ≡ Answer.At a))
+    ⊎ ((g : ℕ) × (c : ℤ) × (a : ℤ) × Memᴰ (calls i (read_count p g c)) h × ((read_as_count p g c).answer ≡ Some a))
 
 -- "held then or read earlier"
 abbrev pub Answers : Instance → History → ℕ → ℤ → Type 0
-Answers v h i z = (answer_now v h i ≡ Answer.At z) ⊎ ((p : Party) × WasRead h i p × ((answered_of p).answer ≡ Answer.At z))
+Answers v h i z = (answer_now v h i ≡ Some z) ⊎ ((p : Party) × WasRead h i p × ((answered_of p).answer ≡ Some z))
 
 -- ---- the demand
 
@@ -119,7 +118,7 @@ BetweenInputs v plan bad h y =
 pub record Complete (v : Instance) (bad : Set) (h : History) : Type 0 where
   pub started : (i : ℕ) → Sound v bad i → (x : ℕ) × (z : ℤ) × Started h i x z
   pub handed : (i : ℕ) (m : Message) → Sound v bad i → Made h i m → HandedSince i (message_bytes m) h
-  pub taken : (i j : ℕ) (bytes : List ℕ) (m : Message) → Sound v bad i → Sound v bad j → HandedSince j bytes h → exact_message bytes ≡ Exactly.One m
+  pub taken : (i j : ℕ) (bytes : List ℕ) (m : Message) → Sound v bad i → Sound v bad j → HandedSince j bytes h → exact_message bytes ≡ Ok m
       → Took h i j m
 
 -- what holds after a list of steps
@@ -130,7 +129,7 @@ pub record Holds (v : Instance) (plan : Plan) (bad : Set) (h : History) : Type 0
   -- "and each lies on the path between two started inputs of sound boards"
   pub validity : (i : ℕ) (y : ℤ) → Sound v bad i → Answers v h i y → (x : ℕ) × Stands plan x y × BetweenInputs v plan bad h x
   -- "each has an answer"
-  pub ending : Complete v bad h → (i : ℕ) → Sound v bad i → (z : ℤ) × (answer_now v h i ≡ Answer.At z)
+  pub ending : Complete v bad h → (i : ℕ) → Sound v bad i → (z : ℤ) × (answer_now v h i ≡ Some z)
 
 -- ---- what the demand asks first
 

@@ -1,17 +1,14 @@
 -- Document 01, "Journal and cuts": calls and steps, and what a sound board is after a list of steps.
-use Rattle.std.specs.Prelude.{List, [], ◌∷◌, ◌++◌, ℕ, leb, eqb, ℤ, length, take}
+use Rattle.std.specs.Prelude.{List, [], ◌∷◌, ◌++◌, ℕ, leb, eqb, ℤ, length, take, Some, None}
 use Rattle.base.specs.Pick.{pick}
-use Rattle.base.specs.declared.Verdict.{Verdict}
+use Rattle.base.specs.Verdict.{Verdict}
 use Rattle.base.specs.Found.{Found, found, refused}
 use Rattle.rounding.specs.Rounding.{nearest_step}
 use Rattle.message.specs.declared.Message.{Message}
-use Rattle.message.specs.declared.Exactly.{Exactly}
-use Rattle.message.specs.Reading.{exact_message}
+use Rattle.message.specs.Reading.{Exactly, exact_message}
 use Rattle.party.specs.Party.{Party}
-use Rattle.board_calls.specs.declared.Answer.{Answer}
-use Rattle.board_calls.specs.declared.Answered.{Answered}
-use Rattle.board_calls.specs.Answers.{position_of}
-use Rattle.board_calls.specs.Calls.{Entry, again, fresh, set_up_of, start_questions, take_questions, called_of, journal_after, answered_of, no_party}
+use Rattle.board_calls.specs.Answers.{position_of, Answer}
+use Rattle.board_calls.specs.Calls.{Entry, again, fresh, set_up_of, start_questions, take_questions, called_of, journal_after, answered_of, no_party, Answered}
 use Rattle.board_calls.specs.Counts.{start_count_questions, count_questions, count_gives}
 use Rattle.board_calls.specs.Restore.{Replay, restore_questions, restored_of}
 
@@ -148,8 +145,8 @@ guarding b = record {
 
 -- a reading that gives an answer, as it is or as a count, guards what was written before it; one that finds none guards nothing, which covers more cuts
 abbrev pub after_answer : Board → Answer → Board
-after_answer b Answer.None = b
-after_answer b (Answer.At z) = guarding b
+after_answer b None = b
+after_answer b (Some z) = guarding b
 
 -- an accepted restore: the party and used length that the call gives, whose records all stay from now on, and all their messages to be handed over again
 abbrev pub after_restore : Board → Lent → Found Replay → Board

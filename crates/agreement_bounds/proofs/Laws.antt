@@ -8,7 +8,7 @@ use lib.Dec.{T}
 use lib.ListN.{length}
 use Rattle.base.specs.Limits.{last_level, level_count, max_rules, outgoing_size}
 use Rattle.base.specs.Sets.{Set}
-use Rattle.base.specs.declared.Verdict.{Verdict}
+use Rattle.base.specs.Verdict.{Verdict}
 use Rattle.base.specs.Found.{Found, found, refused}
 use Rattle.varint.specs.Varint.{AllBytes}
 use Rattle.plan.specs.Plan.{Plan}

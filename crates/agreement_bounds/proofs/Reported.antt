@@ -7,9 +7,10 @@ use Prim.Native.Nat.{ℕ, zero, suc, ◌-◌, ◌<◌}
 use native.Mathlib.Omega.{arith}
 use lib.Dec.{eqb, eqb→eq}
 use lib.ListN.{length, drop, length-drop}
+use Rattle.std.specs.Prelude.{Some, None}
 use Rattle.base.specs.Pick.{pick}
 use Rattle.base.specs.Sets.{Set}
-use Rattle.base.specs.declared.Verdict.{Verdict}
+use Rattle.base.specs.Verdict.{Verdict}
 use Rattle.base.specs.Found.{Found, found, refused}
 use Rattle.base.proofs.Bools.{true→T}
 use Rattle.plan.specs.Plan.{Plan}
@@ -19,8 +20,7 @@ use Rattle.journal.specs.Reading.{records_from}
 use Rattle.party.specs.Party.{Party}
 use Rattle.party.specs.Run.{Ran}
 use Rattle.party_life.specs.Life.{replayed, lived}
-use Rattle.board_calls.specs.declared.Answer.{Answer}
-use Rattle.board_calls.specs.Answers.{position_of}
+use Rattle.board_calls.specs.Answers.{position_of, Answer}
 use Rattle.board_calls.specs.Calls.{Entry, again, fresh, set_up_of, answered_of}
 use Rattle.agreement.specs.History.{Instance, Lent, voted_input, Call, set_up, start, take_message_lem, read_answer, read_count, restore, start_finds, take_finds, read_as_count, Step, calls, hands, cut, whose, History, Act, a_start, a_take, Board, after_set_up, after_answer, board_after}
 use Rattle.agreement.specs.Allowed.{Refuses, Continues, Accepts, Allowed}
@@ -86,8 +86,8 @@ set_up_kept b (Verdict.Refused number place) p e = e
 
 -- a reading leaves them
 answer_kept : (b : Board) (z : Answer) → held_records (after_answer b z) ≡ held_records b
-answer_kept b Answer.None = refl
-answer_kept b (Answer.At z) = refl
+answer_kept b None = refl
+answer_kept b (Some z) = refl
 
 -- a refused call reports nothing
 refused_reports : (c : Call) → Refuses c → (l : List ℕ) → call_reports c l ≡ l

@@ -7,13 +7,13 @@ use mathlib.Core.List.{List, [], ◌∷◌, ◌++◌, map, Memᴰ}
 use Prim.Native.Nat.{ℕ, zero, suc, ◌+◌, ◌≤◌, ◌<◌}
 use native.Mathlib.Omega.{arith}
 use lib.ListN.{length, length-append, length-map}
+use Rattle.std.specs.Prelude.{Ok}
 use Rattle.base.specs.Sets.{Set}
 use Rattle.base.specs.Found.{found}
 use Rattle.plan.specs.Plan.{Plan}
 use Rattle.message.specs.declared.Message.{Message}
-use Rattle.message.specs.declared.Exactly.{Exactly}
+use Rattle.message.specs.Reading.{Exactly, exact_message}
 use Rattle.message.specs.Message.{message_bytes}
-use Rattle.message.specs.Reading.{exact_message}
 use Rattle.board_calls.specs.Calls.{Entry}
 use Rattle.agreement.specs.History.{Instance, Lent, StartInput, Call, take_message_lem, take_finds, calls, History, Board, board_after}
 use Rattle.agreement.specs.Allowed.{Sound, Handed, Continues, Allowed}
@@ -32,7 +32,7 @@ use Rattle.agreement_completion.proofs.Open.{Letter, letter, Posted, Open, left_
 module _ (v : Instance) (plan : Plan) (bad : Set) (f : Shared v plan) where
   -- what a board that is up may hand over reads as it is
   pub posted_read : (h : History) → Allowed v bad h → (j : ℕ) → Sound v bad j → Up h j → (m : Message) → Posted h j m
-      → exact_message (message_bytes m) ≡ Exactly.One m
+      → exact_message (message_bytes m) ≡ Ok m
   posted_read h a j o u m x =
       sent_read v plan bad f h a j o.0 m ((makes_state v plan bad f h a j o.0 m).0 (subst (Memᴰ m) (running_posted v plan bad f h a j u.stage) x))
 
@@ -85,7 +85,7 @@ module _ (v : Instance) (plan : Plan) (bad : Set) (f : Shared v plan) where
         c : Call
         c = take_message_lem b.party j bytes lent used
 
-        ok : Allowed v bad (calls k c ∷ now) × ((m : Message) × (exact_message bytes ≡ Exactly.One m) × Took (calls k c ∷ now) k j m)
+        ok : Allowed v bad (calls k c ∷ now) × ((m : Message) × (exact_message bytes ≡ Ok m) × Took (calls k c ∷ now) k j m)
         ok = can_take v plan bad f now w.allowed k o b.party lent used more (lent_room b) (omega arith) j bytes over
 
         finds : (e : Entry) × (take_finds b.party j bytes lent used ≡ found e)
@@ -96,7 +96,7 @@ module _ (v : Instance) (plan : Plan) (bad : Set) (f : Shared v plan) where
 
         same : ok.1.0 ≡ l.message
         same =
-            let e : Exactly.One ok.1.0 ≡ Exactly.One l.message = sym ok.1.1 ∙ posted_read now w.allowed j is.0 (ready.up j is.0) l.message is.1 in
+            let e : ◌≡◌ {A = Exactly} (Ok ok.1.0) (Ok l.message) = sym ok.1.1 ∙ posted_read now w.allowed j is.0 (ready.up j is.0) l.message is.1 in
             cc
 
         go : Served v bad h input w k c → To w l q k

@@ -7,13 +7,12 @@ use mathlib.Core.List.{[], ◌∷◌, ◌++◌, Memᴰ}
 use Prim.Native.Nat.{ℕ}
 use native.Mathlib.Omega.{arith}
 use lib.Dec.{eqb}
-use Rattle.base.specs.declared.Verdict.{Verdict}
+use Rattle.std.specs.Prelude.{Some, None}
+use Rattle.base.specs.Verdict.{Verdict}
 use Rattle.base.specs.Found.{Found, found, refused}
-use Rattle.message.specs.declared.Exactly.{Exactly}
-use Rattle.message.specs.Reading.{exact_message}
+use Rattle.message.specs.Reading.{Exactly, exact_message}
 use Rattle.party.specs.Party.{Party}
-use Rattle.board_calls.specs.declared.Answer.{Answer}
-use Rattle.board_calls.specs.Answers.{position_of}
+use Rattle.board_calls.specs.Answers.{position_of, Answer}
 use Rattle.board_calls.specs.Calls.{Entry, set_up_of, called_of, answered_of}
 use Rattle.board_calls.specs.Restore.{Replay}
 use Rattle.agreement.specs.History.{StartInput, voted_input, Lent, Call, set_up, start, take_message_lem, read_answer, read_count, restore, start_finds, take_finds, restore_finds, read_as_count, Step, calls, hands, cut, whose, History, Act, a_start, a_take, Counted, Board, after_set_up, made_in, after_entry, after_answer, after_restore, after_call, after_own, board_after}
@@ -61,8 +60,8 @@ module _ (input : StartInput) where
   by_entry b a k p lent used (refused number place) c m = inl m
 
   by_answer : (b : Board) (x : Answer) (c : Counted) → Memᴰ c (after_answer b x).counted → Known b c
-  by_answer b Answer.None c m = inl m
-  by_answer b (Answer.At z) c m = inl m
+  by_answer b None c m = inl m
+  by_answer b (Some z) c m = inl m
 
   by_restore : (b : Board) (lent : Lent) (q : Found Replay) (c : Counted) → Memᴰ c (after_restore b lent q).counted → Known b c
   by_restore b lent (found r) c m = inl m

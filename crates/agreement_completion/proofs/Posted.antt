@@ -3,6 +3,7 @@ use mathlib.Core.Path.{◌≡◌, refl, sym, ap, ◌∙◌, subst}
 use mathlib.Core.Logic.{◌⊎◌, inl, inr}
 use mathlib.Core.List.{List, [], ◌∷◌, ◌++◌}
 use Prim.Native.Nat.{ℕ, ◌<◌}
+use Rattle.std.specs.Prelude.{Some, None}
 use Rattle.base.specs.Sets.{Set}
 use Rattle.base.specs.Found.{Found, found, refused}
 use Rattle.plan.specs.Plan.{Plan}
@@ -12,8 +13,7 @@ use Rattle.journal.specs.declared.Record.{Record}
 use Rattle.journal.specs.Reading.{records_from}
 use Rattle.party.specs.Run.{Ran}
 use Rattle.party_life.specs.Life.{lived, made_along}
-use Rattle.board_calls.specs.declared.Answer.{Answer}
-use Rattle.board_calls.specs.Answers.{position_of}
+use Rattle.board_calls.specs.Answers.{position_of, Answer}
 use Rattle.board_calls.specs.Calls.{SetUp, Entry, again, fresh, set_up_of, answered_of}
 use Rattle.board_calls.specs.Restore.{Replay}
 use Rattle.agreement.specs.History.{Instance, Lent, voted_input, Call, set_up, start, take_message_lem, read_answer, read_count, restore, start_finds, take_finds, restore_finds, read_as_count, Step, calls, hands, cut, whose, History, Stage, waiting, running, down, Act, a_start, a_take, Board, after_set_up, after_answer, after_restore, after_cut, board_after}
@@ -54,8 +54,8 @@ module _ (v : Instance) (plan : Plan) (bad : Set) (f : Shared v plan) where
   by_entry s h i d (refused number place) e made x = subst (Posts i) (sym e) x
 
   by_answer : (i : ℕ) (b : Board) (y : Answer) → Posts i b → Posts i (after_answer b y)
-  by_answer i b Answer.None x = x
-  by_answer i b (Answer.At z) x = x
+  by_answer i b None x = x
+  by_answer i b (Some z) x = x
 
   by_restore : (h : History) (i n t seat agreement : ℕ) (bytes : List ℕ) (lent : Lent) → Allowed v bad (calls i (restore n t seat agreement bytes lent) ∷ h)
       → i < v.n → Ours v i n t seat agreement bytes → Lendable (board_after h i).journal lent.journal

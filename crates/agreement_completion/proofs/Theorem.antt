@@ -6,14 +6,14 @@ use mathlib.Core.List.{List, [], ◌++◌, map, Memᴰ}
 use Prim.Native.Nat.{ℕ, suc, ◌+◌, ◌<◌}
 use native.Mathlib.Omega.{arith}
 use lib.ListN.{length}
+use Rattle.std.specs.Prelude.{Ok}
 use Rattle.base.specs.Sets.{Set}
 use Rattle.plan.specs.Plan.{Plan}
 use Rattle.plan.specs.Positions.{reading_of}
 use Rattle.plan_laws.proofs.Shape.{shape}
 use Rattle.message.specs.declared.Message.{Message}
-use Rattle.message.specs.declared.Exactly.{Exactly}
+use Rattle.message.specs.Reading.{Exactly, exact_message}
 use Rattle.message.specs.Message.{message_bytes}
-use Rattle.message.specs.Reading.{exact_message}
 use Rattle.level.specs.Level.{no_output}
 use Rattle.board_calls.specs.Answers.{position_of}
 use Rattle.board_laws.proofs.Inputs.{reading_position}
@@ -85,9 +85,9 @@ module _ (v : Instance) (plan : Plan) (bad : Set) (f : Shared v plan) where
       of i j m (inr x) = absurd (Memᴰ.not-nil x)
 
       taken : (i j : ℕ) (bytes : List ℕ) (m : Message) → Sound v bad i → Sound v bad j → (n : Message) × (bytes ≡ message_bytes n) × Made h j n
-          → exact_message bytes ≡ Exactly.One m → Took h i j m
+          → exact_message bytes ≡ Ok m → Took h i j m
       taken i j bytes m o p (n, is, x) e =
-          let y : Exactly.One n ≡ Exactly.One m = sym (posted_read v plan bad f h a j p (w.up j p) n (posted j n p x)) ∙ ap exact_message (sym is) ∙ e in
+          let y : ◌≡◌ {A = Exactly} (Ok n) (Ok m) = sym (posted_read v plan bad f h a j p (w.up j p) n (posted j n p x)) ∙ ap exact_message (sym is) ∙ e in
           let same : n ≡ m = cc in
           subst (Took h i j) same (of i j n (w.waits i j n o p (posted j n p x)))
 

@@ -1,12 +1,11 @@
 -- The ending's premise can always be met: from every allowed history further steps lead to a complete delivery, so nothing that is allowed is a dead end.
 -- Document 02, Q-5: "A vote with such cuts must come through".
-use Rattle.std.specs.Prelude.{◌≡◌, ◌⊎◌, ℕ, ℤ}
+use Rattle.std.specs.Prelude.{◌≡◌, ◌⊎◌, ℕ, ℤ, Some}
 use mathlib.Core.List.{[], ◌∷◌, ◌++◌, Memᴰ}
 use Rattle.base.specs.Sets.{Set}
 use Rattle.plan.specs.Plan.{Plan}
 use Rattle.message.specs.declared.Message.{Message}
 use Rattle.message.specs.Message.{message_bytes}
-use Rattle.board_calls.specs.declared.Answer.{Answer}
 use Rattle.agreement.specs.History.{Instance, StartInput, set_up, start, take_message_lem, read_answer, read_count, restore, Step, calls, hands, cut, History, waiting, down, board_after}
 use Rattle.agreement.specs.Allowed.{Sound, Allowed}
 use Rattle.agreement.specs.Starts.{Startable}
@@ -61,4 +60,4 @@ CompletesWith =
 abbrev pub ComesThrough : Type 0
 ComesThrough =
     (v : Instance) (plan : Plan) (bad : Set) (h : History) → Premises v plan bad h
-    → (c : Completed v bad h) × ((i : ℕ) → Sound v bad i → (z : ℤ) × (answer_now v (c.more ++ h) i ≡ Answer.At z))
+    → (c : Completed v bad h) × ((i : ℕ) → Sound v bad i → (z : ℤ) × (answer_now v (c.more ++ h) i ≡ Some z))

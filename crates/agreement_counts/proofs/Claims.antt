@@ -8,8 +8,8 @@ use native.Mathlib.Omega.{arith}
 use lib.Dec.{T}
 use lib.IntN.{ℤ, pos, negsuc}
 use lib.Signed.{◌≤ℤ◌}
+use Rattle.std.specs.Prelude.{Some}
 use Rattle.rounding.specs.Rounding.{size_passes}
-use Rattle.board_calls.specs.declared.Answer.{Answer}
 use Rattle.agreement.specs.History.{StartInput, plain, by_count, History}
 use Rattle.agreement.specs.Allowed.{Sound}
 use Rattle.agreement.specs.Demand.{StartedBy, Premises}
@@ -53,7 +53,7 @@ of input = history_of grades.vote (beside_script input)
 
 module _ (input : StartInput) (f : passes grades.vote grades.bad (beside_script input) ≡ true)
     (inputs : (i : ℕ) → i < 2 → inputs_in (board_of (ending grades.vote (beside_script input)) i).counted ≡ input_at input i ∷ [])
-    (six : count_in grades.vote (ending grades.vote (beside_script input)) 1 4 (negsuc 1) ≡ Answer.At (pos 6)) where
+    (six : count_in grades.vote (ending grades.vote (beside_script input)) 1 4 (negsuc 1) ≡ Some (pos 6)) where
   premises : Premises grades.vote grades.plan grades.bad (history_of grades.vote (beside_script input))
   unfolding computing
   premises = premises_of grades.vote grades.bad (beside_script input) f grades.plan refl refl
@@ -89,7 +89,7 @@ plain_inputs zero l = refl
 plain_inputs (suc zero) l = refl
 plain_inputs (suc (suc i)) l = absurd (omega arith)
 
-plain_six : count_in grades.vote (ending grades.vote (beside_script (plain (pos 2)))) 1 4 (negsuc 1) ≡ Answer.At (pos 6)
+plain_six : count_in grades.vote (ending grades.vote (beside_script (plain (pos 2)))) 1 4 (negsuc 1) ≡ Some (pos 6)
 unfolding computing grades.script with_starts
 plain_six = refl
 
@@ -111,7 +111,7 @@ size_inputs zero l = refl
 size_inputs (suc zero) l = refl
 size_inputs (suc (suc i)) l = absurd (omega arith)
 
-size_six : count_in grades.vote (ending grades.vote (beside_script (by_count 2 (pos 4)))) 1 4 (negsuc 1) ≡ Answer.At (pos 6)
+size_six : count_in grades.vote (ending grades.vote (beside_script (by_count 2 (pos 4)))) 1 4 (negsuc 1) ≡ Some (pos 6)
 unfolding computing grades.script with_starts
 size_six = refl
 
@@ -138,7 +138,7 @@ begins_input : inputs_in (board_of (ending alone begins) 0).counted ≡ by_count
 unfolding computing inputs_in
 begins_input = refl
 
-one : count_in alone (ending alone begins) 0 2 (pos 3) ≡ Answer.At (pos 1)
+one : count_in alone (ending alone begins) 0 2 (pos 3) ≡ Some (pos 1)
 unfolding computing
 one = refl
 

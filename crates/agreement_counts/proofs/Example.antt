@@ -5,11 +5,11 @@ use mathlib.Core.List.{List, [], ◌∷◌}
 use Prim.Native.Nat.{ℕ, zero, suc, ◌<◌}
 use native.Mathlib.Omega.{arith}
 use lib.IntN.{ℤ, pos, negsuc}
+use Rattle.std.specs.Prelude.{Some}
 use Rattle.base.specs.Sets.{Set}
 use Rattle.base.specs.Found.{found}
 use Rattle.plan.specs.Plan.{Plan}
 use Rattle.plan.specs.Reading.{plan_of}
-use Rattle.board_calls.specs.declared.Answer.{Answer}
 use Rattle.agreement.specs.History.{Instance, by_count}
 use Rattle.agreement_histories.specs.Scripts.{Action, history_of}
 use Rattle.agreement_histories.specs.Grades as grades
@@ -20,12 +20,13 @@ use Rattle.agreement_histories.proofs.Delivered.{concludes, passed}
 use Rattle.agreement_histories.proofs.Computing.{computing}
 use Rattle.agreement_counts.specs.Example.{CountsEnd, plan, bad, with_starts, pulled_count, pulled_script, Pulled, alone, anew_script, Anew}
 use Rattle.agreement_counts.proofs.Inputs.{inputs_in, count_in, started_by_lem, only_by, count_now_lem}
+use Rattle.board_calls.specs.Answers.{Answer}
 
 -- a script that ends so, by its run
 module _ (v : Instance) (plan : Plan) (bad : Set) (script : List Action) (l : List Answer) (judged : Judges v bad script l) (set : settled v bad ≡ true)
     (reads : plan_of v.plan ≡ found plan) (g : ℕ) (count answer : ℕ → ℤ)
     (inputs : (i : ℕ) → i < v.n → inputs_in (board_of (ending v script) i).counted ≡ by_count g (count i) ∷ [])
-    (gives : (i : ℕ) → i < v.n → count_in v (ending v script) i g (count i) ≡ Answer.At (answer i)) where
+    (gives : (i : ℕ) → i < v.n → count_in v (ending v script) i g (count i) ≡ Some (answer i)) where
   abbrev f : passes v bad script ≡ true
   f = passed v plan bad script l judged
 
@@ -42,7 +43,7 @@ module _ (v : Instance) (plan : Plan) (bad : Set) (script : List Action) (l : Li
 
 -- ---- pulled to other steps
 
-judged_pulled : Judges grades.vote grades.bad pulled_script (Answer.At (pos 1) ∷ Answer.At (pos 2) ∷ [])
+judged_pulled : Judges grades.vote grades.bad pulled_script (Some (pos 1) ∷ Some (pos 2) ∷ [])
 unfolding computing grades.script with_starts
 judged_pulled = refl
 
@@ -52,7 +53,7 @@ inputs_pulled zero l = refl
 inputs_pulled (suc zero) l = refl
 inputs_pulled (suc (suc i)) l = absurd (omega arith)
 
-gives_pulled : (i : ℕ) → i < 2 → count_in grades.vote (ending grades.vote pulled_script) i 4 (pulled_count i) ≡ Answer.At (pos 6)
+gives_pulled : (i : ℕ) → i < 2 → count_in grades.vote (ending grades.vote pulled_script) i 4 (pulled_count i) ≡ Some (pos 6)
 unfolding computing grades.script with_starts
 gives_pulled zero l = refl
 gives_pulled (suc zero) l = refl
@@ -64,7 +65,7 @@ pulled = ends grades.vote grades.plan grades.bad pulled_script _ judged_pulled r
 
 -- ---- the count of the own start not lost
 
-judged_anew : Judges alone bad anew_script (Answer.At (pos 1) ∷ [])
+judged_anew : Judges alone bad anew_script (Some (pos 1) ∷ [])
 unfolding computing
 judged_anew = refl
 
@@ -72,16 +73,16 @@ input_anew : inputs_in (board_of (ending alone anew_script) 0).counted ≡ by_co
 unfolding computing inputs_in
 input_anew = refl
 
-three : count_in alone (ending alone anew_script) 0 2 (pos 3) ≡ Answer.At (pos 3)
+three : count_in alone (ending alone anew_script) 0 2 (pos 3) ≡ Some (pos 3)
 unfolding computing
 three = refl
 
-one : count_in alone (ending alone anew_script) 0 2 (negsuc 0) ≡ Answer.At (pos 1)
+one : count_in alone (ending alone anew_script) 0 2 (negsuc 0) ≡ Some (pos 1)
 unfolding computing
 one = refl
 
 abbrev passes_anew : passes alone bad anew_script ≡ true
-passes_anew = passed alone plan bad anew_script (Answer.At (pos 1) ∷ []) judged_anew
+passes_anew = passed alone plan bad anew_script (Some (pos 1) ∷ []) judged_anew
 
 settled_alone : settled alone bad ≡ true
 unfolding computing
@@ -92,13 +93,13 @@ unfolding computing
 plan_read = refl
 
 ends_anew : CountsEnd alone plan bad 2 (history_of alone anew_script) (λ i. pos 3) (λ i. pos 3)
-ends_anew = ends alone plan bad anew_script (Answer.At (pos 1) ∷ []) judged_anew settled_alone plan_read 2 (λ i. pos 3) (λ i. pos 3) inputs gives
+ends_anew = ends alone plan bad anew_script (Some (pos 1) ∷ []) judged_anew settled_alone plan_read 2 (λ i. pos 3) (λ i. pos 3) inputs gives
   where
     inputs : (i : ℕ) → i < 1 → inputs_in (board_of (ending alone anew_script) i).counted ≡ by_count 2 (pos 3) ∷ []
     inputs zero l = input_anew
     inputs (suc i) l = absurd (omega arith)
 
-    gives : (i : ℕ) → i < 1 → count_in alone (ending alone anew_script) i 2 (pos 3) ≡ Answer.At (pos 3)
+    gives : (i : ℕ) → i < 1 → count_in alone (ending alone anew_script) i 2 (pos 3) ≡ Some (pos 3)
     gives zero l = three
     gives (suc i) l = absurd (omega arith)
 

@@ -7,13 +7,13 @@ use mathlib.Core.List.{List, [], ◌∷◌, Memᴰ}
 use Prim.Native.Nat.{ℕ}
 use lib.IntN.{ℤ}
 use Rattle.base.specs.Sets.{Set}
-use Rattle.board_calls.specs.declared.Answer.{Answer}
 use Rattle.agreement.specs.History.{Instance, StartInput, read_as_count, Act, a_start, a_take, Counted, Board, board_after}
 use Rattle.agreement.specs.Demand.{StartedBy, party_by}
 use Rattle.agreement_histories.specs.Scripts.{Action, history_of}
 use Rattle.agreement_histories.proofs.Worlds.{World, board_of}
 use Rattle.agreement_histories.proofs.Passing.{ending, passes, shown}
 use Rattle.agreement_counts.specs.Demand.{count_now}
+use Rattle.board_calls.specs.Answers.{Answer}
 
 abbrev input_of : Act → List StartInput → List StartInput
 input_of (a_start x input) l = input ∷ l

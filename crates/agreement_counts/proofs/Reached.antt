@@ -9,6 +9,7 @@ use lib.Dec.{T, eqb}
 use lib.IntN.{ℤ, pos}
 use lib.ListN.{length, set}
 use borrow.Author.Tests.{eq-eqb}
+use Rattle.std.specs.Prelude.{Some}
 use Rattle.base.specs.Sets.{Set}
 use Rattle.base.specs.Found.{Found}
 use Rattle.base.proofs.Bools.{true→T}
@@ -17,8 +18,7 @@ use Rattle.rounding.proofs.Clamps.{own_step}
 use Rattle.rounding.proofs.Halves.{half_below, half_above, halves_apart}
 use Rattle.level.specs.Level.{no_output}
 use Rattle.party.specs.Valid.{party_valid}
-use Rattle.board_calls.specs.declared.Answer.{Answer}
-use Rattle.board_calls.specs.Answers.{position_of}
+use Rattle.board_calls.specs.Answers.{position_of, Answer}
 use Rattle.board_calls.specs.Calls.{Entry, answered_of}
 use Rattle.board_laws.proofs.Counts.{count_on_range, count_is_start, count_answers}
 use Rattle.agreement.specs.History.{Instance, StartInput, plain, by_count, start_finds, read_as_count, Stage, running, a_start, Board, after_entry, after_answer}
@@ -78,7 +78,7 @@ record Answering (w : World) (i : ℕ) (z : ℤ) : Type 0 where
   valid : party_valid (board_of w i).party ≡ true
   range : (board_of w i).party.plan.kind ≡ 2
   position : eqb (position_of (board_of w i).party.plan z) no_output ≡ false
-  answer : (answered_of (board_of w i).party).answer ≡ Answer.At z
+  answer : (answered_of (board_of w i).party).answer ≡ Some z
 
 module _ (v : Instance) (w : World) (i g : ℕ) (c z : ℤ) (ok : T (size_passes g)) (e : nearest_step g c ≡ z) where
   starts_as : (board_of w i).party.plan.kind ≡ 2 → acted v w (starts_count i g c) ≡ started_at w i (by_count g c) z
@@ -90,12 +90,12 @@ module _ (v : Instance) (w : World) (i g : ℕ) (c z : ℤ) (ok : T (size_passes
 
   module _ (a : Answering w i z) where
     -- it reads its own count
-    counted : (read_as_count (board_of w i).party g c).answer ≡ Answer.At c
+    counted : (read_as_count (board_of w i).party g c).answer ≡ Some c
     counted =
         let p = (board_of w i).party in
         count_answers p g c (true→T a.valid) ok
         (λ n. off (sym (count_on_range p.plan g c a.range ∙ ap (position_of p.plan) e) ∙ n)) a.answer
-        ∙ ap Answer.At (ap (count_answer g c) (sym e) ∙ own_step g ok c)
+        ∙ ap Some (ap (count_answer g c) (sym e) ∙ own_step g ok c)
       where
         off : position_of (board_of w i).party.plan z ≡ no_output → ⊥
         off n =
@@ -103,7 +103,7 @@ module _ (v : Instance) (w : World) (i g : ℕ) (c z : ℤ) (ok : T (size_passes
             let o : ◌≡◌ {A = ℕ} 0 1 = cc in
             omega arith
 
-    counts : count_in v w i g c ≡ Answer.At c
+    counts : count_in v w i g c ≡ Some c
     counts = ap (λ (s : Stage). (read_as_count (party_by v i (board_of w i) s) g c).answer) a.up ∙ counted
 
     reads_as : acted v w (reads_count i g c) ≡ acted v w (reads i)
@@ -171,7 +171,7 @@ module _ (a b : StartInput) where
   unfolding computing
   delivered = refl
 
-  said : listed 0 2 (answer_in vote last) ≡ Answer.At (pos 0) ∷ Answer.At (pos 1) ∷ []
+  said : listed 0 2 (answer_in vote last) ≡ Some (pos 0) ∷ Some (pos 1) ∷ []
   unfolding computing
   said = refl
 
@@ -212,15 +212,15 @@ module _ (g : ℕ) (ok : T (size_passes g)) where
       (reads_as vote (three at_low at_high) 1 g high (pos 1) ok (half_above g ok) r.1)
       (nothing vote bad end))))))
 
-  judged : Judges vote bad (script g) (Answer.At (pos 0) ∷ Answer.At (pos 1) ∷ [])
-  judged = judged_by vote bad (script g) end (Answer.At (pos 0) ∷ Answer.At (pos 1) ∷ []) leads (delivered at_low at_high) (said at_low at_high)
+  judged : Judges vote bad (script g) (Some (pos 0) ∷ Some (pos 1) ∷ [])
+  judged = judged_by vote bad (script g) end (Some (pos 0) ∷ Some (pos 1) ∷ []) leads (delivered at_low at_high) (said at_low at_high)
 
   inputs : (i : ℕ) → i < 2 → inputs_in (board_of (ending vote (script g)) i).counted ≡ by_count g (count g i) ∷ []
   inputs zero l = ap (λ (w : World). inputs_in (board_of w 0).counted) leads.1 ∙ (inputs_last at_low at_high).0
   inputs (suc zero) l = ap (λ (w : World). inputs_in (board_of w 1).counted) leads.1 ∙ (inputs_last at_low at_high).1
   inputs (suc (suc i)) l = absurd (omega arith)
 
-  gives : (i : ℕ) → i < 2 → count_in vote (ending vote (script g)) i g (count g i) ≡ Answer.At (count g i)
+  gives : (i : ℕ) → i < 2 → count_in vote (ending vote (script g)) i g (count g i) ≡ Some (count g i)
   gives zero l =
       ap (λ (w : World). count_in vote w 0 g low) leads.1 ∙ counts vote end 0 g low (pos 0) ok (half_below g ok) (answering at_low at_high).2
   gives (suc zero) l =
@@ -228,7 +228,7 @@ module _ (g : ℕ) (ok : T (size_passes g)) where
   gives (suc (suc i)) l = absurd (omega arith)
 
   ending_so : CountsEnd vote plan bad g (history_of vote (script g)) (count g) (count g)
-  ending_so = ends vote plan bad (script g) (Answer.At (pos 0) ∷ Answer.At (pos 1) ∷ []) judged settled_vote plan_read g (count g) (count g) inputs gives
+  ending_so = ends vote plan bad (script g) (Some (pos 0) ∷ Some (pos 1) ∷ []) judged settled_vote plan_read g (count g) (count g) inputs gives
 
 pub bound_reached : BoundReached
 bound_reached g ok =

@@ -9,9 +9,10 @@ use native.Mathlib.Omega.{arith}
 use lib.Dec.{T, leb, ltb, eqb, eqb→eq}
 use lib.IntN.{ℤ}
 use lib.ListN.{length}
+use Rattle.std.specs.Prelude.{Some, None}
 use Rattle.base.specs.Pick.{pick}
 use Rattle.base.specs.Sets.{Set}
-use Rattle.base.specs.declared.Verdict.{Verdict}
+use Rattle.base.specs.Verdict.{Verdict}
 use Rattle.base.specs.Found.{Found, found, refused}
 use Rattle.base.proofs.Bools.{T-left, true→T}
 use Rattle.rounding.specs.Rounding.{size_passes}
@@ -21,8 +22,7 @@ use Rattle.journal.specs.declared.Record.{Record}
 use Rattle.journal.specs.declared.Record.TheVariants.{Start}
 use Rattle.party.specs.Party.{Party, started}
 use Rattle.party_life.specs.Life.{lived, fault_of, tabled, Fits, Life}
-use Rattle.board_calls.specs.declared.Answer.{Answer}
-use Rattle.board_calls.specs.Answers.{position_of}
+use Rattle.board_calls.specs.Answers.{position_of, Answer}
 use Rattle.board_calls.specs.Calls.{Entry, set_up_of, answered_of}
 use Rattle.board_calls.specs.Restore.{Replay}
 use Rattle.board_laws.proofs.Counts.{count_start}
@@ -81,8 +81,8 @@ module _ (v : Instance) (plan : Plan) (bad : Set) (f : Shared v plan) where
     by_set_up (Verdict.Refused number place) p d m = ih d m
 
     by_answer : (z : Answer) → AskedIn (after_answer b z)
-    by_answer Answer.None d m = ih d m
-    by_answer (Answer.At z) d m = ih d m
+    by_answer None d m = ih d m
+    by_answer (Some z) d m = ih d m
 
     by_restore : (lent : Lent) (q : Found Replay) → AskedIn (after_restore b lent q)
     by_restore lent (found r) d m = ih d m

@@ -7,6 +7,7 @@ use native.Mathlib.Omega.{arith}
 use lib.Dec.{T}
 use lib.IntN.{ℤ}
 use lib.Signed.{◌≤ℤ◌}
+use Rattle.std.specs.Prelude.{Some}
 use Rattle.base.specs.Sets.{Set}
 use Rattle.base.specs.Found.{Found, found, refused}
 use Rattle.rounding.specs.Rounding.{size_passes, nearest_step, count_answer}
@@ -14,7 +15,7 @@ use Rattle.rounding.proofs.Answers.{answers_near, answer_low, answer_high}
 use Rattle.plan.specs.Plan.{Plan}
 use Rattle.level.specs.Level.{no_output}
 use Rattle.party.specs.Party.{Party}
-use Rattle.board_calls.specs.declared.Answer.{Answer}
+use Rattle.board_calls.specs.Answers.{Answer}
 use Rattle.board_calls.specs.Counts.{count_position, count_questions, count_gives}
 use Rattle.board_laws.proofs.Counts.{count_on_range, count_answered, count_passed, count_answers}
 use Rattle.agreement.specs.History.{Instance, by_count, voted_input, read_as_count, History}
@@ -49,17 +50,17 @@ stepped v h i g a (c, s, inr (p, m, e)) =
     record { own = c; step = y.0; started = s; answers = inr (p, inr (g, c, a, m, e), y.1); gives = y.2 }
 
 -- a count reading that gave an answer passed its questions
-read_passed : (p : Party) (g : ℕ) (c a : ℤ) → (read_as_count p g c).answer ≡ Answer.At a → T (size_passes g) × (count_position p.plan g c ≡ no_output → ⊥)
+read_passed : (p : Party) (g : ℕ) (c a : ℤ) → (read_as_count p g c).answer ≡ Some a → T (size_passes g) × (count_position p.plan g c ≡ no_output → ⊥)
 read_passed p g c a = go (count_questions p g c) refl
   where
-    go : (q : Found Answer) → count_questions p g c ≡ q → (count_gives q).answer ≡ Answer.At a → T (size_passes g) × (count_position p.plan g c ≡ no_output → ⊥)
+    go : (q : Found Answer) → count_questions p g c ≡ q → (count_gives q).answer ≡ Some a → T (size_passes g) × (count_position p.plan g c ≡ no_output → ⊥)
     go (found x) e i = let w = count_passed p g c e in (w.1, w.2)
     go (refused number place) e i = let o : ◌≡◌ {A = ℕ} 0 1 = cc in absurd (omega arith)
 
 module _ (v : Instance) (plan : Plan) (bad : Set) (h : History) (given : Premises v plan bad h) where
   -- the count answer now, of a step answer now
-  count_now_lem : (i g : ℕ) (c y : ℤ) → Sound v bad i → T (size_passes g) → (count_position plan g c ≡ no_output → ⊥) → answer_now v h i ≡ Answer.At y
-      → count_now v h i g c ≡ Answer.At (count_answer g c y)
+  count_now_lem : (i g : ℕ) (c y : ℤ) → Sound v bad i → T (size_passes g) → (count_position plan g c ≡ no_output → ⊥) → answer_now v h i ≡ Some y
+      → count_now v h i g c ≡ Some (count_answer g c y)
   count_now_lem i g c y o s d e =
       let p = now_ours v plan bad given.shared i o.0 h given.allowed y e in
       count_answers (party_now v h i) g c p.valid s (λ n. d (ap (λ (q : Plan). count_position q g c) (sym p.plans) ∙ n)) e
@@ -132,7 +133,7 @@ module _ (v : Instance) (plan : Plan) (bad : Set) (h : History) (given : Premise
             upper (inl l) = (above.0, above.1, subst (λ (z : ℤ). z ≤ℤ above.0) (sym s.gives) l)
             upper (inr l) = (c, own, subst (λ (z : ℤ). z ≤ℤ c) (sym s.gives) l)
 
-    ending : Complete v bad h → (i : ℕ) → Sound v bad i → (c : ℤ) × (a : ℤ) × StartedByCount h i g c × (count_now v h i g c ≡ Answer.At a)
+    ending : Complete v bad h → (i : ℕ) → Sound v bad i → (c : ℤ) × (a : ℤ) × StartedByCount h i g c × (count_now v h i g c ≡ Some a)
     ending full i o =
         let f = full.started i o in
         let x = f.0 in
@@ -153,7 +154,7 @@ count_stays v plan bad h given i g c a p o m e =
     let y = count_answered p g c e in
     let q = read_ours v plan bad given.shared i o.0 h given.allowed p g c a m e in
     let w = read_passed p g c a e in
-    let now : answer_now v h i ≡ Answer.At y.0 =
+    let now : answer_now v h i ≡ Some y.0 =
     answer_now_lem v plan bad given.shared h given.allowed i o.0
     ∙ answers_state v plan bad given.shared h given.allowed i o.0 y.0 (inr (p, inr (g, c, a, m, e), y.1)) in
-    count_now_lem v plan bad h given i g c y.0 o w.0 (λ n. w.1 (ap (λ (r : Plan). count_position r g c) q.plans ∙ n)) now ∙ ap Answer.At (sym y.2)
+    count_now_lem v plan bad h given i g c y.0 o w.0 (λ n. w.1 (ap (λ (r : Plan). count_position r g c) q.plans ∙ n)) now ∙ ap Some (sym y.2)

@@ -1,8 +1,7 @@
 -- The must-fail edits of this crate: what each of them claims, and the histories against it.
-use Rattle.std.specs.Prelude.{◌≡◌, List, [], ◌∷◌, ℕ, zero, suc, ◌*◌, ◌<◌, ℤ, pos, negsuc, ◌≤ℤ◌}
+use Rattle.std.specs.Prelude.{◌≡◌, List, [], ◌∷◌, ℕ, zero, suc, ◌*◌, ◌<◌, ℤ, pos, negsuc, ◌≤ℤ◌, Some}
 use Rattle.base.specs.Sets.{Set}
 use Rattle.plan.specs.Plan.{Plan}
-use Rattle.board_calls.specs.declared.Answer.{Answer}
 use Rattle.agreement.specs.History.{Instance, StartInput, plain, by_count, History}
 use Rattle.agreement.specs.Allowed.{Sound}
 use Rattle.agreement.specs.Demand.{StartedBy, Premises}
@@ -49,7 +48,7 @@ beside_script input = with_starts (beside input) grades.script
 -- ---- any_count: the caller gives back any count
 
 abbrev pub AnswersByAny : Instance → History → ℕ → ℕ → ℤ → Type 0
-AnswersByAny v h i g a = (c : ℤ) × ((b : ℤ) × StartedByCount h i g b) × (count_now v h i g c ≡ Answer.At a)
+AnswersByAny v h i g a = (c : ℤ) × ((b : ℤ) × StartedByCount h i g b) × (count_now v h i g c ≡ Some a)
 
 abbrev pub AnyCount : Type 0
 AnyCount =

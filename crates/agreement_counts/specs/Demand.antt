@@ -1,15 +1,15 @@
 -- Document 02, Q-6: "Where sound boards start only by counts at one g, their count answers are at most 2g apart and between the least and greatest sound
 -- counts.", of demand 3's histories.
-use Rattle.std.specs.Prelude.{◌≡◌, ◌⊎◌, ℕ, ◌*◌, ◌≤◌, ℤ, ◌≤ℤ◌}
+use Rattle.std.specs.Prelude.{◌≡◌, ◌⊎◌, ℕ, ◌*◌, ◌≤◌, ℤ, ◌≤ℤ◌, Some}
 use mathlib.Core.List.{Memᴰ}
 use Rattle.base.specs.Sets.{Set}
 use Rattle.plan.specs.Plan.{Plan}
 use Rattle.party.specs.Party.{Party}
-use Rattle.board_calls.specs.declared.Answer.{Answer}
 use Rattle.agreement.specs.History.{Instance, StartInput, by_count, read_count, read_as_count, calls, History}
 use Rattle.agreement.specs.Allowed.{Sound}
 use Rattle.agreement.specs.Demand.{StartedBy, party_now, Complete, Premises}
 use Rattle.agreement.specs.Ranges.{apart}
+use Rattle.board_calls.specs.Answers.{Answer}
 
 -- board i started with the count c, in steps of g counts, in an accepted call not lost
 abbrev pub StartedByCount : History → ℕ → ℕ → ℤ → Type 0
@@ -33,7 +33,7 @@ count_now v h i g c = (read_as_count (party_now v h i) g c).answer
 abbrev pub CountAnswers : Instance → History → ℕ → ℕ → ℤ → Type 0
 CountAnswers v h i g a =
     (c : ℤ) × StartedByCount h i g c
-    × ((count_now v h i g c ≡ Answer.At a) ⊎ ((p : Party) × Memᴰ (calls i (read_count p g c)) h × ((read_as_count p g c).answer ≡ Answer.At a)))
+    × ((count_now v h i g c ≡ Some a) ⊎ ((p : Party) × Memᴰ (calls i (read_count p g c)) h × ((read_as_count p g c).answer ≡ Some a)))
 
 -- ---- the demand
 
@@ -45,7 +45,7 @@ pub record CountsHold (v : Instance) (bad : Set) (g : ℕ) (h : History) : Type 
   pub between : (i : ℕ) (a : ℤ) → Sound v bad i → CountAnswers v h i g a
       → (p : ℤ) × (q : ℤ) × SoundCount v bad g h p × SoundCount v bad g h q × (p ≤ℤ a) × (a ≤ℤ q)
   -- once delivery is complete each sound board has a count answer
-  pub ending : Complete v bad h → (i : ℕ) → Sound v bad i → (c : ℤ) × (a : ℤ) × StartedByCount h i g c × (count_now v h i g c ≡ Answer.At a)
+  pub ending : Complete v bad h → (i : ℕ) → Sound v bad i → (c : ℤ) × (a : ℤ) × StartedByCount h i g c × (count_now v h i g c ≡ Some a)
 
 -- nothing is asked of the plan and of g: a start by count is accepted on ranges only, and only where g passes
 abbrev pub CountsDemand : Type 0
@@ -63,4 +63,4 @@ OneStart =
 abbrev pub CountStays : Type 0
 CountStays =
     (v : Instance) (plan : Plan) (bad : Set) (h : History) → Premises v plan bad h → (i g : ℕ) (c a : ℤ) (p : Party) → Sound v bad i
-    → Memᴰ (calls i (read_count p g c)) h → (read_as_count p g c).answer ≡ Answer.At a → count_now v h i g c ≡ Answer.At a
+    → Memᴰ (calls i (read_count p g c)) h → (read_as_count p g c).answer ≡ Some a → count_now v h i g c ≡ Some a

@@ -1,13 +1,12 @@
 -- Votes by counts. In the first, for every g that passes, the count answers are 2g apart, so that no smaller bound holds at any g (`Nearer` in Claims). In the
 -- second messages pull the boards to other steps than their own, and both read a count that none started with. In the third a board's start is lost, and its
 -- count answer is that of its next start.
-use Rattle.std.specs.Prelude.{◌≡◌, false, List, [], ◌∷◌, ℕ, zero, suc, ◌+◌, ◌*◌, ◌/◌, T, ℤ, pos, negsuc, neg_ℤ}
+use Rattle.std.specs.Prelude.{◌≡◌, false, List, [], ◌∷◌, ℕ, zero, suc, ◌+◌, ◌*◌, ◌/◌, T, ℤ, pos, negsuc, neg_ℤ, Some}
 use Rattle.base.specs.Limits.{offset_zero}
 use Rattle.base.specs.Sets.{Set}
 use Rattle.rounding.specs.Rounding.{size_passes}
 use Rattle.plan.specs.Plan.{Plan}
 use Rattle.plan.specs.Positions.{range_plan}
-use Rattle.board_calls.specs.declared.Answer.{Answer}
 use Rattle.agreement.specs.History.{Instance, History}
 use Rattle.agreement.specs.Allowed.{Sound}
 use Rattle.agreement.specs.Demand.{Complete, Premises}
@@ -22,7 +21,7 @@ pub record CountsEnd (v : Instance) (plan : Plan) (bad : Set) (g : ℕ) (h : His
   pub complete : Complete v bad h
   pub only : OnlyCounts v bad g h
   pub started : (i : ℕ) → Sound v bad i → StartedByCount h i g (count i)
-  pub answers : (i : ℕ) → Sound v bad i → count_now v h i g (count i) ≡ Answer.At (answer i)
+  pub answers : (i : ℕ) → Sound v bad i → count_now v h i g (count i) ≡ Some (answer i)
 
 -- ---- 2g apart
 
@@ -112,4 +111,4 @@ anew_script =
 pub record Anew : Type 0 where
   pub ends : CountsEnd alone plan bad 2 (history_of alone anew_script) (λ i. pos 3) (λ i. pos 3)
   pub lost : StartedByCount (history_of alone anew_script) 0 2 (negsuc 0) → ⊥
-  pub given_lost : count_now alone (history_of alone anew_script) 0 2 (negsuc 0) ≡ Answer.At (pos 1)
+  pub given_lost : count_now alone (history_of alone anew_script) 0 2 (negsuc 0) ≡ Some (pos 1)

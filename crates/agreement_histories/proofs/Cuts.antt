@@ -4,7 +4,7 @@ use mathlib.Core.Bool.{true}
 use mathlib.Core.List.{[], ◌∷◌, ◌++◌}
 use Prim.Native.Nat.{ℕ}
 use lib.IntN.{ℤ, pos}
-use Rattle.board_calls.specs.declared.Answer.{Answer}
+use Rattle.std.specs.Prelude.{Some}
 use Rattle.agreement.specs.History.{down, board_after}
 use Rattle.agreement.specs.Demand.{Started}
 use Rattle.agreement_histories.specs.Scripts.{restores, history_of, Concludes}
@@ -15,16 +15,16 @@ use Rattle.agreement_histories.proofs.Delivery.{starts_in, Judges}
 use Rattle.agreement_histories.proofs.Delivered.{passed, concludes, started, only_there}
 use Rattle.agreement_histories.proofs.Computing.{computing}
 
-judged : Judges vote bad script (Answer.At (pos 2) ∷ Answer.At (pos 2) ∷ [])
+judged : Judges vote bad script (Some (pos 2) ∷ Some (pos 2) ∷ [])
 unfolding computing lost back again torn rest
 judged = refl
 
-pub conclusion : Concludes vote plan bad (history_of vote script) (Answer.At (pos 2) ∷ Answer.At (pos 2) ∷ [])
+pub conclusion : Concludes vote plan bad (history_of vote script) (Some (pos 2) ∷ Some (pos 2) ∷ [])
 unfolding computing
 conclusion = concludes vote plan bad script _ judged refl refl
 
 passing : passes vote bad script ≡ true
-passing = passed vote plan bad script (Answer.At (pos 2) ∷ Answer.At (pos 2) ∷ []) judged
+passing = passed vote plan bad script (Some (pos 2) ∷ Some (pos 2) ∷ []) judged
 
 -- ---- the lost start
 

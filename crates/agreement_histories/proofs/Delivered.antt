@@ -9,6 +9,7 @@ use native.Mathlib.Omega.{arith}
 use lib.Dec.{T, leb, ltb, eqb, leb→le, eqb→eq}
 use lib.IntN.{ℤ}
 use lib.ListN.{length}
+use Rattle.std.specs.Prelude.{Ok, Err}
 use Rattle.base.specs.Sets.{Set, count}
 use Rattle.base.specs.Limits.{max_number}
 use Rattle.base.proofs.Bools.{T-left, T-right, or_split, T→true, true→T}
@@ -17,11 +18,9 @@ use Rattle.base.specs.Found.{found}
 use Rattle.plan.specs.Plan.{Plan}
 use Rattle.plan.specs.Reading.{plan_of}
 use Rattle.message.specs.declared.Message.{Message}
-use Rattle.message.specs.declared.Exactly.{Exactly}
+use Rattle.message.specs.Reading.{Exactly, broken, exact_message}
 use Rattle.message.specs.Message.{message_bytes, in_table}
-use Rattle.message.specs.Reading.{exact_message}
 use Rattle.message.proofs.RoundTrip.{exact_message_read}
-use Rattle.board_calls.specs.declared.Answer.{Answer}
 use Rattle.agreement.specs.History.{Instance, StartInput, voted_input, History, Act, a_start, a_take, Counted, Board, board_after}
 use Rattle.agreement.specs.Allowed.{Sound}
 use Rattle.agreement.specs.Demand.{StartedBy, Started, Took, Made, HandedSince, Complete}
@@ -31,6 +30,7 @@ use Rattle.agreement_histories.proofs.Tests.{same→, sent_by→, →sound}
 use Rattle.agreement_histories.proofs.Shows.{Shows}
 use Rattle.agreement_histories.proofs.Passing.{listed, answer_in, settled, ending, passes, shown, premises_of, answers}
 use Rattle.agreement_histories.proofs.Delivery.{start_of, starts_in, has_start, is_taken, has_taken, all_made, all_sent, readable, was_taken, all_taken, full_board, full_at, full, Judged, Judges, judging_tests}
+use Rattle.board_calls.specs.Answers.{Answer}
 
 -- ---- what the tests tell of a list of calls
 
@@ -74,19 +74,19 @@ has_start→ cs h = go (starts_in cs) refl h
     go [] e k = absurd k
     go (x ∷ l) e k = (x, starts_in_lem x cs (subst (λ (s : List ℕ). Memᴰ x s) (sym e) (Memᴰ.head refl)))
 
-is_taken→ : (j : ℕ) (m : Message) (a : Act) → T (is_taken j m a) → a ≡ a_take j (Exactly.One m)
+is_taken→ : (j : ℕ) (m : Message) (a : Act) → T (is_taken j m a) → a ≡ a_take j (Ok m)
 is_taken→ j m (a_start x input) h = absurd h
-is_taken→ j m (a_take s (Exactly.One y)) h =
-    sym (ap₂ (λ (k : ℕ) (n : Message). a_take k (Exactly.One n)) (eqb→eq j s (T-left (eqb j s) (same m y) h)) (same→ m y (T-right (eqb j s) (same m y) h)))
-is_taken→ j m (a_take s (Exactly.Broken fault at)) h = absurd h
+is_taken→ j m (a_take s (Ok y)) h =
+    sym (ap₂ (λ (k : ℕ) (n : Message). a_take k (Ok n)) (eqb→eq j s (T-left (eqb j s) (same m y) h)) (same→ m y (T-right (eqb j s) (same m y) h)))
+is_taken→ j m (a_take s (Err e)) h = absurd h
 
-has_taken→ : (j : ℕ) (m : Message) (cs : List Counted) → T (has_taken j m cs) → (c : Counted) × Memᴰ c cs × (c.act ≡ a_take j (Exactly.One m))
+has_taken→ : (j : ℕ) (m : Message) (cs : List Counted) → T (has_taken j m cs) → (c : Counted) × Memᴰ c cs × (c.act ≡ a_take j (Ok m))
 unfolding has_taken
 has_taken→ j m [] h = absurd h
 has_taken→ j m (c ∷ cs) h = go (has_taken→ j m cs) (or_split (is_taken j m c.act) (has_taken j m cs) h)
   where
-    go : (T (has_taken j m cs) → (c : Counted) × Memᴰ c cs × (c.act ≡ a_take j (Exactly.One m))) → T (is_taken j m c.act) ⊎ T (has_taken j m cs)
-        → (d : Counted) × Memᴰ d (c ∷ cs) × (d.act ≡ a_take j (Exactly.One m))
+    go : (T (has_taken j m cs) → (c : Counted) × Memᴰ c cs × (c.act ≡ a_take j (Ok m))) → T (is_taken j m c.act) ⊎ T (has_taken j m cs)
+        → (d : Counted) × Memᴰ d (c ∷ cs) × (d.act ≡ a_take j (Ok m))
     go below (inl e) = (c, Memᴰ.head refl, is_taken→ j m c.act e)
     go below (inr n) = let k = below n in (k.0, Memᴰ.tail k.1, k.2)
 
@@ -117,7 +117,7 @@ all_taken→ v bad cs (y ∷ l) h x k = go (all_taken→ v bad cs l (T-right (wa
     go below (inl e) = subst (λ (z : Handing). T (was_taken v bad cs z)) (sym e) (T-left (was_taken v bad cs y) (all_taken v bad cs l) h)
     go below (inr r) = below r
 
-readable→ : (m : Message) → T (readable m) → exact_message (message_bytes m) ≡ Exactly.One m
+readable→ : (m : Message) → T (readable m) → exact_message (message_bytes m) ≡ Ok m
 readable→ m h =
     let l : m.number ≤ max_number = leb→le m.number max_number (T-right (in_table m) (leb m.number max_number) h) in
     exact_message_read m (T→true (in_table m) (T-left (in_table m) (leb m.number max_number) h)) (omega arith)
@@ -151,7 +151,7 @@ module _ (v : Instance) (bad : Set) (w : World) (h : History) (s : Shows v w h) 
     board_handed m k =
         s.handed_since i m (all_sent→ i (all_made cs) w.since (T-left (all_sent i (all_made cs) w.since) (all_taken v bad cs w.since) rest) m (in_made k.0 cs k.1 m k.2))
 
-    board_took : (j : ℕ) (bytes : List ℕ) (m : Message) → Sound v bad j → HandedSince j bytes h → exact_message bytes ≡ Exactly.One m → Took h i j m
+    board_took : (j : ℕ) (bytes : List ℕ) (m : Message) → Sound v bad j → HandedSince j bytes h → exact_message bytes ≡ Ok m → Took h i j m
     board_took j bytes m d k e =
         let x = s.known_since j bytes k in
         let fine : Bool = readable x.0.message in
@@ -160,10 +160,10 @@ module _ (v : Instance) (bad : Set) (w : World) (h : History) (s : Shows v w h) 
         unless (sound v bad x.0.by) (fine && had)
         (all_taken→ v bad cs w.since (T-right (all_sent i (all_made cs) w.since) (all_taken v bad cs w.since) rest) x.0 x.1)
         (subst (λ (y : ℕ). T (sound v bad y)) x.2 (→sound v bad j d)) in
-        let f : Exactly.One m ≡ Exactly.One x.0.message = sym e ∙ ap exact_message x.3 ∙ readable→ x.0.message (T-left fine had t) in
+        let f : ◌≡◌ {A = Exactly} (Ok m) (Ok x.0.message) = sym e ∙ ap exact_message x.3 ∙ readable→ x.0.message (T-left fine had t) in
         let g : m ≡ x.0.message = cc in
         let c = has_taken→ x.0.by x.0.message cs (T-right fine had t) in
-        (c.0, c.1, c.2 ∙ sym (ap₂ (λ (y : ℕ) (n : Message). a_take y (Exactly.One n)) x.2 g))
+        (c.0, c.1, c.2 ∙ sym (ap₂ (λ (y : ℕ) (n : Message). a_take y (Ok n)) x.2 g))
 
   pub completed : Complete v bad h
   completed = record { started = board_started; handed = λ i m o k. board_handed i o m k; taken = λ i j bytes m o d k e. board_took i o j bytes m d k e }

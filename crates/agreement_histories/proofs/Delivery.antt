@@ -5,16 +5,17 @@ use mathlib.Core.List.{List, [], ◌∷◌, ◌++◌}
 use Prim.Native.Nat.{ℕ}
 use lib.Dec.{leb, ltb, eqb}
 use lib.ListN.{length}
+use Rattle.std.specs.Prelude.{Ok, Err}
 use Rattle.base.specs.Sets.{Set, count}
 use Rattle.base.specs.Limits.{max_number}
 use Rattle.message.specs.declared.Message.{Message}
-use Rattle.message.specs.declared.Exactly.{Exactly}
+use Rattle.message.specs.Reading.{broken}
 use Rattle.message.specs.Message.{in_table}
-use Rattle.board_calls.specs.declared.Answer.{Answer}
 use Rattle.agreement.specs.History.{Instance, Act, a_start, a_take, Counted}
 use Rattle.agreement_histories.specs.Scripts.{Action}
 use Rattle.agreement_histories.proofs.Worlds.{Handing, World, board_of, beginning, acted, world_after, same, sent_by, sound, fits, all_fit}
 use Rattle.agreement_histories.proofs.Passing.{listed, answer_in}
+use Rattle.board_calls.specs.Answers.{Answer}
 
 -- ---- the tests of a board's calls that count
 
@@ -33,8 +34,8 @@ has_start cs = ltb 0 (length (starts_in cs))
 -- it took m from board j
 abbrev pub is_taken : ℕ → Message → Act → Bool
 is_taken j m (a_start x input) = false
-is_taken j m (a_take s (Exactly.One y)) = eqb j s && same m y
-is_taken j m (a_take s (Exactly.Broken fault at)) = false
+is_taken j m (a_take s (Ok y)) = eqb j s && same m y
+is_taken j m (a_take s (Err e)) = false
 
 unfoldable pub has_taken : ℕ → Message → List Counted → Bool
 has_taken j m [] = false

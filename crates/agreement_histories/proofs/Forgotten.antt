@@ -5,6 +5,7 @@ use mathlib.Core.List.{List, [], ◌∷◌, ◌++◌, Memᴰ}
 use Prim.Native.Nat.{ℕ}
 use native.Mathlib.Omega.{arith}
 use lib.IntN.{pos}
+use Rattle.std.specs.Prelude.{Some}
 use Rattle.message.specs.declared.Body.TheVariants.{FirstEcho, FirstProposal}
 use Rattle.message.specs.declared.Message.{Message}
 use Rattle.message.specs.Message.{kind_of}
@@ -12,7 +13,6 @@ use Rattle.journal.specs.declared.Record.TheVariants.{Start, Taken}
 use Rattle.journal.specs.Reading.{records_in}
 use Rattle.party.specs.Party.{new_party}
 use Rattle.party_life.specs.Life.{lived}
-use Rattle.board_calls.specs.declared.Answer.{Answer}
 use Rattle.agreement.specs.History.{board_after}
 use Rattle.agreement.specs.Demand.{Made, Complete}
 use Rattle.agreement_histories.specs.Scripts.{cuts, says, history_of, Concludes}
@@ -21,11 +21,11 @@ use Rattle.agreement_histories.proofs.Delivery.{Judges}
 use Rattle.agreement_histories.proofs.Delivered.{concludes}
 use Rattle.agreement_histories.proofs.Computing.{computing}
 
-judged : Judges vote bad script (Answer.At (pos 2) ∷ Answer.At (pos 2) ∷ [])
+judged : Judges vote bad script (Some (pos 2) ∷ Some (pos 2) ∷ [])
 unfolding computing opening back rest
 judged = refl
 
-pub conclusion : Concludes vote plan bad (history_of vote script) (Answer.At (pos 2) ∷ Answer.At (pos 2) ∷ [])
+pub conclusion : Concludes vote plan bad (history_of vote script) (Some (pos 2) ∷ Some (pos 2) ∷ [])
 unfolding computing
 conclusion = concludes vote plan bad script _ judged refl refl
 

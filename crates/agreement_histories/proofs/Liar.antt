@@ -5,9 +5,9 @@ use mathlib.Core.List.{[], ◌∷◌, ◌++◌}
 use Prim.Native.Nat.{ℕ, ◌<◌}
 use lib.IntN.{pos}
 use lib.ListN.{get_or}
+use Rattle.std.specs.Prelude.{Some, None}
 use Rattle.message.specs.declared.Body.TheVariants.{FirstEcho, FirstProposal}
 use Rattle.message.specs.Message.{none_value}
-use Rattle.board_calls.specs.declared.Answer.{Answer}
 use Rattle.agreement.specs.History.{board_after}
 use Rattle.agreement.specs.Demand.{Took, answer_now}
 use Rattle.agreement_histories.specs.Scripts.{says, history_of, Concludes}
@@ -18,16 +18,16 @@ use Rattle.agreement_histories.proofs.Delivery.{has_taken, Judges}
 use Rattle.agreement_histories.proofs.Delivered.{passed, concludes, took}
 use Rattle.agreement_histories.proofs.Computing.{computing}
 
-judged : Judges vote bad script (Answer.At (pos 2) ∷ Answer.At (pos 3) ∷ Answer.At (pos 2) ∷ [])
+judged : Judges vote bad script (Some (pos 2) ∷ Some (pos 3) ∷ Some (pos 2) ∷ [])
 unfolding computing opening lie early late
 judged = refl
 
-pub conclusion : Concludes vote plan bad (history_of vote script) (Answer.At (pos 2) ∷ Answer.At (pos 3) ∷ Answer.At (pos 2) ∷ [])
+pub conclusion : Concludes vote plan bad (history_of vote script) (Some (pos 2) ∷ Some (pos 3) ∷ Some (pos 2) ∷ [])
 unfolding computing
 conclusion = concludes vote plan bad script _ judged refl refl
 
 passing : passes vote bad script ≡ true
-passing = passed vote plan bad script (Answer.At (pos 2) ∷ Answer.At (pos 3) ∷ Answer.At (pos 2) ∷ []) judged
+passing = passed vote plan bad script (Some (pos 2) ∷ Some (pos 3) ∷ Some (pos 2) ∷ []) judged
 
 -- ---- what board 3 says has an effect
 
@@ -45,12 +45,12 @@ fast_passing : passes vote bad fast ≡ true
 unfolding computing opening lie early
 fast_passing = refl
 
-fast_answering : listed 0 3 (answer_in vote (ending vote fast)) ≡ Answer.At (pos 2) ∷ Answer.At (pos 3) ∷ Answer.None ∷ []
+fast_answering : listed 0 3 (answer_in vote (ending vote fast)) ≡ Some (pos 2) ∷ Some (pos 3) ∷ None ∷ []
 unfolding computing opening lie early
 fast_answering = refl
 
-pub fast_answers : (i : ℕ) → i < 3 → answer_now vote (history_of vote fast) i ≡ get_or (Answer.At (pos 2) ∷ Answer.At (pos 3) ∷ Answer.None ∷ []) i Answer.None
-fast_answers = answers vote bad fast fast_passing (Answer.At (pos 2) ∷ Answer.At (pos 3) ∷ Answer.None ∷ []) fast_answering
+pub fast_answers : (i : ℕ) → i < 3 → answer_now vote (history_of vote fast) i ≡ get_or (Some (pos 2) ∷ Some (pos 3) ∷ None ∷ []) i None
+fast_answers = answers vote bad fast fast_passing (Some (pos 2) ∷ Some (pos 3) ∷ None ∷ []) fast_answering
 
 -- ---- its three stories
 

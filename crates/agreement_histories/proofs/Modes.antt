@@ -2,17 +2,17 @@
 use mathlib.Core.Path.{refl}
 use mathlib.Core.List.{[], ◌∷◌}
 use lib.IntN.{pos}
-use Rattle.board_calls.specs.declared.Answer.{Answer}
+use Rattle.std.specs.Prelude.{Some}
 use Rattle.agreement_histories.specs.Scripts.{history_of, Concludes}
 use Rattle.agreement_histories.specs.Modes.{vote, plan, bad, script}
 use Rattle.agreement_histories.proofs.Delivery.{Judges}
 use Rattle.agreement_histories.proofs.Delivered.{concludes}
 use Rattle.agreement_histories.proofs.Computing.{computing}
 
-judged : Judges vote bad script (Answer.At (pos 0) ∷ Answer.At (pos 3) ∷ [])
+judged : Judges vote bad script (Some (pos 0) ∷ Some (pos 3) ∷ [])
 unfolding computing script
 judged = refl
 
-pub conclusion : Concludes vote plan bad (history_of vote script) (Answer.At (pos 0) ∷ Answer.At (pos 3) ∷ [])
+pub conclusion : Concludes vote plan bad (history_of vote script) (Some (pos 0) ∷ Some (pos 3) ∷ [])
 unfolding computing
 conclusion = concludes vote plan bad script _ judged refl refl

@@ -8,6 +8,7 @@ use native.Mathlib.Omega.{arith}
 use lib.Dec.{T, leb, ltb, leb→le, ltb→lt, T_not}
 use lib.ListN.{length, get_or, replicate}
 use lib.Seq.{take-append_seam}
+use Rattle.std.specs.Prelude.{None}
 use Rattle.base.specs.Sets.{Set, count}
 use Rattle.base.specs.Limits.{max_boards, max_number}
 use Rattle.base.proofs.Bools.{T-left, T-right, or_split, true→T}
@@ -17,7 +18,7 @@ use Rattle.plan.specs.Reading.{plan_of}
 use Rattle.message.specs.Message.{message_bytes}
 use Rattle.journal.specs.Records.{journal_bytes}
 use Rattle.journal.specs.Reading.{records_in}
-use Rattle.board_calls.specs.declared.Answer.{Answer}
+use Rattle.board_calls.specs.Answers.{Answer}
 use Rattle.board_calls.specs.Calls.{answered_of}
 use Rattle.agreement.specs.History.{Instance, History, Board, board_after}
 use Rattle.agreement.specs.Allowed.{Sound, Handed, Continues, Ours, TornAfter, May, Allowed}
@@ -170,7 +171,7 @@ unfoldable pub listed : ℕ → ℕ → (ℕ → Answer) → List Answer
 listed at zero f = []
 listed at (suc k) f = f at ∷ listed (suc at) k f
 
-listed_at : (at k i : ℕ) (f : ℕ → Answer) → i < length (listed at k f) → get_or (listed at k f) i Answer.None ≡ f (at + i)
+listed_at : (at k i : ℕ) (f : ℕ → Answer) → i < length (listed at k f) → get_or (listed at k f) i None ≡ f (at + i)
 unfolding listed
 listed_at at zero i f l = absurd (omega arith)
 listed_at at (suc k) zero f l = ap f (let e : at ≡ at + 0 = omega arith in e)
@@ -197,9 +198,9 @@ module _ (v : Instance) (bad : Set) (script : List Action) (f : passes v bad scr
 
   -- the answers are those of the boards 0, 1, .. at the end
   pub answers : (l : List Answer) → listed 0 (length l) (answer_in v (ending v script)) ≡ l
-      → (i : ℕ) → i < length l → answer_now v (history_of v script) i ≡ get_or l i Answer.None
+      → (i : ℕ) → i < length l → answer_now v (history_of v script) i ≡ get_or l i None
   answers l e i k =
-      subst (λ (b : Board). (answered_of (party_by v i b b.stage)).answer ≡ get_or l i Answer.None) (shown.board i)
+      subst (λ (b : Board). (answered_of (party_by v i b b.stage)).answer ≡ get_or l i None) (shown.board i)
       (ap (answer_in v (ending v script)) (let z : i ≡ 0 + i = omega arith in z)
       ∙ sym (listed_at 0 (length l) i (answer_in v (ending v script)) (subst (λ (x : List Answer). i < length x) (sym e) k))
-      ∙ ap (λ (x : List Answer). get_or x i Answer.None) e)
+      ∙ ap (λ (x : List Answer). get_or x i None) e)

@@ -5,8 +5,8 @@ use mathlib.Core.List.{[], ◌∷◌, ◌++◌}
 use Prim.Native.Nat.{ℕ, ◌<◌}
 use lib.IntN.{ℤ, pos}
 use lib.ListN.{get_or}
+use Rattle.std.specs.Prelude.{Some, None}
 use Rattle.message.specs.declared.Body.TheVariants.{FirstEcho}
-use Rattle.board_calls.specs.declared.Answer.{Answer}
 use Rattle.agreement.specs.History.{down, board_after}
 use Rattle.agreement.specs.Demand.{Started, answer_now, Premises}
 use Rattle.agreement_histories.specs.Scripts.{says, history_of, Refusing}
@@ -21,7 +21,7 @@ passing : passes vote bad script ≡ true
 unfolding computing opening back lost again rubbish rest
 passing = refl
 
-answering : listed 0 3 (answer_in vote (ending vote script)) ≡ Answer.At (pos 2) ∷ Answer.At (pos 2) ∷ Answer.None ∷ []
+answering : listed 0 3 (answer_in vote (ending vote script)) ≡ Some (pos 2) ∷ Some (pos 2) ∷ None ∷ []
 unfolding computing opening back lost again rubbish rest
 answering = refl
 
@@ -29,8 +29,8 @@ pub premises : Premises vote plan bad (history_of vote script)
 unfolding computing
 premises = premises_of vote bad script passing plan refl refl
 
-pub answers_now : (i : ℕ) → i < 3 → answer_now vote (history_of vote script) i ≡ get_or (Answer.At (pos 2) ∷ Answer.At (pos 2) ∷ Answer.None ∷ []) i Answer.None
-answers_now = answers vote bad script passing (Answer.At (pos 2) ∷ Answer.At (pos 2) ∷ Answer.None ∷ []) answering
+pub answers_now : (i : ℕ) → i < 3 → answer_now vote (history_of vote script) i ≡ get_or (Some (pos 2) ∷ Some (pos 2) ∷ None ∷ []) i None
+answers_now = answers vote bad script passing (Some (pos 2) ∷ Some (pos 2) ∷ None ∷ []) answering
 
 -- ---- the restore with no cut before it: board 0 keeps its record, and has its message again
 

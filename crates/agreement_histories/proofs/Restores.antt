@@ -2,8 +2,8 @@
 use mathlib.Core.Path.{◌≡◌, refl}
 use mathlib.Core.List.{[], ◌∷◌, ◌++◌}
 use lib.IntN.{pos}
+use Rattle.std.specs.Prelude.{Some}
 use Rattle.message.specs.declared.Body.TheVariants.{FirstEcho, FirstProposal}
-use Rattle.board_calls.specs.declared.Answer.{Answer}
 use Rattle.agreement.specs.History.{board_after}
 use Rattle.agreement_histories.specs.Scripts.{says, history_of, Concludes}
 use Rattle.agreement_histories.specs.Restores.{vote, plan, bad, opening, torn, once, rest, script}
@@ -11,11 +11,11 @@ use Rattle.agreement_histories.proofs.Delivery.{Judges}
 use Rattle.agreement_histories.proofs.Delivered.{concludes}
 use Rattle.agreement_histories.proofs.Computing.{computing}
 
-judged : Judges vote bad script (Answer.At (pos 2) ∷ Answer.At (pos 2) ∷ [])
+judged : Judges vote bad script (Some (pos 2) ∷ Some (pos 2) ∷ [])
 unfolding computing opening torn once rest
 judged = refl
 
-pub conclusion : Concludes vote plan bad (history_of vote script) (Answer.At (pos 2) ∷ Answer.At (pos 2) ∷ [])
+pub conclusion : Concludes vote plan bad (history_of vote script) (Some (pos 2) ∷ Some (pos 2) ∷ [])
 unfolding computing
 conclusion = concludes vote plan bad script _ judged refl refl
 

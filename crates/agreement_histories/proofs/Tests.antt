@@ -6,17 +6,18 @@ use mathlib.Core.List.{List, [], ◌∷◌, Memᴰ}
 use Prim.Native.Nat.{ℕ}
 use lib.Dec.{T, ltb, eqb, ltb→lt, lt→ltb, eqb→eq}
 use lib.ListN.{length, take}
+use Rattle.std.specs.Prelude.{Err, Ok}
 use Rattle.base.specs.Sets.{Set}
 use Rattle.base.proofs.Bools.{T_and, T-left, T-right, or_split}
-use Rattle.base.specs.declared.Verdict.{Verdict}
+use Rattle.base.specs.Verdict.{Verdict}
 use Rattle.base.specs.Found.{Found, found, refused}
 use Rattle.message.specs.declared.Body.{Body}
 use Rattle.message.specs.declared.Message.{Message}
 use Rattle.message.specs.Message.{kind_of}
 use Rattle.message.specs.Format.{value_of, body_of}
 use Rattle.message.proofs.RoundTrip.{body_same}
-use Rattle.journal.specs.declared.RecordRead.{RecordRead}
-use Rattle.journal.specs.Reading.{record_at, records_in}
+use Rattle.journal.specs.declared.RecordError.TheVariants.{Torn, Bad}
+use Rattle.journal.specs.Reading.{RecordRead, whole_record, record_at, records_in}
 use Rattle.journal.specs.Records.{journal_bytes}
 use Rattle.board_calls.specs.Calls.{set_up_of, answered_of}
 use Rattle.agreement.specs.History.{Instance, Call, set_up, start, take_message_lem, read_answer, read_count, restore, start_finds, take_finds, restore_finds, read_as_count, Stage, waiting, running, down}
@@ -98,10 +99,10 @@ same_bytes→ [] (y ∷ r) h = absurd h
 same_bytes→ (x ∷ l) [] h = absurd h
 same_bytes→ (x ∷ l) (y ∷ r) h = ap₂ (λ (z : ℕ) (s : List ℕ). z ∷ s) (eqb→eq x y (T-left (eqb x y) (same_bytes l r) h)) (same_bytes→ l r (T-right (eqb x y) (same_bytes l r) h))
 
-torn→ : (r : RecordRead) → T (is_torn r) → r ≡ RecordRead.Torn
-torn→ (RecordRead.Read r next) h = absurd h
-torn→ RecordRead.Torn h = refl
-torn→ RecordRead.Bad h = absurd h
+torn→ : (r : RecordRead) → T (is_torn r) → r ≡ Err Torn
+torn→ (Ok r) h = absurd h
+torn→ (Err Torn) h = refl
+torn→ (Err Bad) h = absurd h
 
 pub torn_behind→ : (used journal : List ℕ) → T (torn_behind (journal_bytes (records_in used)) journal) → TornAfter used journal
 torn_behind→ used journal h = record {

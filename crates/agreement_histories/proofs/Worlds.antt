@@ -4,15 +4,16 @@ use mathlib.Core.List.{List, [], ◌∷◌, ◌++◌}
 use Prim.Native.Nat.{ℕ}
 use lib.Dec.{leb, ltb, eqb}
 use lib.ListN.{length, get_or, set, take, replicate}
+use Rattle.std.specs.Prelude.{Err, Ok}
 use Rattle.base.specs.Pick.{pick}
 use Rattle.base.specs.Sets.{Set}
-use Rattle.base.specs.declared.Verdict.{Verdict}
+use Rattle.base.specs.Verdict.{Verdict}
 use Rattle.base.specs.Found.{Found, found, refused}
 use Rattle.message.specs.declared.Message.{Message}
 use Rattle.message.specs.Message.{kind_of}
 use Rattle.message.specs.Format.{value_of}
-use Rattle.journal.specs.declared.RecordRead.{RecordRead}
-use Rattle.journal.specs.Reading.{record_at, records_in}
+use Rattle.journal.specs.declared.RecordError.TheVariants.{Torn, Bad}
+use Rattle.journal.specs.Reading.{RecordRead, whole_record, record_at, records_in}
 use Rattle.journal.specs.Records.{journal_bytes}
 use Rattle.board_calls.specs.Calls.{set_up_of, answered_of}
 use Rattle.agreement.specs.History.{Instance, Call, set_up, start, take_message_lem, read_answer, read_count, restore, start_finds, take_finds, restore_finds, read_as_count, Step, Stage, waiting, running, down, Board, unborn, after_own}
@@ -118,9 +119,9 @@ same_bytes (x ∷ l) [] = false
 same_bytes (x ∷ l) (y ∷ r) = eqb x y && same_bytes l r
 
 abbrev pub is_torn : RecordRead → Bool
-is_torn (RecordRead.Read r next) = false
-is_torn RecordRead.Torn = true
-is_torn RecordRead.Bad = false
+is_torn (Ok r) = false
+is_torn (Err Torn) = true
+is_torn (Err Bad) = false
 
 -- the journal has the bytes `whole`, and then a torn record
 abbrev pub torn_behind : List ℕ → List ℕ → Bool

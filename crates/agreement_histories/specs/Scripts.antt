@@ -1,16 +1,16 @@
 -- Scripts: histories told action by action, the oldest first. Each call but those refused gets the record, the journal and its used length as the call before
 -- left them; one kind of restore is lent a torn record behind them.
-use Rattle.std.specs.Prelude.{◌≡◌, List, [], ◌∷◌, ◌++◌, ℕ, ◌<◌, ℤ, length, get_or, replicate}
+use Rattle.std.specs.Prelude.{◌≡◌, List, [], ◌∷◌, ◌++◌, ℕ, ◌<◌, ℤ, length, get_or, replicate, None}
 use Rattle.base.specs.Sets.{Set}
 use Rattle.base.specs.Limits.{outgoing_size}
 use Rattle.plan.specs.Plan.{Plan}
 use Rattle.message.specs.declared.Body.{Body}
 use Rattle.message.specs.declared.Message.{Message}
 use Rattle.message.specs.Message.{message_bytes}
-use Rattle.board_calls.specs.declared.Answer.{Answer}
 use Rattle.agreement.specs.History.{Instance, Lent, plain, by_count, Call, set_up, start, take_message_lem, read_answer, read_count, restore, Step, calls, hands, cut, History, Board, board_after}
 use Rattle.agreement.specs.Allowed.{RefusedBy}
 use Rattle.agreement.specs.Demand.{answer_now, Complete, Premises}
+use Rattle.board_calls.specs.Answers.{Answer}
 
 -- a message of the vote with this number at this level, and one of vote 1 at level 0
 abbrev pub saying : ℕ → ℕ → Body → Message
@@ -108,4 +108,4 @@ history_of v script = followed v [] script
 pub record Concludes (v : Instance) (plan : Plan) (bad : Set) (h : History) (answers : List Answer) : Type 0 where
   pub premises : Premises v plan bad h
   pub complete : Complete v bad h
-  pub answer : (i : ℕ) → i < length answers → answer_now v h i ≡ get_or answers i Answer.None
+  pub answer : (i : ℕ) → i < length answers → answer_now v h i ≡ get_or answers i None

@@ -9,13 +9,13 @@ use native.Mathlib.Omega.{arith}
 use lib.Dec.{T}
 use lib.ListN.{length, length-append}
 use lib.Seq.{take_at}
+use Rattle.std.specs.Prelude.{Ok}
 use Rattle.base.specs.Limits.{outgoing_size}
 use Rattle.base.specs.Found.{Found, found}
 use Rattle.base.proofs.Bools.{T→true}
 use Rattle.plan.specs.Plan.{Plan}
 use Rattle.plan.specs.Positions.{reading_of}
 use Rattle.message.specs.declared.Message.{Message}
-use Rattle.message.specs.declared.Exactly.{Exactly}
 use Rattle.message.specs.Message.{in_table, message_bytes}
 use Rattle.message.specs.Reading.{exact_message}
 use Rattle.message.proofs.RoundTrip.{exact_message_read}
@@ -168,7 +168,7 @@ module _ (a : ℕ) (bytes : List ℕ) (plan : Plan) (f : Shared (alone_instance 
         let r : Record = Taken s m in
         let j : Lent = lent r in
         let used : ℕ = length b.journal in
-        let one : exact_message (message_bytes m) ≡ Exactly.One m = exact_message_read m (T→true (in_table m) table) (omega (arith, number, board_is.agreement, f.number)) in
+        let one : exact_message (message_bytes m) ≡ Ok m = exact_message_read m (T→true (in_table m) table) (omega (arith, number, board_is.agreement, f.number)) in
         let e : take_finds p s (message_bytes m) j used ≡ found (fresh r (taking p s m)) =
         take_fits p s (message_bytes m) (length j.journal) used outgoing_size valid (omega arith) (omega (arith, room r)) (subst (λ (q : Party). s < q.n) (sym party_is) low) m one
         (number ∙ ap (λ (q : Party). q.agreement) (sym party_is)) (ap (λ (q : Party). held_by q s m) party_is ∙ new) (room r) in

@@ -9,10 +9,9 @@ use Prim.Native.Nat.{ℕ, ◌≤◌}
 use native.Mathlib.Omega.{arith}
 use lib.IntN.{ℤ, pos}
 use lib.Signed.{◌≤ℤ◌}
+use Rattle.std.specs.Prelude.{Some, None}
 use Rattle.base.specs.Found.{found}
 use Rattle.plan.specs.Positions.{reading_of}
-use Rattle.board_calls.specs.declared.Answer.{Answer}
-use Rattle.board_pair.specs.declared.PairAnswer.{PairAnswer}
 use Rattle.board_pair.specs.Pair.{pair_questions}
 use Rattle.agreement.specs.History.{History, running, board_after}
 use Rattle.agreement.specs.Demand.{Started, answer_now, Complete, Premises}
@@ -62,7 +61,7 @@ unfolding computing
 passing first = refl
 passing second = refl
 
-reading : pair_questions (record_of first) (record_of second) ≡ found (PairAnswer.At (pos 0) (pos 0))
+reading : pair_questions (record_of first) (record_of second) ≡ found (Some (pos 0, pos 0))
 unfolding computing pair_questions
 reading = refl
 
@@ -138,7 +137,7 @@ one_complete claim =
     (record { votes = λ c. subst (Premises (vote c) (plan c) (bad c)) (sym (half_in c)) (premises started started_passes c); ranges = ranges; numbers = numbers })
     (subst (Complete (vote first) (bad first)) (sym (half_in first)) (complete (vote first) (bad first) begins (started_passes first) all_taken_lem)) (both 0) sound in
     let y = r.0 in
-    let n : Answer.None ≡ Answer.At (y second) =
-    sym answered_none ∙ subst (λ (h : History). answer_now (vote second) h 0 ≡ Answer.At (y second)) (half_in second) (now_each vote half (both 0) y r.1 second) in
+    let n : None ≡ Some (y second) =
+    sym answered_none ∙ subst (λ (h : History). answer_now (vote second) h 0 ≡ Some (y second)) (half_in second) (now_each vote half (both 0) y r.1 second) in
     let o : ◌≡◌ {A = ℕ} 0 1 = cc in
     omega arith

@@ -7,11 +7,10 @@ use Prim.Native.Nat.{ℕ, zero, suc, ◌<◌}
 use native.Mathlib.Omega.{arith}
 use lib.Dec.{leb→le}
 use lib.IntN.{ℤ, pos, nat_abs}
+use Rattle.std.specs.Prelude.{Some}
 use Rattle.base.specs.Found.{found}
 use Rattle.plan.specs.Positions.{reading_of}
 use Rattle.party.specs.Party.{Party}
-use Rattle.board_calls.specs.declared.Answer.{Answer}
-use Rattle.board_pair.specs.declared.PairAnswer.{PairAnswer}
 use Rattle.board_pair.specs.Pair.{pair_questions}
 use Rattle.agreement.specs.History.{Instance, read_answer, calls, History, Board, board_after}
 use Rattle.agreement.specs.Demand.{Started, StartedWith, Complete, Premises}
@@ -29,12 +28,13 @@ use Rattle.agreement_pair.specs.Demand.{SoundInBoth, pair_now, PairPremises}
 use Rattle.agreement_pair.specs.Example.{OnLine, both, InputPair, vote, plan, bad, script, before, record_of, history, input, Inputs, answer, Example}
 use Rattle.agreement_pair.proofs.Steps.{alone, read_now}
 use Rattle.agreement_pair.proofs.Theorem.{pair_stays}
+use Rattle.board_calls.specs.Answers.{Answer}
 
 -- ---- each vote, with both boards' readings at last
 
 abbrev answers : Coordinate → List Answer
-answers first = Answer.At (pos 1) ∷ Answer.At (pos 2) ∷ []
-answers second = Answer.At (pos 0) ∷ Answer.At (pos 1) ∷ []
+answers first = Some (pos 1) ∷ Some (pos 2) ∷ []
+answers second = Some (pos 0) ∷ Some (pos 1) ∷ []
 
 abbrev whole : Coordinate → List Action
 whole c = script c ++ (reads 0 ∷ reads 1 ∷ [])
@@ -63,15 +63,15 @@ shown_record i c = (board_of (ending (vote c) (script c)) i).party
 shows_record : (i : ℕ) (c : Coordinate) → shown_record i c ≡ record_of i c
 shows_record i c = ap (λ (b : Board). b.party) ((shown (vote c) (bad c) (script c) (passing c)).board i)
 
-shown_reading : (i : ℕ) → i < 2 → pair_questions (shown_record i first) (shown_record i second) ≡ found (PairAnswer.At (answer i first) (answer i second))
+shown_reading : (i : ℕ) → i < 2 → pair_questions (shown_record i first) (shown_record i second) ≡ found (Some (answer i first, answer i second))
 unfolding computing pair_questions grades.script
 shown_reading zero l = refl
 shown_reading (suc zero) l = refl
 shown_reading (suc (suc i)) l = absurd (omega arith)
 
-reading : (i : ℕ) → i < 2 → pair_questions (record_of i first) (record_of i second) ≡ found (PairAnswer.At (answer i first) (answer i second))
+reading : (i : ℕ) → i < 2 → pair_questions (record_of i first) (record_of i second) ≡ found (Some (answer i first, answer i second))
 reading i l =
-    subst₂ (λ (p q : Party). pair_questions p q ≡ found (PairAnswer.At (answer i first) (answer i second))) (shows_record i first) (shows_record i second)
+    subst₂ (λ (p q : Party). pair_questions p q ≡ found (Some (answer i first, answer i second))) (shows_record i first) (shows_record i second)
     (shown_reading i l)
 
 read : (i : ℕ) → i < 2 → Memᴰ (reads_pair (both i) (record_of i)) history
@@ -117,7 +117,7 @@ sound : (i : ℕ) → i < 2 → SoundInBoth vote bad (both i)
 sound i l first = (l, tt)
 sound i l second = (l, tt)
 
-held : (i : ℕ) → i < 2 → pair_now vote history (both i) ≡ PairAnswer.At (answer i first) (answer i second)
+held : (i : ℕ) → i < 2 → pair_now vote history (both i) ≡ Some (answer i first, answer i second)
 held i l = pair_stays vote plan bad history premises (both i) (answer i) (sound i l) (inr (record_of i, read i l, reading i l))
 
 -- ---- where the boards started

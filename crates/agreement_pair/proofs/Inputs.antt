@@ -7,8 +7,8 @@ use Prim.Native.Nat.{ℕ, zero, suc}
 use native.Mathlib.Omega.{arith}
 use lib.IntN.{ℤ, pos}
 use lib.Signed.{◌≤ℤ◌}
+use Rattle.std.specs.Prelude.{Some}
 use Rattle.plan.specs.Positions.{reading_of}
-use Rattle.board_calls.specs.declared.Answer.{Answer}
 use Rattle.agreement.specs.History.{History}
 use Rattle.agreement.specs.Demand.{Started, answer_now, Premises}
 use Rattle.agreement.specs.Ranges.{Input}
@@ -59,14 +59,14 @@ sound first = (omega arith, tt)
 sound second = (omega arith, tt)
 
 -- board 0 answers 1 in the first vote, 0 in the second
-board_0 : (c : Coordinate) → answer_now (mixed_vote c) (history_in c mixed) 0 ≡ Answer.At (answer 0 c)
+board_0 : (c : Coordinate) → answer_now (mixed_vote c) (history_in c mixed) 0 ≡ Some (answer 0 c)
 unfolding computing
-board_0 c = subst (λ (h : History). answer_now (mixed_vote c) h 0 ≡ Answer.At (answer 0 c)) (sym (mixed_in c)) (of_vote c)
+board_0 c = subst (λ (h : History). answer_now (mixed_vote c) h 0 ≡ Some (answer 0 c)) (sym (mixed_in c)) (of_vote c)
   where
-    second_answer : listed 0 1 (answer_in (mixed_vote second) (ending (mixed_vote second) (mixed_script second))) ≡ Answer.At (pos 0) ∷ []
+    second_answer : listed 0 1 (answer_in (mixed_vote second) (ending (mixed_vote second) (mixed_script second))) ≡ Some (pos 0) ∷ []
     second_answer = refl
 
-    of_vote : (c : Coordinate) → answer_now (mixed_vote c) (history_of (mixed_vote c) (mixed_script c)) 0 ≡ Answer.At (answer 0 c)
+    of_vote : (c : Coordinate) → answer_now (mixed_vote c) (history_of (mixed_vote c) (mixed_script c)) 0 ≡ Some (answer 0 c)
     of_vote first = conclusion.answer 0 (omega arith)
     of_vote second = answers (mixed_vote second) (mixed_bad second) (mixed_script second) (passing second) _ second_answer 0 (omega arith)
 

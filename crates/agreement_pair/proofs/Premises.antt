@@ -3,11 +3,11 @@ use mathlib.Core.Path.{◌≡◌, refl, sym, ap, ◌∙◌, subst}
 use mathlib.Core.Bool.{true}
 use Prim.Native.Nat.{ℕ}
 use native.Mathlib.Omega.{arith}
+use Rattle.std.specs.Prelude.{Some, None}
 use Rattle.base.specs.Found.{Found, found, refused}
 use Rattle.plan.specs.Plan.{Plan}
 use Rattle.plan.specs.Reading.{plan_of}
-use Rattle.board_pair.specs.declared.PairAnswer.{PairAnswer}
-use Rattle.board_pair.specs.Pair.{pair_questions, pair_gives}
+use Rattle.board_pair.specs.Pair.{pair_questions, pair_gives, PairAnswer}
 use Rattle.agreement.specs.History.{Instance}
 use Rattle.agreement.specs.Demand.{party_now, Complete, Premises}
 use Rattle.agreement_histories.specs.Scripts.{history_of}
@@ -41,7 +41,7 @@ no_ending : (v : Coordinate → Instance) → ((c : Coordinate) → Complete (v 
     → Ends v bad (started v) → ⊥
 no_ending v full g number e ends =
     let r = ends full (both 0) g in
-    let n : PairAnswer.None ≡ PairAnswer.At (r.0 first) (r.0 second) = sym (ap (λ (f : Found PairAnswer). (pair_gives f).answer) e) ∙ r.1 in
+    let n : None ≡ Some (r.0 first, r.0 second) = sym (ap (λ (f : Found PairAnswer). (pair_gives f).answer) e) ∙ r.1 in
     let o : ◌≡◌ {A = ℕ} 0 1 = cc in
     omega arith
 

@@ -5,17 +5,17 @@ use mathlib.Core.Bool.{Bool, true, false}
 use mathlib.Core.List.Memᴰ
 use mathlib.Core.List.{[], ◌∷◌, ◌++◌, append-nil, append_assoc, Memᴰ}
 use lib.IntN.{ℤ}
+use Rattle.std.specs.Prelude.{Some}
 use Rattle.base.specs.Pick.{pick}
 use Rattle.base.specs.Found.{found}
 use Rattle.party.specs.Party.{Party}
-use Rattle.board_pair.specs.declared.PairAnswer.{PairAnswer}
 use Rattle.board_pair.specs.Pair.{pair_questions}
 use Rattle.agreement.specs.History.{read_answer, Step, calls, History}
 use Rattle.agreement_pair.specs.History.{Coordinate, first, second, same, Seats, PairStep, reads_pair, PairHistory, read_steps, steps_in, history_in, within, in_both}
 
 -- ---- a pair reading
 
-module _ (c : Coordinate) (own : Seats) (p : Coordinate → Party) (y z : ℤ) (e : pair_questions (p first) (p second) ≡ found (PairAnswer.At y z)) where
+module _ (c : Coordinate) (own : Seats) (p : Coordinate → Party) (y z : ℤ) (e : pair_questions (p first) (p second) ≡ found (Some (y, z))) where
   -- in each vote, what one that gives an answer is
   abbrev reading : Step
   reading = calls (own c) (read_answer (p c))

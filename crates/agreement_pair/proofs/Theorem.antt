@@ -10,6 +10,7 @@ use native.Mathlib.Omega.{arith}
 use lib.Dec.{eqb, eqb_refl}
 use lib.IntN.{ℤ}
 use lib.ListN.{length}
+use Rattle.std.specs.Prelude.{Some, None}
 use Rattle.base.specs.Pick.{pick}
 use Rattle.base.specs.Sets.{Set}
 use Rattle.base.specs.Found.{Found, found, refused}
@@ -17,10 +18,8 @@ use Rattle.base.proofs.Bools.{T→true}
 use Rattle.plan.specs.Plan.{Plan}
 use Rattle.party.specs.Party.{Party}
 use Rattle.party_laws.specs.Inner.{SameBoard}
-use Rattle.board_calls.specs.declared.Answer.{Answer}
 use Rattle.board_calls.specs.Calls.{answered_of}
-use Rattle.board_pair.specs.declared.PairAnswer.{PairAnswer}
-use Rattle.board_pair.specs.Pair.{pair_questions, pair_gives}
+use Rattle.board_pair.specs.Pair.{pair_questions, pair_gives, PairAnswer}
 use Rattle.board_pair.proofs.Theorem.{exact}
 use Rattle.agreement.specs.History.{Instance, read_answer, calls, History, Board, after_own, board_after}
 use Rattle.agreement.specs.Demand.{party_now, answer_now, Answers}
@@ -38,23 +37,23 @@ use Rattle.agreement_pair.proofs.Steps.{read_now, read_in}
 -- ---- a pair answer, in one vote
 
 -- a board's own reading that gives an answer guards its journal
-own_reading : (b : Board) (i : ℕ) (p : Party) (z : ℤ) → (answered_of p).answer ≡ Answer.At z
+own_reading : (b : Board) (i : ℕ) (p : Party) (z : ℤ) → (answered_of p).answer ≡ Some z
     → (pick (eqb i i) (after_own b (calls i (read_answer p))) b).guarded ≡ length b.journal
 own_reading b i p z e = rw (T→true (eqb i i) (eqb_refl i), e)
 
 -- each of the parties answers its reading
-of_each : (p : Coordinate → Party) (y : Coordinate → ℤ) → pair_questions (p first) (p second) ≡ found (PairAnswer.At (y first) (y second))
-    → (c : Coordinate) → (answered_of (p c)).answer ≡ Answer.At (y c)
+of_each : (p : Coordinate → Party) (y : Coordinate → ℤ) → pair_questions (p first) (p second) ≡ found (Some (y first, y second))
+    → (c : Coordinate) → (answered_of (p c)).answer ≡ Some (y c)
 of_each p y e first = ((exact (p first) (p second) (y first) (y second)).0 e).first
 of_each p y e second = ((exact (p first) (p second) (y first) (y second)).0 e).second
 
 -- an answer was found
-gives_found : (f : Found PairAnswer) (y z : ℤ) → (pair_gives f).answer ≡ PairAnswer.At y z → f ≡ found (PairAnswer.At y z)
+gives_found : (f : Found PairAnswer) (y z : ℤ) → (pair_gives f).answer ≡ Some (y, z) → f ≡ found (Some (y, z))
 gives_found (found a) y z e = ap found e
 gives_found (refused number place) y z e = let o : ◌≡◌ {A = ℕ} 0 1 = cc in absurd (omega arith)
 
-pub now_each : (v : Coordinate → Instance) (h : PairHistory) (own : Seats) (y : Coordinate → ℤ) → pair_now v h own ≡ PairAnswer.At (y first) (y second)
-    → (c : Coordinate) → answer_now (v c) (history_in c h) (own c) ≡ Answer.At (y c)
+pub now_each : (v : Coordinate → Instance) (h : PairHistory) (own : Seats) (y : Coordinate → ℤ) → pair_now v h own ≡ Some (y first, y second)
+    → (c : Coordinate) → answer_now (v c) (history_in c h) (own c) ≡ Some (y c)
 now_each v h own y e = of_each (λ c. party_now (v c) (history_in c h) (own c)) y (gives_found _ (y first) (y second) e)
 
 -- held then or read earlier, it is so in the vote
@@ -67,7 +66,7 @@ module _ (v : Coordinate → Instance) (plan : Coordinate → Plan) (bad : Coord
   -- ---- answers of both votes, as a pair
 
   pub pair_now_lem : (own : Seats) → SoundInBoth v bad own → (y : Coordinate → ℤ)
-      → ((c : Coordinate) → answer_now (v c) (history_in c h) (own c) ≡ Answer.At (y c)) → pair_now v h own ≡ PairAnswer.At (y first) (y second)
+      → ((c : Coordinate) → answer_now (v c) (history_in c h) (own c) ≡ Some (y c)) → pair_now v h own ≡ Some (y first, y second)
   pair_now_lem own g y a =
       ap (λ (f : Found PairAnswer). (pair_gives f).answer)
       ((exact (p first) (p second) (y first) (y second)).1 (record {
@@ -87,10 +86,10 @@ module _ (v : Coordinate → Instance) (plan : Coordinate → Plan) (bad : Coord
       kind c = ap (λ (x : Plan). x.kind) (board c).plan ∙ given.ranges c
 
   -- a reading of the pair is still the vote's answer, in each of them
-  stays : (own : Seats) (y : Coordinate → ℤ) → SoundInBoth v bad own → PairAnswers v h own y → pair_now v h own ≡ PairAnswer.At (y first) (y second)
+  stays : (own : Seats) (y : Coordinate → ℤ) → SoundInBoth v bad own → PairAnswers v h own y → pair_now v h own ≡ Some (y first, y second)
   stays own y g a = pair_now_lem own g y each
     where
-      each : (c : Coordinate) → answer_now (v c) (history_in c h) (own c) ≡ Answer.At (y c)
+      each : (c : Coordinate) → answer_now (v c) (history_in c h) (own c) ≡ Some (y c)
       each c =
           let o = given.votes c in
           answer_now_lem (v c) (plan c) (bad c) o.shared (history_in c h) o.allowed (own c) (g c).0
@@ -106,7 +105,7 @@ module _ (v : Coordinate → Instance) (plan : Coordinate → Plan) (bad : Coord
     near = λ own own' y z g g' a b c. (on_range_lem c).near (own c) (own' c) (y c) (z c) (g c) (g' c) (pair_answers v h own y a c) (pair_answers v h own' z b c);
     validity = λ own y g a c. (on_range_lem c).validity (own c) (y c) (g c) (pair_answers v h own y a c);
     ending = λ full own g.
-        let r : (c : Coordinate) → (z : ℤ) × (answer_now (v c) (history_in c h) (own c) ≡ Answer.At z) =
+        let r : (c : Coordinate) → (z : ℤ) × (answer_now (v c) (history_in c h) (own c) ≡ Some z) =
         λ c. (demand3 (v c) (plan c) (bad c) (history_in c h) (given.votes c)).ending (full c) (own c) (g c) in
         (λ c. (r c).0, pair_now_lem own g (λ c. (r c).0) (λ c. (r c).1));
   }
@@ -136,7 +135,7 @@ pair_guards own p h = record {
     part y z first = y
     part y z second = z
 
-    no_steps : (f : Found PairAnswer) → ((y : Coordinate → ℤ) → f ≡ found (PairAnswer.At (y first) (y second)) → ⊥) → (i : ℕ) (r : Party) → read_steps i r f ≡ []
-    no_steps (found PairAnswer.None) d i r = refl
-    no_steps (found (PairAnswer.At y z)) d i r = absurd (d (part y z) refl)
+    no_steps : (f : Found PairAnswer) → ((y : Coordinate → ℤ) → f ≡ found (Some (y first, y second)) → ⊥) → (i : ℕ) (r : Party) → read_steps i r f ≡ []
+    no_steps (found None) d i r = refl
+    no_steps (found (Some (y, z))) d i r = absurd (d (part y z) refl)
     no_steps (refused number place) d i r = refl

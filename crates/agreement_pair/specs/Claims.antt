@@ -1,5 +1,5 @@
 -- The must-fail edits of this crate: what each of them claims, and the histories against it.
-use Rattle.std.specs.Prelude.{◌≡◌, false, ◌||◌, ℕ, ◌≤◌, eqb, ℤ, pos, take, ◌≤ℤ◌}
+use Rattle.std.specs.Prelude.{◌≡◌, false, ◌||◌, ℕ, ◌≤◌, eqb, ℤ, pos, take, ◌≤ℤ◌, Some}
 use mathlib.Core.List.{List, [], ◌∷◌, ◌++◌, Memᴰ}
 use Rattle.base.specs.Limits.{offset_zero}
 use Rattle.base.specs.Sets.{Set}
@@ -7,7 +7,6 @@ use Rattle.base.specs.Found.{found}
 use Rattle.plan.specs.Plan.{Plan}
 use Rattle.plan.specs.Positions.{range_plan}
 use Rattle.party.specs.Party.{Party, new_party}
-use Rattle.board_pair.specs.declared.PairAnswer.{PairAnswer}
 use Rattle.board_pair.specs.Pair.{pair_questions}
 use Rattle.agreement.specs.History.{Instance, plain, start, restore, calls, cut, History, running, board_after}
 use Rattle.agreement.specs.Demand.{Complete, Premises}
@@ -42,7 +41,7 @@ OneJournal =
     (v : Coordinate → Instance) (plan : Coordinate → Plan) (bad : Coordinate → Set) (h : PairHistory)
     → ((c : Coordinate) → Premises (v c) (plan c) (bad c) (guarding_one c h)) → OwnRecords h → ((c : Coordinate) → (plan c).kind ≡ 2)
     → ((v first).agreement ≡ (v second).agreement → ⊥) → (own : Seats) (y : Coordinate → ℤ) → SoundInBoth v bad own
-    → (p : Coordinate → Party) → Memᴰ (reads_pair own p) h → pair_questions (p first) (p second) ≡ found (PairAnswer.At (y first) (y second))
+    → (p : Coordinate → Party) → Memᴰ (reads_pair own p) h → pair_questions (p first) (p second) ≡ found (Some (y first, y second))
     → (c : Coordinate)
     → (a : ℤ) × (b : ℤ) × Input (v c) (plan c) (bad c) (guarding_one c h) a × Input (v c) (plan c) (bad c) (guarding_one c h) b × (a ≤ℤ y c) × (y c ≤ℤ b)
 
@@ -98,7 +97,7 @@ abbrev pub OneComplete : Type 0
 OneComplete =
     (v : Coordinate → Instance) (plan : Coordinate → Plan) (bad : Coordinate → Set) (h : PairHistory) → PairPremises v plan bad h
     → Complete (v first) (bad first) (history_in first h) → (own : Seats) → SoundInBoth v bad own
-    → (y : Coordinate → ℤ) × (pair_now v h own ≡ PairAnswer.At (y first) (y second))
+    → (y : Coordinate → ℤ) × (pair_now v h own ≡ Some (y first, y second))
 
 -- the board alone starts the first vote, and has not set up the second
 abbrev pub half : PairHistory

@@ -1,8 +1,7 @@
 -- The ending's premise can always be met: from every pair history that the premises allow, further steps of each vote lead to one after which both are complete.
-use Rattle.std.specs.Prelude.{◌≡◌, ◌++◌, ℤ}
+use Rattle.std.specs.Prelude.{◌≡◌, ◌++◌, ℤ, Some}
 use Rattle.base.specs.Sets.{Set}
 use Rattle.plan.specs.Plan.{Plan}
-use Rattle.board_pair.specs.declared.PairAnswer.{PairAnswer}
 use Rattle.agreement.specs.History.{Instance}
 use Rattle.agreement.specs.Demand.{Complete}
 use Rattle.agreement_completion.specs.Statement.{InOrder}
@@ -17,7 +16,7 @@ pub record PairCompleted (v : Coordinate → Instance) (plan : Coordinate → Pl
   pub premises : PairPremises v plan bad (more ++ h)
   pub complete : (c : Coordinate) → Complete (v c) (bad c) (history_in c (more ++ h))
   -- so every board that is sound in both has a pair answer
-  pub answers : (own : Seats) → SoundInBoth v bad own → (y : Coordinate → ℤ) × (pair_now v (more ++ h) own ≡ PairAnswer.At (y first) (y second))
+  pub answers : (own : Seats) → SoundInBoth v bad own → (y : Coordinate → ℤ) × (pair_now v (more ++ h) own ≡ Some (y first, y second))
 
 abbrev pub PairCompletes : Type 0
 PairCompletes =

@@ -1,13 +1,11 @@
 -- Document 02, Q-13: "Answers are at most 1 apart in each reading, and each reading lies between sound ones", of histories of both votes together.
-use Rattle.std.specs.Prelude.{◌≡◌, ◌⊎◌, ◌↔◌, ℕ, ◌≤◌, ℤ, length, ◌≤ℤ◌}
+use Rattle.std.specs.Prelude.{◌≡◌, ◌⊎◌, ◌↔◌, ℕ, ◌≤◌, ℤ, length, ◌≤ℤ◌, Some}
 use mathlib.Core.List.{◌∷◌, Memᴰ}
 use Rattle.base.specs.Sets.{Set}
 use Rattle.base.specs.Found.{found}
 use Rattle.plan.specs.Plan.{Plan}
 use Rattle.party.specs.Party.{Party}
-use Rattle.board_calls.specs.declared.Answer.{Answer}
-use Rattle.board_pair.specs.declared.PairAnswer.{PairAnswer}
-use Rattle.board_pair.specs.Pair.{pair_questions, pair_gives}
+use Rattle.board_pair.specs.Pair.{pair_questions, pair_gives, PairAnswer}
 use Rattle.agreement.specs.History.{Instance, History, board_after}
 use Rattle.agreement.specs.Allowed.{Sound}
 use Rattle.agreement.specs.Demand.{party_now, answer_now, Complete, Premises}
@@ -27,8 +25,8 @@ pair_now v h own =
 -- a board answers with the readings y: held then or read earlier
 abbrev pub PairAnswers : (Coordinate → Instance) → PairHistory → Seats → (Coordinate → ℤ) → Type 0
 PairAnswers v h own y =
-    (pair_now v h own ≡ PairAnswer.At (y first) (y second))
-    ⊎ ((p : Coordinate → Party) × Memᴰ (reads_pair own p) h × (pair_questions (p first) (p second) ≡ found (PairAnswer.At (y first) (y second))))
+    (pair_now v h own ≡ Some (y first, y second))
+    ⊎ ((p : Coordinate → Party) × Memᴰ (reads_pair own p) h × (pair_questions (p first) (p second) ≡ found (Some (y first, y second))))
 
 -- ---- the demand
 
@@ -42,7 +40,7 @@ pub record PairHolds (v : Coordinate → Instance) (plan : Coordinate → Plan) 
       → (p : ℤ) × (q : ℤ) × Input (v c) (plan c) (bad c) (history_in c h) p × Input (v c) (plan c) (bad c) (history_in c h) q × (p ≤ℤ y c) × (y c ≤ℤ q)
   -- when both votes are complete every sound board has a pair answer
   pub ending : ((c : Coordinate) → Complete (v c) (bad c) (history_in c h)) → (own : Seats) → SoundInBoth v bad own
-      → (y : Coordinate → ℤ) × (pair_now v h own ≡ PairAnswer.At (y first) (y second))
+      → (y : Coordinate → ℤ) × (pair_now v h own ≡ Some (y first, y second))
 
 -- what is asked first
 pub record PairPremises (v : Coordinate → Instance) (plan : Coordinate → Plan) (bad : Coordinate → Set) (h : PairHistory) : Type 0 where
@@ -60,18 +58,18 @@ abbrev pub PairExactly : Type 0
 PairExactly =
     (v : Coordinate → Instance) (plan : Coordinate → Plan) (bad : Coordinate → Set) (h : PairHistory) → PairPremises v plan bad h
     → (own : Seats) (y : Coordinate → ℤ) → SoundInBoth v bad own
-    → (pair_now v h own ≡ PairAnswer.At (y first) (y second)) ↔ ((c : Coordinate) → answer_now (v c) (history_in c h) (own c) ≡ Answer.At (y c))
+    → (pair_now v h own ≡ Some (y first, y second)) ↔ ((c : Coordinate) → answer_now (v c) (history_in c h) (own c) ≡ Some (y c))
 
 -- a pair once read is the board's pair ever after, whatever cuts came between
 abbrev pub PairStays : Type 0
 PairStays =
     (v : Coordinate → Instance) (plan : Coordinate → Plan) (bad : Coordinate → Set) (h : PairHistory) → PairPremises v plan bad h
-    → (own : Seats) (y : Coordinate → ℤ) → SoundInBoth v bad own → PairAnswers v h own y → pair_now v h own ≡ PairAnswer.At (y first) (y second)
+    → (own : Seats) (y : Coordinate → ℤ) → SoundInBoth v bad own → PairAnswers v h own y → pair_now v h own ≡ Some (y first, y second)
 
 -- What is guarded right after a pair reading: if it gave an answer, every byte that either journal then had; otherwise nothing new, since it is a step of neither
 -- vote. `PairStays` says that the pair stays.
 pub record PairGuards (own : Seats) (p : Coordinate → Party) (h : PairHistory) : Type 0 where
-  pub guards : (y : Coordinate → ℤ) → pair_questions (p first) (p second) ≡ found (PairAnswer.At (y first) (y second)) → (c : Coordinate)
+  pub guards : (y : Coordinate → ℤ) → pair_questions (p first) (p second) ≡ found (Some (y first, y second)) → (c : Coordinate)
       → (board_after (history_in c (reads_pair own p ∷ h)) (own c)).guarded ≡ length (board_after (history_in c h) (own c)).journal
-  pub otherwise : ((y : Coordinate → ℤ) → pair_questions (p first) (p second) ≡ found (PairAnswer.At (y first) (y second)) → ⊥) → (c : Coordinate)
+  pub otherwise : ((y : Coordinate → ℤ) → pair_questions (p first) (p second) ≡ found (Some (y first, y second)) → ⊥) → (c : Coordinate)
       → history_in c (reads_pair own p ∷ h) ≡ history_in c h

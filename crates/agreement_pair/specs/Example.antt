@@ -2,7 +2,7 @@
 -- start at 2 and 0 and answer 1 and 2 (`agreement_histories`, Grades); in the second, on the readings 0 and 1, each answers what it started with. So they started
 -- with the pairs (2, 0) and (0, 1), and read (1, 0) and (2, 1). Each reading of (2, 1) was started with by somebody, the two together by nobody, and neither pair
 -- lies on a line between two pairs that boards started with.
-use Rattle.std.specs.Prelude.{◌≡◌, false, ℕ, zero, suc, ◌<◌, ℤ, pos, ◌-ℤ◌, ◌*ℤ◌}
+use Rattle.std.specs.Prelude.{◌≡◌, false, ℕ, zero, suc, ◌<◌, ℤ, pos, ◌-ℤ◌, ◌*ℤ◌, Some}
 use mathlib.Core.List.{List, [], ◌∷◌, Memᴰ}
 use Rattle.base.specs.Limits.{offset_zero}
 use Rattle.base.specs.Sets.{Set}
@@ -10,7 +10,6 @@ use Rattle.base.specs.Found.{found}
 use Rattle.plan.specs.Plan.{Plan}
 use Rattle.plan.specs.Positions.{range_plan}
 use Rattle.party.specs.Party.{Party}
-use Rattle.board_pair.specs.declared.PairAnswer.{PairAnswer}
 use Rattle.board_pair.specs.Pair.{pair_questions}
 use Rattle.agreement.specs.History.{Instance, History, board_after}
 use Rattle.agreement.specs.Demand.{StartedWith, Complete}
@@ -43,8 +42,8 @@ pub record OffTheLine (v : Coordinate → Instance) (plan : Coordinate → Plan)
   pub premises : PairPremises v plan bad h
   pub complete : (c : Coordinate) → Complete (v c) (bad c) (history_in c h)
   pub sound : SoundInBoth v bad (both i)
-  pub held : pair_now v h (both i) ≡ PairAnswer.At (y first) (y second)
-  pub read : (p : Coordinate → Party) × Memᴰ (reads_pair (both i) p) h × (pair_questions (p first) (p second) ≡ found (PairAnswer.At (y first) (y second)))
+  pub held : pair_now v h (both i) ≡ Some (y first, y second)
+  pub read : (p : Coordinate → Party) × Memᴰ (reads_pair (both i) p) h × (pair_questions (p first) (p second) ≡ found (Some (y first, y second)))
   pub off : (p q : Coordinate → ℤ) → InputPair v plan bad h p → InputPair v plan bad h q → OnLine p q y → ⊥
 
 -- ---- the votes

@@ -1,10 +1,9 @@
 -- Document 02, Q-13: histories of two votes together, each with its own steps, and readings of both as a pair.
-use Rattle.std.specs.Prelude.{Bool, true, false, List, [], ◌∷◌, ◌++◌, map, ℕ}
+use Rattle.std.specs.Prelude.{Bool, true, false, List, [], ◌∷◌, ◌++◌, map, ℕ, Some, None}
 use Rattle.base.specs.Pick.{pick}
 use Rattle.base.specs.Found.{Found, found, refused}
 use Rattle.party.specs.Party.{Party}
-use Rattle.board_pair.specs.declared.PairAnswer.{PairAnswer}
-use Rattle.board_pair.specs.Pair.{pair_questions}
+use Rattle.board_pair.specs.Pair.{pair_questions, PairAnswer}
 use Rattle.agreement.specs.History.{read_answer, Step, calls, History}
 
 -- the coordinates of a pair: the first vote and the second
@@ -35,8 +34,8 @@ PairHistory = List PairStep
 -- What a pair reading is in a vote where the board has the number i and p is the record read: if it gives an answer, a reading of the answer, which guards the
 -- journal's records written before it, so it guards both journals. One that gives none, or is refused, guards nothing, which covers more cuts.
 abbrev pub read_steps : ℕ → Party → Found PairAnswer → History
-read_steps i p (found PairAnswer.None) = []
-read_steps i p (found (PairAnswer.At y z)) = calls i (read_answer p) ∷ []
+read_steps i p (found None) = []
+read_steps i p (found (Some (y, z))) = calls i (read_answer p) ∷ []
 read_steps i p (refused number place) = []
 
 -- What a step is in a vote. A board that is sound in one vote c only reads that vote by `in_vote c (calls i (read_answer ..))`. A cut of a board's power is one

@@ -1,9 +1,8 @@
 -- Why the ending asks for two agreement numbers and for ranges: without either of them it is false.
-use Rattle.std.specs.Prelude.{◌≡◌, [], ◌∷◌, ℤ}
+use Rattle.std.specs.Prelude.{◌≡◌, [], ◌∷◌, ℤ, Some}
 use Rattle.base.specs.Sets.{Set}
 use Rattle.plan.specs.Plan.{Plan}
 use Rattle.plan.specs.Positions.{tree_plan}
-use Rattle.board_pair.specs.declared.PairAnswer.{PairAnswer}
 use Rattle.agreement.specs.History.{Instance}
 use Rattle.agreement.specs.Demand.{Complete, Premises}
 use Rattle.agreement_histories.specs.Scripts.{history_of}
@@ -15,7 +14,7 @@ use Rattle.agreement_pair.specs.Claims.{alone, begins}
 abbrev pub Ends : (Coordinate → Instance) → (Coordinate → Set) → PairHistory → Type 0
 Ends v bad h =
     ((c : Coordinate) → Complete (v c) (bad c) (history_in c h)) → (own : Seats) → SoundInBoth v bad own
-    → (y : Coordinate → ℤ) × (pair_now v h own ≡ PairAnswer.At (y first) (y second))
+    → (y : Coordinate → ℤ) × (pair_now v h own ≡ Some (y first, y second))
 
 -- a board alone starts both votes at 0
 abbrev pub started : (Coordinate → Instance) → PairHistory

@@ -6,11 +6,11 @@ use mathlib.Core.List.{List, [], ◌∷◌, Memᴰ}
 use Prim.Native.Nat.{ℕ, zero, suc, ◌<◌}
 use native.Mathlib.Omega.{arith}
 use lib.IntN.{ℤ}
+use Rattle.std.specs.Prelude.{None}
 use Rattle.base.specs.Sets.{Set}
 use Rattle.message.specs.declared.Body.TheVariants.{FirstEcho}
 use Rattle.message.specs.declared.Message.{Message}
 use Rattle.message.specs.Message.{message_bytes}
-use Rattle.board_calls.specs.declared.Answer.{Answer}
 use Rattle.agreement.specs.History.{Instance, hands, History, board_after}
 use Rattle.agreement.specs.Allowed.{Sound, Handed}
 use Rattle.agreement.specs.Demand.{Started, Took, Made, HandedSince, answer_now, Complete}
@@ -48,7 +48,7 @@ module _ (script : List Action) (f : passes (alone three) nobody script ≡ true
       absurd (Memᴰ.not-nil (subst (λ (l : List Handing). Memᴰ x.0 l) e x.1))
 
   -- where the premise holds of it and there is no answer, the claim fails
-  unended_alone : {If : Instance → Set → History → Type 0} → answer_now (alone three) (history_of (alone three) script) 0 ≡ Answer.None → EndsIf If
+  unended_alone : {If : Instance → Set → History → Type 0} → answer_now (alone three) (history_of (alone three) script) 0 ≡ None → EndsIf If
       → If (alone three) nobody (history_of (alone three) script) → ⊥
   unfolding computing
   unended_alone none claim k =
@@ -56,7 +56,7 @@ module _ (script : List Action) (f : passes (alone three) nobody script ≡ true
 
 -- ---- no step at all
 
-silent : answer_now (alone three) [] 0 ≡ Answer.None
+silent : answer_now (alone three) [] 0 ≡ None
 unfolding computing
 silent = refl
 
@@ -85,7 +85,7 @@ begins_sends : (ending (alone three) begins).since ≡ []
 unfolding computing begins
 begins_sends = refl
 
-begins_none : answer_now (alone three) (history_of (alone three) begins) 0 ≡ Answer.None
+begins_none : answer_now (alone three) (history_of (alone three) begins) 0 ≡ None
 unfolding computing begins
 begins_none = refl
 
@@ -107,7 +107,7 @@ echoes_starts : starts_in (board_of (ending (alone three) echoes) 0).counted ≡
 unfolding computing echoes
 echoes_starts = refl
 
-echoes_none : answer_now (alone three) (history_of (alone three) echoes) 0 ≡ Answer.None
+echoes_none : answer_now (alone three) (history_of (alone three) echoes) 0 ≡ None
 unfolding computing echoes
 echoes_none = refl
 
@@ -141,7 +141,7 @@ forgets_sends : (ending (alone three) forgets).since ≡ []
 unfolding computing echoes forgets
 forgets_sends = refl
 
-forgets_none : answer_now (alone three) (history_of (alone three) forgets) 0 ≡ Answer.None
+forgets_none : answer_now (alone three) (history_of (alone three) forgets) 0 ≡ None
 unfolding computing echoes forgets
 forgets_none = refl
 
@@ -167,7 +167,7 @@ lost_passes : passes (alone-vote.vote 1) alone-vote.bad cut_last ≡ true
 unfolding computing alone-vote.script cut_last
 lost_passes = refl
 
-lost_none : answer_now (alone-vote.vote 1) (history_of (alone-vote.vote 1) cut_last) 0 ≡ Answer.None
+lost_none : answer_now (alone-vote.vote 1) (history_of (alone-vote.vote 1) cut_last) 0 ≡ None
 unfolding computing alone-vote.script cut_last
 lost_none = refl
 

@@ -7,12 +7,13 @@ use Prim.Native.Nat.{ℕ}
 use native.Mathlib.Omega.{arith}
 use lib.Dec.{T}
 use lib.IntN.{ℤ}
+use Rattle.std.specs.Prelude.{Some, None}
 use Rattle.base.specs.Sets.{Set}
 use Rattle.base.specs.Found.{found}
 use Rattle.base.proofs.Bools.{T-left, T-right, true→T}
 use Rattle.plan.specs.Plan.{Plan}
 use Rattle.plan.specs.Reading.{plan_of}
-use Rattle.board_calls.specs.declared.Answer.{Answer}
+use Rattle.board_calls.specs.Answers.{Answer}
 use Rattle.board_calls.specs.Calls.{answered_of}
 use Rattle.agreement.specs.History.{Instance, set_up, calls, History, Stage, waiting, running, Board, board_after}
 use Rattle.agreement.specs.Allowed.{Sound, May}
@@ -53,17 +54,17 @@ pub now : (v : Instance) (w : World) (h : History) → Shows v w h → (i : ℕ)
 now v w h s i a e = subst (λ (b : Board). (answered_of (party_by v i b b.stage)).answer ≡ a) (s.board i) e
 
 abbrev is_none : Answer → Bool
-is_none Answer.None = true
-is_none (Answer.At z) = false
+is_none None = true
+is_none (Some z) = false
 
 -- no answer is none
-pub unanswered : {a : Answer} → a ≡ Answer.None → (z : ℤ) × (a ≡ Answer.At z) → ⊥
+pub unanswered : {a : Answer} → a ≡ None → (z : ℤ) × (a ≡ Some z) → ⊥
 unanswered e r = subst (λ (a : Answer). T (is_none a)) (sym e ∙ r.1) tt
 
 -- after a script that passes, where board 0 has an answer
-module _ (v : Instance) (bad : Set) (script : List Action) (f : passes v bad script ≡ true) (z : ℤ) (a : answer_in v (ending v script) 0 ≡ Answer.At z) where
+module _ (v : Instance) (bad : Set) (script : List Action) (f : passes v bad script ≡ true) (z : ℤ) (a : answer_in v (ending v script) 0 ≡ Some z) where
   pub script_answers : Answers v (history_of v script) 0 z
-  script_answers = inl (now v (ending v script) (history_of v script) (shown v bad script f) 0 (Answer.At z) a)
+  script_answers = inl (now v (ending v script) (history_of v script) (shown v bad script f) 0 (Some z) a)
 
   -- that is not between inputs
   pub script_fails : (plan : Plan) (y : ℕ) → misplaced v plan (ending v script) y z ≡ true → Sound v bad 0 → Holds v plan bad (history_of v script) → ⊥
@@ -108,11 +109,11 @@ module _ (e : Edit) (x : Example) (f : passing x ≡ true) (g : plan_of x.vote.p
   invalid y z k a = failing (not_between v x.plan x.bad (world_at_end x) h run.shows y z (true→T k) i o a)
 
   -- the one that it has at the end is not
-  pub invalid_now : (y : ℕ) (z : ℤ) → misplaced v x.plan (world_at_end x) y z ≡ true → answer_in v (world_at_end x) i ≡ Answer.At z → Fails e x
-  invalid_now y z k a = invalid y z k (inl (now v (world_at_end x) h run.shows i (Answer.At z) a))
+  pub invalid_now : (y : ℕ) (z : ℤ) → misplaced v x.plan (world_at_end x) y z ≡ true → answer_in v (world_at_end x) i ≡ Some z → Fails e x
+  invalid_now y z k a = invalid y z k (inl (now v (world_at_end x) h run.shows i (Some z) a))
 
   -- all is delivered, and it has none
-  pub unended : full v x.bad (world_at_end x) ≡ true → answer_in v (world_at_end x) i ≡ Answer.None → Fails e x
+  pub unended : full v x.bad (world_at_end x) ≡ true → answer_in v (world_at_end x) i ≡ None → Fails e x
   unended k a = failing (λ q.
-      unanswered (now v (world_at_end x) h run.shows i Answer.None a)
+      unanswered (now v (world_at_end x) h run.shows i None a)
       (q.ending (completed v x.bad (world_at_end x) h run.shows (true→T k)) i o))

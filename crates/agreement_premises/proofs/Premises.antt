@@ -3,7 +3,7 @@ use mathlib.Core.Path.{◌≡◌, refl}
 use mathlib.Core.Bool.{true}
 use native.Mathlib.Omega.{arith}
 use lib.IntN.{pos}
-use Rattle.board_calls.specs.declared.Answer.{Answer}
+use Rattle.std.specs.Prelude.{Some, None}
 use Rattle.agreement_histories.specs.Scripts.{history_of}
 use Rattle.agreement_histories.proofs.Passing.{passes, ending, answer_in, allowed, shown, sharing}
 use Rattle.agreement_histories.proofs.Delivery.{full}
@@ -20,7 +20,7 @@ deceived_passes : passes (four three) half deceived ≡ true
 unfolding computing deceived
 deceived_passes = refl
 
-deceived_answers : answer_in (four three) (ending (four three) deceived) 0 ≡ Answer.At (pos 1)
+deceived_answers : answer_in (four three) (ending (four three) deceived) 0 ≡ Some (pos 1)
 unfolding computing deceived
 deceived_answers = refl
 
@@ -45,14 +45,14 @@ unreadable_full : full unreadable nobody (ending unreadable cut_after) ≡ true
 unfolding computing cut_after
 unreadable_full = refl
 
-unreadable_answers : answer_in unreadable (ending unreadable cut_after) 0 ≡ Answer.None
+unreadable_answers : answer_in unreadable (ending unreadable cut_after) 0 ≡ None
 unfolding computing cut_after
 unreadable_answers = refl
 
 pub number_too_large : NumberTooLarge → ⊥
 unfolding computing
 number_too_large claim =
-    unanswered (now unreadable (ending unreadable cut_after) (history_of unreadable cut_after) (shown unreadable nobody cut_after unreadable_passes) 0 Answer.None unreadable_answers)
+    unanswered (now unreadable (ending unreadable cut_after) (history_of unreadable cut_after) (shown unreadable nobody cut_after unreadable_passes) 0 None unreadable_answers)
     ((claim unreadable two_plan nobody (history_of unreadable cut_after) (omega arith) (omega arith) (omega arith) refl (omega arith) (allowed unreadable nobody cut_after unreadable_passes)
     ).ending (complete unreadable nobody cut_after unreadable_passes unreadable_full) 0 (omega arith, tt))
 
@@ -62,7 +62,7 @@ pub begins_passes : passes (alone two) nobody begins ≡ true
 unfolding computing begins
 begins_passes = refl
 
-pub begins_answers : answer_in (alone two) (ending (alone two) begins) 0 ≡ Answer.At (pos 0)
+pub begins_answers : answer_in (alone two) (ending (alone two) begins) 0 ≡ Some (pos 0)
 unfolding computing begins
 begins_answers = refl
 

@@ -1,6 +1,6 @@
 -- The must-fail edits of demand 3's own sentences (`agreement`, specs/Demand.antt, and of which calls count): what each of them claims, and the histories
 -- against it.
-use Rattle.std.specs.Prelude.{◌≡◌, List, [], ◌∷◌, ◌++◌, ℕ, suc, ◌*◌, ◌≤◌, ◌<◌, ltb, ℤ, pos}
+use Rattle.std.specs.Prelude.{◌≡◌, List, [], ◌∷◌, ◌++◌, ℕ, suc, ◌*◌, ◌≤◌, ◌<◌, ltb, ℤ, pos, Ok, Some}
 use Rattle.base.specs.Sets.{Set, count}
 use Rattle.base.specs.Limits.{max_boards, max_number}
 use Rattle.base.specs.Found.{found}
@@ -9,10 +9,8 @@ use Rattle.plan.specs.Positions.{reading_of}
 use Rattle.plan.specs.Reading.{plan_of}
 use Rattle.message.specs.declared.Body.TheVariants.{FirstEcho, Centre}
 use Rattle.message.specs.declared.Message.{Message}
-use Rattle.message.specs.declared.Exactly.{Exactly}
 use Rattle.message.specs.Message.{message_bytes}
 use Rattle.message.specs.Reading.{exact_message}
-use Rattle.board_calls.specs.declared.Answer.{Answer}
 use Rattle.agreement.specs.History.{Instance, History}
 use Rattle.agreement.specs.Allowed.{Sound, Handed, Allowed}
 use Rattle.agreement.specs.Demand.{Started, Took, Made, HandedSince, answer_now, Answers, Stands, StartedWith, Complete, Holds, Shared, Premises}
@@ -81,7 +79,7 @@ ReadingsOffByOne =
 abbrev pub EndsIf : (Instance → Set → History → Type 0) → Type 0
 EndsIf If =
     (v : Instance) (plan : Plan) (bad : Set) (h : History) → Premises v plan bad h → If v bad h → (i : ℕ) → Sound v bad i
-    → (z : ℤ) × (answer_now v h i ≡ Answer.At z)
+    → (z : ℤ) × (answer_now v h i ≡ Some z)
 
 -- the three parts of `Complete`; what taking is, is left open in the last
 abbrev pub AllStarted : Instance → Set → History → Type 0
@@ -92,7 +90,7 @@ AllHanded v bad h = (i : ℕ) (m : Message) → Sound v bad i → Made h i m →
 
 abbrev pub AllTaken : Instance → Set → History → (ℕ → ℕ → Message → Type 0) → Type 0
 AllTaken v bad h Took =
-    (i j : ℕ) (bytes : List ℕ) (m : Message) → Sound v bad i → Sound v bad j → HandedSince j bytes h → exact_message bytes ≡ Exactly.One m → Took i j m
+    (i j : ℕ) (bytes : List ℕ) (m : Message) → Sound v bad i → Sound v bad j → HandedSince j bytes h → exact_message bytes ≡ Ok m → Took i j m
 
 -- not_started
 abbrev pub NotStarted : Type 0

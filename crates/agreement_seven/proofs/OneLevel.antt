@@ -13,8 +13,8 @@ use Rattle.base.proofs.Smallest.{smallest_is}
 use Rattle.message.specs.declared.Body.{Body}
 use Rattle.message.specs.declared.Message.{Message}
 use Rattle.level.specs.declared.Context.{Context}
-use Rattle.level.specs.declared.Effect.{Effect}
-use Rattle.level.specs.declared.Effect.TheVariants.{Nothing, Quiet, Send, Enter, SendEnter}
+use Rattle.level.specs.Rules.{Effect}
+use Rattle.level.specs.Rules.{Nothing, Quiet, Send, Enter, SendEnter}
 use Rattle.level.specs.Level.{Level, no_level, blank_level, no_output, held, with_heard, with_entry}
 use Rattle.level.specs.Rules.{Applied, lowest_rule, applies}
 use Rattle.component.specs.Component.{whole_of, size_of, centre_of, degree_of, port_of}

@@ -10,13 +10,13 @@ use lib.Dec.{T}
 use lib.IntN.{ℤ, pos}
 use lib.ListN.{length, replicate, length-append}
 use lib.Seq.{take-append_seam}
+use Rattle.std.specs.Prelude.{Ok}
 use Rattle.base.specs.Limits.{max_rules, outgoing_size}
 use Rattle.base.specs.Found.{found}
 use Rattle.base.proofs.Bools.{T→true}
 use Rattle.plan.specs.Positions.{reading_of}
 use Rattle.message.specs.declared.Body.{Body}
 use Rattle.message.specs.declared.Message.{Message}
-use Rattle.message.specs.declared.Exactly.{Exactly}
 use Rattle.message.specs.Message.{in_table, message_bytes}
 use Rattle.message.specs.Reading.{exact_message}
 use Rattle.message.proofs.RoundTrip.{exact_message_read}
@@ -125,7 +125,7 @@ module _ (h : History) (l : Level) (ms sent : List Message) (w : Stands h l ms s
       let r : Record = Taken s (says y) in
       let j : Lent = lent b.journal in
       let used : ℕ = length b.journal in
-      let one : exact_message (message_bytes (says y)) ≡ Exactly.One (says y) = exact_message_read (says y) (T→true (in_table (says y)) table) (omega arith) in
+      let one : exact_message (message_bytes (says y)) ≡ Ok (says y) = exact_message_read (says y) (T→true (in_table (says y)) table) (omega arith) in
       let e : take_finds p s (message_bytes (says y)) j used ≡ found (fresh r (taking p s (says y))) =
       take_fits p s (message_bytes (says y)) (length j.journal) used outgoing_size valid (omega arith) (omega (arith, room 0 (omega arith)))
       (subst (λ (q : Party). s < q.n) (sym w.party) low) (says y) one

@@ -7,3 +7,5 @@ pub mod Found
 pub mod Inner
 pub mod Tie
 pub mod Distinct
+pub mod Question
+pub mod Verdict

@@ -5,6 +5,9 @@
 ghost use Rattle.std.specs.Prelude.{◌≡◌};
 ghost use Rattle.base.specs.Tie.{limits};
 
+use std::error::Error;
+use std::fmt;
+
 // Agreement numbers, and all numbers of messages and records, are at most so large.
 pub const MAX_NUMBER: u32 = 4294967295;
 
@@ -88,16 +91,81 @@ pub fn all_limits() -> Limits
     }
 }
 
-// A call's answer: accepted, or refused by the number and at the place that document 01's questions give.
-#[derive(Clone, Copy)]
-pub enum Verdict {
-    Accepted,
-    Refused { number: u8, place: usize },
+// The questions at the door, each with the number of its refusal (README, "Refusals").
+#[derive(Clone, Copy, Debug, PartialEq, Eq)]
+pub enum Question {
+    // settings
+    Boards = 1,
+    FaultyBoards = 2,
+    OwnNumber = 3,
+    // a plan
+    PlanVarint = 4,
+    PlanKind = 5,
+    VertexCount = 6,
+    EdgeEnds = 7,
+    Acyclic = 8,
+    Degree = 9,
+    RangeLimits = 10,
+    PlanEnd = 11,
+    // a call on a party
+    OnPlan = 12,
+    NotStarted = 13,
+    Sender = 14,
+    MessageCut = 15,
+    Agreement = 16,
+    JournalRoom = 17,
+    OutgoingRoom = 18,
+    PartyRecord = 19,
+    UsedLength = 20,
+    JournalRecord = 21,
+    MessageVarint = 22,
+    MessageTable = 23,
+    MessageEnd = 24,
+    StepSize = 25,
+    TwoAgreements = 27,
 }
 
-// A number of 16 bits as an index.
-pub fn wide(x: u16) -> usize
-    ensures { result ≡ x }
-{
-    x as usize
+impl Question {
+    ghost use Rattle.base.specs.Question.{number_of};
+
+    // The number of its refusal.
+    pub fn number(self) -> u8
+        ensures { result ≡ number_of self }
+    {
+        self as u8
+    }
+}
+
+// A refusal: the first question that is answered by no, and the place.
+#[derive(Clone, Copy, Debug, PartialEq, Eq)]
+pub struct Refusal {
+    pub question: Question,
+    pub place: usize,
+}
+
+// Whether a call was accepted.
+pub type Verdict = Result<(), Refusal>;
+
+impl fmt::Display for Refusal {
+    fn fmt<W: fmt::Write>(&self, f: &mut fmt::Formatter<W>) -> fmt::Result {
+        write!(
+            f,
+            "refused by {} at place {}",
+            self.question.number(),
+            self.place
+        )
+    }
+}
+
+impl Error for Refusal {}
+
+// A question that has no place of its own refuses at place 0.
+impl From<Question> for Refusal {
+    ghost use Rattle.base.specs.Question.{RefusesAtZero};
+
+    ghost from_gives = { RefusesAtZero };
+
+    fn from(question: Question) -> Refusal {
+        Refusal { question, place: 0 }
+    }
 }

@@ -1,108 +1,90 @@
-// The vote so far, but for its parties.
-ghost use Rattle.std.specs.Prelude.{◌<◌, ◌≤◌};
-ghost use Rattle.base.specs.Limits.{max_boards};
-
-use bench_calls::{BOARDS, Call};
-use bench_settings::{Settings, accepted};
+// The vote so far.
+use crate::print;
+use bench_calls::Call;
+use bench_settings::Settings;
+use bench_wire::Wire;
+use party::Party;
 use script::Step;
+use std::io;
 
-// The settings, how many boards are set up by them, whether a start was accepted, and how many messages were handed over.
-#[derive(Clone, Copy)]
+const BOARDS: usize = base::MAX_BOARDS as usize;
+
+// The settings, the parties of the boards (none while a setting is missing), whether a start was accepted, and the messages handed over. It has the outgoing
+// buffer that every call is lent.
+#[derive(Drop)]
 pub struct Vote {
-    pub settings: Settings,
-    pub ready: usize,
+    settings: Settings,
+    parties: [Option<Party>; BOARDS],
     started: bool,
-    pub sent: usize,
+    wire: Wire,
+    out: [u8; level_limits::OUTGOING],
 }
 
 impl Vote {
     // Before the first line.
     pub fn new() -> Vote {
         Vote {
-            settings: Settings::blank(),
-            ready: 0,
+            settings: Settings::default(),
+            parties: [None; BOARDS],
             started: false,
-            sent: 0,
+            wire: Wire::new(),
+            out: [0; level_limits::OUTGOING],
         }
-    }
-
-    // A board, set up by the settings.
-    pub fn set_up(self, own: u32) -> party::Party {
-        let s = self.settings;
-        s.set_up(own)
     }
 
     // Other settings, by which every board is set up anew, unless a start was accepted.
-    fn with_settings(self, s: Settings) -> Vote {
+    fn set(&mut self, settings: Settings) {
         if self.started {
-            return self;
+            return;
         }
-        Vote {
-            settings: s,
-            ready: 0,
-            started: false,
-            sent: 0,
+        self.settings = settings;
+        for (own, party) in (0..base::MAX_BOARDS).zip(self.parties.iter_mut()) {
+            *party = settings.set_up(own);
         }
     }
 
-    // After a settings line; any other line says nothing here.
-    pub fn told(self, step: Step) -> Vote {
-        let s = self.settings;
-        match step {
-            Step::Boards(n, t) => self.with_settings(s.with_boards(n, t)),
-            Step::Agreement(a) => self.with_settings(s.with_agreement(a)),
-            Step::Range(low, high) => self.with_settings(s.with_range(low, high)),
-            _ => self,
+    // A call on board b. The messages of an accepted one are handed over; a board that is not set up refuses every call.
+    fn call(&mut self, b: u32, call: Call) {
+        let Some(Some(party)) = self.parties.get_mut(b as usize) else {
+            return;
+        };
+        let called = call.make(*party, &mut self.out);
+        *party = called.party;
+        if called.verdict.is_err() {
+            return;
+        }
+        self.started = true;
+        if let Some(sent) = self.out.get(..called.sent) {
+            self.wire.hand_over(b as u8, sent);
         }
     }
 
     // `give m b`, if message m was handed over.
-    fn give(self, m: u32, b: u32) -> Call {
-        let k = m as usize;
-        if self.sent <= k {
-            return Call::none();
+    fn give(&mut self, m: u32, b: u32) {
+        if let Some(handed) = self.wire.get(m as usize) {
+            self.call(b, Call::Take(handed));
         }
-        Call::take(b, k)
     }
 
-    // The call that a line asks for, if any.
-    pub fn call(self, step: Step) -> Call {
+    // One step of the script.
+    pub fn step(&mut self, step: Step) {
+        let settings = self.settings;
         match step {
-            Step::Start(b, r) => Call::start(b, bench_settings::value(r)),
+            Step::Boards(n, t) => self.set(settings.with_boards(n, t)),
+            Step::Agreement(a) => self.set(settings.with_agreement(a)),
+            Step::Range(low, high) => self.set(settings.with_range(low, high)),
+            Step::Start(b, r) => self.call(b, Call::Start(bench_settings::value(r))),
             Step::Give(m, b) => self.give(m, b),
-            _ => Call::none(),
         }
     }
 
-    // After a call on board i: the messages of an accepted one are handed over. (A refused one gave its party back as it was.)
-    pub fn after(
-        self,
-        i: usize,
-        v: base::Verdict,
-        out: &[u8; level_limits::OUTGOING],
-        sent: usize,
-        wire: &mut [u8; bench_wire::SIZE],
-    ) -> Vote
-        requires { i < max_boards }
-    {
-        if !accepted(v) {
-            return self;
+    // Boards, t and the messages handed over, then each board with its answer.
+    pub fn report(&self, rt: &impl Print) -> io::Result<()> {
+        let Settings { n, t, .. } = self.settings;
+        println!(rt; "boards {n} faults {t} sent {}", self.wire.len())?;
+        for (i, party) in (0..n).zip(&self.parties) {
+            print::board(rt, i, *party)?;
         }
-        let mut next = self;
-        next.started = true;
-        next.sent = bench_wire::keep_all(wire, self.sent, i as u8, out, sent);
-        next
-    }
-
-    // How many boards there are.
-    pub fn boards(self) -> usize
-        ensures { result ≤ max_boards }
-    {
-        let s = self.settings;
-        let n = s.n as usize;
-        if n < BOARDS {
-            return n;
-        }
-        BOARDS
+        Ok(())
     }
 }

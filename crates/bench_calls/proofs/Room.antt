@@ -8,10 +8,11 @@ use lib.Dec.{T, leb, ltb, eqb, T_not, ltb→lt}
 use lib.IntN.{ℤ}
 use lib.ListN.{length}
 use borrow.Author.Tests.{eq-eqb}
+use Rattle.std.specs.Prelude.{Ok, Err}
 use Rattle.base.specs.Limits.{max_position, message_size, outgoing_size}
 use Rattle.base.specs.Pick.{pick}
 use Rattle.base.specs.Found.{Found, found, refused, ask}
-use Rattle.base.specs.declared.Verdict.{Verdict}
+use Rattle.base.specs.Verdict.{Verdict}
 use Rattle.base.proofs.Bools.{true→T}
 use Rattle.varint.proofs.Laws.{pieces_most, length_last}
 use Rattle.varint.proofs.Lengths.{length_at_most}
@@ -19,10 +20,9 @@ use Rattle.plan_laws.proofs.Shape.{shape}
 use Rattle.message.specs.declared.Message.{Message}
 use Rattle.format.specs.declared.Fault.{Fault}
 use Rattle.message.specs.Refusals.{refusal_number}
-use Rattle.message.specs.declared.MessageRead.{MessageRead}
-use Rattle.message.specs.declared.Exactly.{Exactly}
+use Rattle.format.specs.Reading.{Read, whole, failed}
+use Rattle.message.specs.Reading.{broken, message_at, exactly, exact_message}
 use Rattle.message.specs.Message.{in_table}
-use Rattle.message.specs.Reading.{message_at, exactly, exact_message}
 use Rattle.message.proofs.RoundTrip.{message_table, message_length_most}
 use Rattle.level.specs.Level.{no_output}
 use Rattle.journal.specs.declared.Record.{Record}
@@ -95,20 +95,20 @@ module _ (p : Party) (room used out : ℕ) (enough : used + record_most ≤ room
       new l m t true = tt
       new l m t false = short (Taken s m) (taking p s m) (taken_most s m l t)
 
-      one : s < 128 → (m : Message) (next : ℕ) → in_table m ≡ true → (b : Bool) → Roomy (take_message p s room used (pick b (Exactly.One m) (Exactly.Broken Fault.Spare next)))
+      one : s < 128 → (m : Message) (next : ℕ) → in_table m ≡ true → (b : Bool) → Roomy (take_message p s room used (pick b (Ok m) (broken Fault.Spare next)))
       one l m next t true = asking (eqb m.number p.agreement) 16 _ (λ e. omega arith) (λ i. new l m t (held_by p s m))
       one l m next t false = λ e. omega arith
 
-      broken : (fault : Fault) (at : ℕ) → Roomy (refused (refusal_number fault) at)
-      broken Fault.Cut at = λ i. omega arith
-      broken Fault.CutOutside at = λ i. omega arith
-      broken Fault.Malformed at = λ i. omega arith
-      broken Fault.Outside at = λ i. omega arith
-      broken Fault.Spare at = λ i. omega arith
+      told : (fault : Fault) (at : ℕ) → Roomy (refused (refusal_number fault) at)
+      told Fault.Cut at = λ i. omega arith
+      told Fault.CutOutside at = λ i. omega arith
+      told Fault.Malformed at = λ i. omega arith
+      told Fault.Outside at = λ i. omega arith
+      told Fault.Spare at = λ i. omega arith
 
-      read : s < 128 → (r : MessageRead) → message_at bytes 0 ≡ r → Roomy (take_message p s room used (exactly bytes r))
-      read l (MessageRead.Read m next) e = one l m next (message_table bytes 0 m next e) (eqb next (length bytes))
-      read l (MessageRead.Failed fault at) e = broken fault at
+      read : s < 128 → (r : Read Message) → message_at bytes 0 ≡ r → Roomy (take_message p s room used (exactly bytes r))
+      read l (Ok r) e = one l r.value r.next (message_table bytes 0 r.value r.next e) (eqb r.next (length bytes))
+      read l (Err x) e = told x.fault x.at
 
 -- ---- what the call gives
 

@@ -1,6 +1,6 @@
 -- What the contract of a call cites.
 use Rattle.std.specs.Prelude.{◌≡◌, ℕ}
-use Rattle.base.specs.declared.Verdict.{Verdict}
+use Rattle.base.specs.Verdict.{Verdict}
 
 -- not refused by 17: the record fits the journal
 abbrev pub HasRoom : Verdict → Type 0

@@ -1,95 +1,102 @@
-// The messages handed over, in order: of each one its maker, then its bytes.
+// The messages handed over, in order, each with its maker.
 #![tactic(auto)]
 
-ghost use Rattle.std.specs.Prelude.{◌≡◌, ◌+◌, ◌<◌, ◌≤◌, length};
-ghost use Rattle.base.specs.Limits.{message_size};
-ghost use Rattle.bench_wire.specs.Wire.{message_room, wire_size};
+ghost use Rattle.std.specs.Prelude.{◌≡◌, [], ◌++◌, ◌-◌, ◌==◌, length, slice_get};
+ghost use Rattle.bench_wire.specs.Wire.{message_room, messages_in};
+
+use arrayvec::ArrayVec;
+use level::Level;
+use message::{Body, Message};
+use std::marker::Model;
 
 // The messages of all boards, whoever is faulty.
 const MESSAGES: usize = base::MAX_BOARDS as usize
     * base::SENDING_LEVELS as usize
-    * level::Level::MESSAGES_WORST as usize;
-// The maker, and a message's bytes.
-const ENTRY: usize = 1 + base::MESSAGE_SIZE;
+    * Level::MESSAGES_WORST as usize;
 
-// All of them.
-pub const SIZE: usize = ENTRY * MESSAGES;
-
-// A message that is kept: its maker, and the places from which and up to which its bytes stand.
+// A message that was handed over, and its maker.
 #[derive(Clone, Copy)]
-pub struct Kept {
-    pub maker: u32,
-    pub from: usize,
-    pub end: usize,
+pub struct Handed {
+    pub maker: u8,
+    pub message: Message,
 }
 
-// The message is written from a place on, where the longest has room.
-fn write_message(wire: &mut [u8], from: usize, m: message::Message)
-    requires { from + message_size ≤ length wire.old }
-{
-    let end = from + base::MESSAGE_SIZE;
-    message::write(&mut wire[from..end], m);
-}
-
-// Message k is kept, with its maker.
-fn keep(wire: &mut [u8], k: usize, maker: u8, m: message::Message)
-    requires { (k < message_room) × (length wire.old ≡ wire_size) }
-{
-    let at = ENTRY * k;
-    write_message(wire, at + 1, m);
-    wire[at] = maker;
-}
-
-// The messages in the first `end` bytes of an outgoing buffer are kept after the k that there are; how many there are then.
-pub fn keep_all(wire: &mut [u8; SIZE], k: usize, maker: u8, out: &[u8], end: usize) -> usize {
-    let mut count = k;
-    let mut at: usize = 0;
-    while count < MESSAGES {
-        if end <= at {
-            return count;
-        }
-        let message::MessageRead::Read { message: m, next } = message::read_at(out, at) else {
-            return count;
-        };
-        keep(wire, count, maker, m);
-        at = next;
-        count += 1;
-    }
-    count
-}
-
-// The place past the message that stands at `a`; `a` where there is none.
-fn message_end(wire: &[u8], a: usize) -> usize
-    requires { a ≤ length wire.now }
-    ensures { (a ≤ result) × (result ≤ length wire.now) }
-{
-    let message::MessageRead::Read { message: _, next } = message::read_at(wire, a) else {
-        return a;
-    };
-    next
-}
-
-// A byte as a wider number.
-fn wide(x: u8) -> u32 {
-    x as u32
-}
-
-// Message k; no bytes where there is no room for so many.
-pub fn find(wire: &[u8; SIZE], k: usize) -> Kept
-    ensures { (result.from ≤ result.end) × (result.end ≤ wire_size) }
-{
-    if MESSAGES <= k {
-        return Kept {
+// What the room is filled with before anything is handed over.
+impl Default for Handed {
+    fn default() -> Handed {
+        Handed {
             maker: 0,
-            from: 0,
-            end: 0,
-        };
+            message: Message {
+                number: 0,
+                level: 0,
+                body: Body::Centre,
+            },
+        }
     }
-    let at = ENTRY * k;
-    let from = at + 1;
-    Kept {
-        maker: wide(wire[at]),
-        from: from,
-        end: message_end(wire, from),
+}
+
+// Room for all of them.
+#[derive(Drop)]
+pub struct Wire {
+    handed: ArrayVec<Handed, MESSAGES>,
+}
+
+// Clauses see the messages, in order.
+impl Model for Wire {
+    ghost use Rattle.std.specs.Prelude.{List};
+    ghost use Rattle.bench_wire.specs.declared.Handed.{Handed};
+
+    ghost Value = { List Handed };
+
+    ghost view = { λ w. w.handed.items };
+}
+
+impl Wire {
+    // Nothing is handed over yet.
+    pub fn new() -> Wire
+        ensures { result ≡ [] }
+    {
+        Wire {
+            handed: ArrayVec::new(),
+        }
+    }
+
+    // How many messages were handed over.
+    pub fn len(&self) -> usize
+        ensures { result ≡ length self.now }
+    {
+        self.handed.len()
+    }
+
+    // Was nothing handed over?
+    pub fn is_empty(&self) -> bool
+        ensures { result ≡ (length self.now == 0) }
+    {
+        self.handed.is_empty()
+    }
+
+    // Message k, if so many were handed over.
+    pub fn get(&self, k: usize) -> Option<Handed>
+        ensures { result ≡ slice_get self.now k }
+    {
+        self.handed.as_slice().get(k).copied()
+    }
+
+    // The messages that stand in these bytes one after the other are handed over. There is room for all that boards make (bench/proofs/Room.antt).
+    pub fn hand_over(&mut self, maker: u8, bytes: &[u8])
+        ensures { self.new ≡ self.old ++ messages_in (message_room - length self.old) maker bytes.now 0 }
+    {
+        let mut at = 0;
+        // a `while`: messages have many lengths, so their places are no counted range
+        while !self.handed.is_full() {
+            let Ok(read) = message::read_at(bytes, at) else {
+                return;
+            };
+            self.handed.push(Handed {
+                maker,
+                message: read.value,
+            });
+            at = read.next;
+        }
     }
 }

@@ -1,11 +1,10 @@
 -- Vertices and readings as the caller gives and gets them.
-use Rattle.std.specs.Prelude.{ℕ, ◌+◌, ◌-◌, leb, ltb, eqb, ℤ, pos, negsuc}
+use Rattle.std.specs.Prelude.{ℕ, ◌+◌, ◌-◌, leb, ltb, eqb, ℤ, pos, negsuc, Option, Some, None}
 use Rattle.base.specs.Limits.{offset_zero}
 use Rattle.base.specs.Pick.{pick}
 use Rattle.plan.specs.Plan.{Plan}
 use Rattle.plan.specs.Positions.{reading_of}
 use Rattle.level.specs.Level.{no_output}
-use Rattle.board_calls.specs.declared.Answer.{Answer}
 
 -- The position of an input: "A start takes a vertex or, for a range, a signed reading".
 -- A vertex is its own position; reading z of a range is position z - low. no_output where the input is not on the plan.
@@ -25,5 +24,8 @@ unfoldable pub position_of : Plan → ℤ → ℕ
 position_of p z = pick (eqb p.kind 1) (vertex_of p z) (range_position p z)
 
 -- "the answer comes likewise, or that there is none yet"
+abbrev pub Answer : Type 0
+Answer = Option ℤ
+
 unfoldable pub answer_of : Plan → ℕ → Answer
-answer_of p x = pick (eqb x no_output) Answer.None (Answer.At (reading_of p x))
+answer_of p x = pick (eqb x no_output) None (Some (reading_of p x))

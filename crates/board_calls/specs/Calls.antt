@@ -1,15 +1,14 @@
 -- Document 01, "Questions at the door": each call's questions in their order, and what it gives.
-use Rattle.std.specs.Prelude.{not, List, ℕ, ◌+◌, leb, ltb, eqb, ℤ, length}
+use Rattle.std.specs.Prelude.{not, List, ℕ, ◌+◌, leb, ltb, eqb, ℤ, length, None, Ok, Err}
 use Rattle.base.specs.Pick.{pick}
 use Rattle.base.specs.Put.{put_at}
 use Rattle.base.specs.Limits.{outgoing_size}
-use Rattle.base.specs.declared.Verdict.{Verdict}
+use Rattle.base.specs.Verdict.{Verdict}
 use Rattle.base.specs.Found.{Found, found, refused, ask}
 use Rattle.plan.specs.Plan.{Plan}
 use Rattle.plan.specs.Positions.{no_plan}
 use Rattle.plan.specs.Reading.{settled_plan}
-use Rattle.message.specs.declared.Exactly.{Exactly}
-use Rattle.message.specs.Reading.{exact_message}
+use Rattle.message.specs.Reading.{Exactly, exact_message}
 use Rattle.message.specs.Refusals.{refusal_number}
 use Rattle.level.specs.Level.{no_output}
 use Rattle.journal.specs.declared.Record.{Record}
@@ -18,9 +17,7 @@ use Rattle.journal.specs.Journal.{record_bytes}
 use Rattle.party.specs.Party.{Party, new_party, started, held_by, output_of}
 use Rattle.party.specs.Run.{Ran, starting, taking, bytes_of}
 use Rattle.party.specs.Valid.{party_valid}
-use Rattle.board_calls.specs.declared.Answered.{Answered}
-use Rattle.board_calls.specs.declared.Answer.{Answer}
-use Rattle.board_calls.specs.Answers.{position_of, answer_of}
+use Rattle.board_calls.specs.Answers.{Answer, position_of, answer_of}
 
 -- "a refused set-up or restore gives no party": what comes back fails question 19
 abbrev pub no_party : Party
@@ -70,10 +67,10 @@ start_questions p input room used out = at_door p room used out (start_at p (pos
 -- "Take: Sender below n? 14. Bytes exactly one message? 15. Our agreement number? 16. Held already, or record fits? 17." Document 02, Q-2: 15, 22, 23 and 24
 -- "are asked at 15's place, left to right", with the place that was found.
 abbrev pub take_message : Party → ℕ → ℕ → ℕ → Exactly → Found Entry
-take_message p s room used (Exactly.One m) =
+take_message p s room used (Ok m) =
     ask (eqb m.number p.agreement) 16 0
     (pick (held_by p s m) (found again) (fitting room used (Taken s m) (taking p s m)))
-take_message p s room used (Exactly.Broken fault at) = refused (refusal_number fault) at
+take_message p s room used (Err x) = refused (refusal_number x.fault) x.at
 
 unfoldable pub take_questions : Party → ℕ → List ℕ → ℕ → ℕ → ℕ → Found Entry
 take_questions p s bytes room used out =
@@ -115,8 +112,13 @@ outgoing_after out (refused number place) = out
 
 -- ---- reading the answer
 
+-- what a reading gives: the verdict, and the answer if there is one
+pub record Answered : Type 0 where
+  pub verdict : Verdict
+  pub answer : Answer
+
 unfoldable pub answered_of : Party → Answered
 answered_of p =
     pick (party_valid p)
     (record { verdict = Verdict.Accepted; answer = answer_of p.plan (output_of p) })
-    (record { verdict = Verdict.Refused 19 0; answer = Answer.None })
+    (record { verdict = Verdict.Refused 19 0; answer = None })

@@ -1,16 +1,16 @@
 -- "Restore gives the party of the whole records, in order, their length in bytes"; document 02, Q-5: it "hands over every message of the whole records'
 -- history, each once, in the first order".
-use Rattle.std.specs.Prelude.{List, ℕ, zero, suc, leb, eqb, length}
+use Rattle.std.specs.Prelude.{List, ℕ, zero, suc, leb, eqb, length, Ok, Err}
 use Rattle.base.specs.Pick.{pick}
 use Rattle.base.specs.Put.{put_at}
 use Rattle.base.specs.Limits.{outgoing_size}
-use Rattle.base.specs.declared.Verdict.{Verdict}
+use Rattle.base.specs.Verdict.{Verdict}
 use Rattle.base.specs.Found.{Found, found, refused, ask}
 use Rattle.plan.specs.Plan.{Plan}
 use Rattle.plan.specs.Reading.{settled_plan}
 use Rattle.journal.specs.declared.Record.{Record}
-use Rattle.journal.specs.declared.RecordRead.{RecordRead}
-use Rattle.journal.specs.Reading.{record_at}
+use Rattle.journal.specs.declared.RecordError.TheVariants.{Torn, Bad}
+use Rattle.journal.specs.Reading.{RecordRead, record_at}
 use Rattle.party.specs.Party.{Party, new_party}
 use Rattle.party.specs.Run.{Ran, resting, bytes_of}
 use Rattle.party_life.specs.Life.{replayed, following, fault}
@@ -32,9 +32,9 @@ replay_from zero j at r = found (record { ran = r; used = at })
 replay_from (suc f) j at r = pick (leb (length j) at) (found (record { ran = r; used = at })) (go (record_at j at) (λ next q. replay_from f j next q))
   where
     go : RecordRead → (ℕ → Ran → Found Replay) → Found Replay
-    go (RecordRead.Read rec next) more = record_fits r.party at rec (more next (following r (replayed r.party rec)))
-    go RecordRead.Torn more = found (record { ran = r; used = at })
-    go RecordRead.Bad more = refused 21 at
+    go (Ok x) more = record_fits r.party at x.value (more x.next (following r (replayed r.party x.value)))
+    go (Err Torn) more = found (record { ran = r; used = at })
+    go (Err Bad) more = refused 21 at
 
 -- questions 18, 1 to 3, the plan, then the records
 abbrev pub on_plan_read : ℕ → ℕ → ℕ → ℕ → List ℕ → Found Plan → Found Replay

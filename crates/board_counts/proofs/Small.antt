@@ -1,6 +1,6 @@
 -- The answer of a party that passes question 19 is a reading of a plan.
-use mathlib.Core.Path.{◌≡◌, refl, sym, ap, ◌∙◌, subst}
-use mathlib.Core.Logic.{◌⊎◌, inl, inr}
+use mathlib.Core.Path.{◌≡◌, sym, ◌∙◌, subst}
+use mathlib.Core.Logic.{inl, inr}
 use mathlib.Core.Bool.{Bool, true, false}
 use Prim.Native.Nat.{ℕ, ◌+◌, ◌-◌, ◌^◌, ◌<◌}
 use native.Mathlib.Omega.{arith}
@@ -8,6 +8,7 @@ use lib.Dec.{T, leb, eqb}
 use lib.IntN.{ℤ, pos, negsuc}
 use lib.Signed.{mag}
 use borrow.Author.Tests.{eq-eqb, ne_eqb}
+use Rattle.std.specs.Prelude.{Some, None}
 use Rattle.base.specs.Pick.{pick}
 use Rattle.base.specs.Limits.{offset_zero}
 use Rattle.signed.specs.Signed.{from_offset}
@@ -20,7 +21,6 @@ use Rattle.level.specs.Level.{no_output}
 use Rattle.party.specs.Party.{Party, output_of}
 use Rattle.party.specs.Valid.{party_valid}
 use Rattle.party_laws.proofs.Valid.{Output, valid→}
-use Rattle.board_calls.specs.declared.Answer.{Answer}
 use Rattle.board_calls.specs.Answers.{answer_of}
 use Rattle.board_calls.specs.Calls.{answered_of}
 use Rattle.board_laws.proofs.Counts.{answered_valid}
@@ -47,10 +47,10 @@ module _ (q : Plan) (v : T (plan_valid q)) (x : ℕ) where
 
   answer_small : Output q.count x → Small (answer_of q x)
   unfolding answer_of
-  answer_small (inl e) y i = let n : Answer.None ≡ Answer.At y = sym (rw (eq-eqb x no_output e)) ∙ i in let z : ◌≡◌ {A = ℕ} 0 1 = cc in absurd (omega arith)
+  answer_small (inl e) y i = let n : None ≡ Some y = sym (rw (eq-eqb x no_output e)) ∙ i in let z : ◌≡◌ {A = ℕ} 0 1 = cc in absurd (omega arith)
   answer_small (inr h) y i = go (eqb x no_output) i
     where
-      go : (b : Bool) → pick b Answer.None (Answer.At (reading_of q x)) ≡ Answer.At y → mag y < 2 ^ 33
+      go : (b : Bool) → pick b None (Some (reading_of q x)) ≡ Some y → mag y < 2 ^ 33
       go true i = let z : ◌≡◌ {A = ℕ} 0 1 = cc in absurd (omega arith)
       go false i = let e : reading_of q x ≡ y = cc in subst (λ (z : ℤ). mag z < 2 ^ 33) e (reading_small h)
 

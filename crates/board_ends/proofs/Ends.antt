@@ -1,25 +1,18 @@
 -- What a set-up or reading gives, case by case.
 use mathlib.Core.Path.{◌≡◌, sym, ap, ◌∙◌}
-use mathlib.Core.Bool.{Bool, true, false, not}
+use mathlib.Core.Bool.{true, false}
 use mathlib.Core.List.{List}
 use Prim.Native.Nat.{ℕ}
 use native.Mathlib.Omega.{arith}
-use borrow.Author.Tests.{not-true, not-false}
-use Rattle.base.specs.declared.Verdict.{Verdict}
+use Rattle.std.specs.Prelude.{None}
+use Rattle.base.specs.Verdict.{Verdict}
 use Rattle.base.specs.Found.{Found, found, refused}
 use Rattle.plan.specs.Plan.{Plan}
 use Rattle.plan.specs.Reading.{settled_plan, PlanRead, answered}
-use Rattle.plan.specs.declared.Shape.{Shape}
-use Rattle.plan.specs.Tie.{shaped, as_plan}
-use Rattle.party.specs.declared.Vote.{Vote}
-use Rattle.party.specs.declared.Party as Code
 use Rattle.party.specs.Party.{Party, new_party, output_of}
 use Rattle.party.specs.Valid.{party_valid}
-use Rattle.party.specs.Tie.{vote_of, party_in, as_party}
-use Rattle.board_calls.specs.declared.Answer.{Answer}
-use Rattle.board_calls.specs.Answers.{answer_of}
+use Rattle.board_calls.specs.Answers.{answer_of, Answer}
 use Rattle.board_calls.specs.Calls.{no_party, set_up_answer, set_up_of, answered_of}
-use Rattle.board_laws.proofs.Parts.{parts}
 
 -- ---- set-up
 
@@ -50,17 +43,11 @@ module _ (n t own a : ℕ) (s : List ℕ) (r : PlanRead) (q : Party) where
 
 -- ---- reading the answer
 
--- the lent parts of a record pass question 19 where it does
-pub valid_in : (c : Code.Party) {v : Vote} {s : Shape} → v ≡ vote_of c → shaped s c.plan.parent c.plan.child ≡ as_plan c.plan → {b : Bool}
-    → b ≡ party_valid (party_in v (shaped s c.plan.parent c.plan.child) c.levels c.sets) → b ≡ party_valid (as_party c)
-valid_in c e i h = h ∙ ap party_valid (parts c e i c.levels c.sets)
-
 module _ (p : Party) where
-  pub no_reading : {ok : Bool} → ok ≡ party_valid p → not ok ≡ true → record { verdict = Verdict.Refused 19 0; answer = Answer.None } ≡ answered_of p
+  pub no_reading : false ≡ party_valid p → record { verdict = Verdict.Refused 19 0; answer = None } ≡ answered_of p
   unfolding answered_of
-  no_reading {ok} e h = rw (sym e ∙ not-true ok h)
+  no_reading e = rw (sym e)
 
-  pub reading : {ok : Bool} {a : Answer} → ok ≡ party_valid p → not ok ≡ false → a ≡ answer_of p.plan (output_of p)
-      → record { verdict = Verdict.Accepted; answer = a } ≡ answered_of p
+  pub reading : {a : Answer} → true ≡ party_valid p → a ≡ answer_of p.plan (output_of p) → record { verdict = Verdict.Accepted; answer = a } ≡ answered_of p
   unfolding answered_of
-  reading {ok} e h i = rw (sym e ∙ not-false ok h, i)
+  reading e i = rw (sym e, i)

@@ -4,60 +4,25 @@
 ghost use Rattle.std.specs.Prelude.{◌≡◌};
 ghost use Rattle.party.specs.Tie.{as_party};
 ghost use Rattle.board_calls.specs.Calls.{set_up_of, answered_of};
-ghost use Rattle.board_calls.specs.Tie.{as_set_up};
+ghost use Rattle.board_calls.specs.Tie.{as_set_up, as_answered};
 
-use board_calls::{Answer, Answered, SetUp, no_party};
+use base::{Question, Refusal};
+use party::Party;
 
-// Questions 1 to 11, then a party that has not started.
-pub fn set_up(n: u32, t: u32, own: u32, agreement: u32, bytes: &[u8]) -> SetUp
+// Questions 1 to 11, then a party that has not started. The settings stand one by one, as README lists them.
+pub fn set_up(n: u32, t: u32, own: u32, agreement: u32, bytes: &[u8]) -> Result<Party, Refusal>
     ensures { as_set_up result ≡ set_up_of n t own agreement bytes.now }
 {
-    let r = plan_reader::settle(n, t, own, bytes);
-    let v = r.verdict;
-    let plan = r.plan;
-    match v {
-        base::Verdict::Accepted => SetUp {
-            verdict: v,
-            party: party::Party::new(n, t, own, agreement, plan),
-        },
-        base::Verdict::Refused {
-            number: _,
-            place: _,
-        } => SetUp {
-            verdict: v,
-            party: no_party(),
-        },
-    }
+    let plan = plan_reader::settle(n, t, own, bytes)?;
+    Ok(Party::new(n, t, own, agreement, plan))
 }
 
-// The answer, or that there is none yet.
-pub fn read_answer(p: party::Party) -> Answered
-    ensures { result ≡ answered_of (as_party p) }
+// The answer, if there is one yet.
+pub fn read_answer(p: Party) -> Result<Option<i64>, Refusal>
+    ensures { as_answered result ≡ answered_of (as_party p) }
 {
-    let v = p.vote();
-    let plan = p.plan;
-    let shape = plan.shape();
-    let ps = plan.parent;
-    let cs = plan.child;
-    let levels = p.levels;
-    let mut ports = [0u8; base::MAX_VERTICES];
-    let i = party_inspect::inspect(v, shape, &ps, &cs, levels, &p.sets, &mut ports);
-    if !i.ok {
-        let refused = base::Verdict::Refused {
-            number: 19,
-            place: 0,
-        };
-        let none = Answer::None;
-        return Answered {
-            verdict: refused,
-            answer: none,
-        };
+    if party_inspect::inspect(&p).is_none() {
+        return Err(Question::PartyRecord.into());
     }
-    let l = levels[0];
-    let accepted = base::Verdict::Accepted;
-    let a = board_positions::answer_at(plan, l.output);
-    Answered {
-        verdict: accepted,
-        answer: a,
-    }
+    Ok(board_positions::answer_at(p.plan, p.levels[0].output))
 }

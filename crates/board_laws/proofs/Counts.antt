@@ -6,8 +6,9 @@ use native.Mathlib.Omega.{arith}
 use lib.Dec.{T, eqb, T_not, not_T, eqb→eq}
 use lib.IntN.{ℤ}
 use borrow.Author.Tests.{eq-eqb}
+use Rattle.std.specs.Prelude.{Some, None}
 use Rattle.base.specs.Pick.{pick}
-use Rattle.base.specs.declared.Verdict.{Verdict}
+use Rattle.base.specs.Verdict.{Verdict}
 use Rattle.base.specs.Found.{Found, found, refused}
 use Rattle.base.proofs.Bools.{true→T, T→true}
 use Rattle.rounding.specs.Rounding.{size_passes, nearest_step, count_answer}
@@ -16,8 +17,7 @@ use Rattle.plan.proofs.Listed.{asked, ask_yes}
 use Rattle.level.specs.Level.{no_output}
 use Rattle.party.specs.Party.{Party, started, output_of}
 use Rattle.party.specs.Valid.{party_valid}
-use Rattle.board_calls.specs.declared.Answer.{Answer}
-use Rattle.board_calls.specs.Answers.{position_of, answer_of}
+use Rattle.board_calls.specs.Answers.{position_of, answer_of, Answer}
 use Rattle.board_calls.specs.Calls.{Entry, at_door, start_at, start_questions, answered_of}
 use Rattle.board_calls.specs.Counts.{count_position, start_count_questions, count_of, count_questions, count_gives}
 use Rattle.board_laws.proofs.Recorded.{inside}
@@ -76,9 +76,9 @@ unfolding answered_of
 answered_valid p v = rw (T→true (party_valid p) v)
 
 -- a count's answer is of a step's
-counted : (g : ℕ) (c : ℤ) (x : Answer) {a : ℤ} → count_of g c x ≡ Answer.At a → (y : ℤ) × (x ≡ Answer.At y) × (a ≡ count_answer g c y)
-counted g c Answer.None e = let z : ◌≡◌ {A = ℕ} 0 1 = cc in absurd (omega arith)
-counted g c (Answer.At y) e = (y, refl, cc)
+counted : (g : ℕ) (c : ℤ) (x : Answer) {a : ℤ} → count_of g c x ≡ Some a → (y : ℤ) × (x ≡ Some y) × (a ≡ count_answer g c y)
+counted g c None e = let z : ◌≡◌ {A = ℕ} 0 1 = cc in absurd (omega arith)
+counted g c (Some y) e = (y, refl, cc)
 
 module _ (p : Party) (g : ℕ) (c : ℤ) where
   -- what it finds where every question passes
@@ -106,20 +106,20 @@ module _ (p : Party) (g : ℕ) (c : ℤ) where
       let k : count_of g c (answer_of p.plan (output_of p)) ≡ a = cc in
       (b.0, d.0, on_plan_lem x e.0, ap (count_of g c) (answered_valid p b.0) ∙ k)
 
-  pub count_answered : {a : ℤ} → (count_gives (count_questions p g c)).answer ≡ Answer.At a → (y : ℤ) × ((answered_of p).answer ≡ Answer.At y) × (a ≡ count_answer g c y)
+  pub count_answered : {a : ℤ} → (count_gives (count_questions p g c)).answer ≡ Some a → (y : ℤ) × ((answered_of p).answer ≡ Some y) × (a ≡ count_answer g c y)
   count_answered {a} h = go (count_questions p g c) refl h
     where
-      go : (q : Found Answer) → count_questions p g c ≡ q → (count_gives q).answer ≡ Answer.At a → (y : ℤ) × ((answered_of p).answer ≡ Answer.At y) × (a ≡ count_answer g c y)
+      go : (q : Found Answer) → count_questions p g c ≡ q → (count_gives q).answer ≡ Some a → (y : ℤ) × ((answered_of p).answer ≡ Some y) × (a ≡ count_answer g c y)
       go (found x) e i = counted g c (answered_of p).answer ((count_passed e).3 ∙ i)
       go (refused number place) e i = let z : ◌≡◌ {A = ℕ} 0 1 = cc in absurd (omega arith)
 
-  pub count_refused : {k at : ℕ} → (count_gives (count_questions p g c)).verdict ≡ Verdict.Refused k at → (count_gives (count_questions p g c)).answer ≡ Answer.None
+  pub count_refused : {k at : ℕ} → (count_gives (count_questions p g c)).verdict ≡ Verdict.Refused k at → (count_gives (count_questions p g c)).answer ≡ None
   count_refused {k} {at} h = go (count_questions p g c) h
     where
-      go : (q : Found Answer) → (count_gives q).verdict ≡ Verdict.Refused k at → (count_gives q).answer ≡ Answer.None
+      go : (q : Found Answer) → (count_gives q).verdict ≡ Verdict.Refused k at → (count_gives q).answer ≡ None
       go (found x) i = let z : ◌≡◌ {A = ℕ} 0 1 = cc in absurd (omega arith)
       go (refused number place) i = refl
 
-  pub count_answers : {y : ℤ} → T (party_valid p) → T (size_passes g) → (count_position p.plan g c ≡ no_output → ⊥) → (answered_of p).answer ≡ Answer.At y
-      → (count_gives (count_questions p g c)).answer ≡ Answer.At (count_answer g c y)
+  pub count_answers : {y : ℤ} → T (party_valid p) → T (size_passes g) → (count_position p.plan g c ≡ no_output → ⊥) → (answered_of p).answer ≡ Some y
+      → (count_gives (count_questions p g c)).answer ≡ Some (count_answer g c y)
   count_answers v s d i = ap (λ (q : Found Answer). (count_gives q).answer) (count_found v s d) ∙ ap (count_of g c) i

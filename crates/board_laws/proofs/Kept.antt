@@ -6,12 +6,13 @@ use native.Mathlib.Decide.{dec_lt}
 use native.Mathlib.Omega.{arith}
 use lib.Dec.{eqb, eqb→eq}
 use lib.ListN.{length}
+use Rattle.std.specs.Prelude.{Err, Ok}
 use Rattle.base.specs.Found.{found, refused}
 use Rattle.varint.specs.Varint.{AllBytes}
 use Rattle.plan.proofs.Listed.{asked}
 use Rattle.journal.specs.declared.Record.{Record}
-use Rattle.journal.specs.declared.RecordRead.{RecordRead}
-use Rattle.journal.specs.Reading.{record_at}
+use Rattle.journal.specs.declared.RecordError.TheVariants.{Torn, Bad}
+use Rattle.journal.specs.Reading.{RecordRead, record_at}
 use Rattle.journal.proofs.RoundTrip.{record_was_written}
 use Rattle.party.specs.Run.{Ran}
 use Rattle.party_life.specs.Life.{replayed, following, fault, Fits}
@@ -34,13 +35,15 @@ module _ (Q : Ran → Type 0) (j : List ℕ) (all : AllBytes j) (keeps : (r : Ra
       Rest = (at : ℕ) (r : Ran) (x : Replay) → Q r → replay_from f j at r ≡ found x → Q x.ran
 
       read : at < length j → (y : RecordRead) → record_at j at ≡ y → Rest → Q x.ran
-      read h (RecordRead.Read rec next) i rest =
+      read h (Ok y) i rest =
+          let rec : Record = y.value in
+          let next : ℕ = y.next in
           let q : Ran = following r (replayed r.party rec) in
           let k : ℕ = fault r.party rec in
           let a = asked (eqb k 0) k at (replay_from f j next q) x (sym (replay_read f j at r h rec next i) ∙ e) in
           rest next q x (keeps r rec w (fault_fits r.party rec (record_was_written j at rec next all i).limits (eqb→eq k 0 a.0))) a.1
-      read h RecordRead.Torn i rest = ends r at x w (sym (replay_torn f j at r h i) ∙ e)
-      read h RecordRead.Bad i rest =
+      read h (Err Torn) i rest = ends r at x w (sym (replay_torn f j at r h i) ∙ e)
+      read h (Err Bad) i rest =
           let b : refused 21 at ≡ found x = sym (replay_bad f j at r h i) ∙ e in
           let z : ◌≡◌ {A = ℕ} 0 1 = cc in absurd (omega arith)
 

@@ -1,12 +1,13 @@
 -- What the questions of a start and a take find, question by question.
 use mathlib.Core.Path.{◌≡◌, sym, ap, ◌∙◌}
-use mathlib.Core.Bool.{true, false, not}
+use mathlib.Core.Bool.{true, false}
 use mathlib.Core.List.{List}
 use Prim.Native.Nat.{ℕ, ◌+◌, ◌≤◌, ◌<◌}
-use lib.Dec.{T, ltb, eqb}
+use lib.Dec.{T, ltb}
 use lib.IntN.{ℤ}
 use lib.ListN.{length}
 use borrow.Author.Tests.{lt-ltb, le-ltb, le-leb, lt-leb, eq-eqb, ne_eqb}
+use Rattle.std.specs.Prelude.{Ok}
 use Rattle.base.specs.Pick.{pick}
 use Rattle.base.specs.Limits.{outgoing_size}
 use Rattle.base.proofs.Bools.{true→T, false→not-T}
@@ -15,9 +16,8 @@ use Rattle.plan.proofs.Listed.{ask_yes}
 use Rattle.plan.proofs.Answers.{ask_no}
 use Rattle.message.specs.declared.Message.{Message}
 use Rattle.format.specs.declared.Fault.{Fault}
-use Rattle.message.specs.declared.Exactly.{Exactly}
+use Rattle.message.specs.Reading.{broken, exact_message}
 use Rattle.message.specs.Refusals.{refusal_number}
-use Rattle.message.specs.Reading.{exact_message}
 use Rattle.level.specs.Level.{no_output}
 use Rattle.journal.specs.declared.Record.{Record}
 use Rattle.journal.specs.declared.Record.TheVariants.{Start, Taken}
@@ -27,7 +27,7 @@ use Rattle.party.specs.Run.{Ran, starting, taking}
 use Rattle.party.specs.Valid.{party_valid}
 use Rattle.party_life.specs.Life.{replayed}
 use Rattle.board_calls.specs.Answers.{position_of}
-use Rattle.board_calls.specs.Calls.{Entry, again, fresh, at_door, fitting, start_questions, take_message, take_questions}
+use Rattle.board_calls.specs.Calls.{Entry, again, fresh, at_door, fitting, start_at, start_questions, take_message, take_questions}
 
 -- ---- questions 19, 18 and 20
 
@@ -54,38 +54,33 @@ module _ (room used : ℕ) (r : Record) (ran : Ran) where
 
 -- ---- start
 
-module _ (p : Party) (z : ℤ) (room used out : ℕ) where
-  pub start_door : (k : ℕ) → ((go : Found Entry) → at_door p room used out go ≡ refused k 0) → start_questions p z room used out ≡ refused k 0
-  unfolding start_questions
-  start_door k h = h _
+module _ (p : Party) (x room used out : ℕ) (v : T (party_valid p)) (o : outgoing_size ≤ out) (u : used ≤ room) where
+  inside : at_door p room used out (start_at p x room used) ≡ start_at p x room used
+  inside = door_yes p room used out _ v o u
 
-  module _ (v : T (party_valid p)) (o : outgoing_size ≤ out) (u : used ≤ room) where
-    inside : start_questions p z room used out
-        ≡ ask (not (started p)) 13 0
-        (ask (not (eqb (position_of p.plan z) no_output)) 12 0
-        (fitting room used (Start p.agreement (position_of p.plan z)) (starting p (position_of p.plan z))))
-    unfolding start_questions
-    inside = door_yes p room used out _ v o u
+  pub start_again : started p ≡ true → at_door p room used out (start_at p x room used) ≡ refused 13 0
+  start_again h = inside ∙ rw h
 
-    pub start_again : started p ≡ true → start_questions p z room used out ≡ refused 13 0
-    start_again h = inside ∙ rw h
+  module _ (h : started p ≡ false) where
+    pub start_off : x ≡ no_output → at_door p room used out (start_at p x room used) ≡ refused 12 0
+    start_off i = inside ∙ rw (h, eq-eqb x no_output i)
 
-    module _ (h : started p ≡ false) (x : ℕ) (e : x ≡ position_of p.plan z) where
-      pub start_off : x ≡ no_output → start_questions p z room used out ≡ refused 12 0
-      start_off i = inside ∙ rw (h, eq-eqb (position_of p.plan z) no_output (sym e ∙ i))
+    module _ (i : x ≡ no_output → ⊥) where
+      start_on : at_door p room used out (start_at p x room used) ≡ fitting room used (Start p.agreement x) (starting p x)
+      start_on = inside ∙ rw (h, ne_eqb x no_output i)
 
-      module _ (i : x ≡ no_output → ⊥) where
-        start_on : start_questions p z room used out ≡ fitting room used (Start p.agreement x) (starting p x)
-        start_on = inside ∙ rw (h, sym e, ne_eqb x no_output i)
+      -- what is left is to record it
+      pub start_left : at_door p room used out (start_at p x room used) ≡ fitting room used (Start p.agreement x) (replayed p (Start p.agreement x))
+      unfolding replayed
+      start_left = start_on
 
-        -- what is left is to record it
-        pub start_left : start_questions p z room used out ≡ fitting room used (Start p.agreement x) (replayed p (Start p.agreement x))
-        unfolding replayed
-        start_left = start_on
-
-        pub start_fits : used + length (record_bytes (Start p.agreement x)) ≤ room
-            → start_questions p z room used out ≡ found (fresh (Start p.agreement x) (starting p x))
-        start_fits l = start_on ∙ fitted room used (Start p.agreement x) (starting p x) l
+pub start_fits : (p : Party) (z : ℤ) (room used out : ℕ) → T (party_valid p) → outgoing_size ≤ out → used ≤ room → started p ≡ false → (x : ℕ) → x ≡ position_of p.plan z
+    → (x ≡ no_output → ⊥) → used + length (record_bytes (Start p.agreement x)) ≤ room → start_questions p z room used out ≡ found (fresh (Start p.agreement x) (starting p x))
+unfolding start_questions
+start_fits p z room used out v o u h x e i l =
+    ap (λ (y : ℕ). at_door p room used out (start_at p y room used)) (sym e)
+    ∙ start_on p x room used out v o u h i
+    ∙ fitted room used (Start p.agreement x) (starting p x) l
 
 -- ---- take
 
@@ -106,11 +101,11 @@ module _ (p : Party) (s : ℕ) (bytes : List ℕ) (room used out : ℕ) where
       from_board : take_questions p s bytes room used out ≡ take_message p s room used (exact_message bytes)
       from_board = taken_inside ∙ rw (lt-ltb s p.n h)
 
-      pub take_broken : (fault : Fault) (at : ℕ) → exact_message bytes ≡ Exactly.Broken fault at → take_questions p s bytes room used out ≡ refused (refusal_number fault) at
+      pub take_broken : (fault : Fault) (at : ℕ) → exact_message bytes ≡ broken fault at → take_questions p s bytes room used out ≡ refused (refusal_number fault) at
       take_broken fault at e = from_board ∙ ap (take_message p s room used) e
 
-      module _ (m : Message) (e : exact_message bytes ≡ Exactly.One m) where
-        one_message : take_questions p s bytes room used out ≡ take_message p s room used (Exactly.One m)
+      module _ (m : Message) (e : exact_message bytes ≡ Ok m) where
+        one_message : take_questions p s bytes room used out ≡ take_message p s room used (Ok m)
         one_message = from_board ∙ ap (take_message p s room used) e
 
         pub take_number : (m.number ≡ p.agreement → ⊥) → take_questions p s bytes room used out ≡ refused 16 0

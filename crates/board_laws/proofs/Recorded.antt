@@ -8,6 +8,7 @@ use lib.Dec.{T, leb, ltb, eqb, T_not, eqb→eq, ltb→lt}
 use lib.IntN.{ℤ}
 use lib.ListN.{length}
 use borrow.Author.Tests.{eq-eqb}
+use Rattle.std.specs.Prelude.{Ok, Err}
 use Rattle.base.specs.Pick.{pick}
 use Rattle.base.specs.Limits.{outgoing_size}
 use Rattle.base.specs.Found.{Found, found}
@@ -15,9 +16,8 @@ use Rattle.base.proofs.Bools.{true→T}
 use Rattle.varint.specs.Varint.{AllBytes}
 use Rattle.plan.proofs.Listed.{asked}
 use Rattle.message.specs.declared.Message.{Message}
-use Rattle.message.specs.declared.Exactly.{Exactly}
+use Rattle.message.specs.Reading.{Exactly, exact_message}
 use Rattle.message.specs.Message.{in_table}
-use Rattle.message.specs.Reading.{exact_message}
 use Rattle.message.proofs.RoundTrip.{exact_message_written}
 use Rattle.level.specs.Level.{no_output}
 use Rattle.journal.specs.declared.Record.{Record}
@@ -90,7 +90,7 @@ module _ (p : Party) (room used out : ℕ) (r : Record) (ran : Ran) where
       new v l m t i false e = same_recorded p (fitted (Taken s m) (taking p s m) e) (v, fitting_taken p s m (i, l, t), refl)
 
       one : T (party_valid p) → s < p.n → (x : Exactly) → exact_message bytes ≡ x → take_message p s room used x ≡ found (fresh r ran) → Recorded p r ran
-      one v l (Exactly.One m) i e =
+      one v l (Ok m) i e =
           let c = asked (eqb m.number p.agreement) 16 0 _ (fresh r ran) e in
           new v l m (true→T (exact_message_written bytes m all i).0) (eqb→eq m.number p.agreement c.0) (held_by p s m) c.1
-      one v l (Exactly.Broken fault at) i e = let z : ◌≡◌ {A = ℕ} 0 1 = cc in absurd (omega arith)
+      one v l (Err y) i e = let z : ◌≡◌ {A = ℕ} 0 1 = cc in absurd (omega arith)

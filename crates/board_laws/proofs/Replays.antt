@@ -7,6 +7,7 @@ use native.Mathlib.Omega.{arith}
 use lib.Dec.{T, ltb, eqb}
 use lib.ListN.{length}
 use borrow.Author.Tests.{le-leb, lt-leb, ne_eqb}
+use Rattle.std.specs.Prelude.{Err}
 use Rattle.base.specs.Pick.{pick}
 use Rattle.base.specs.Limits.{last_level, level_count, max_rules, outgoing_size}
 use Rattle.base.specs.Found.{Found, found, refused, ask}
@@ -18,8 +19,9 @@ use Rattle.level.specs.Level.{Level, with_heard}
 use Rattle.level_laws.proofs.Grows.{move_unmoved}
 use Rattle.journal.specs.declared.Record.{Record}
 use Rattle.journal.specs.declared.Record.TheVariants.{Start, Taken}
-use Rattle.journal.specs.declared.RecordRead.{RecordRead}
-use Rattle.journal.specs.Reading.{record_at}
+use Rattle.journal.specs.declared.RecordError.TheVariants.{Torn, Bad}
+use Rattle.journal.proofs.Laws.{same_record}
+use Rattle.journal.specs.Reading.{whole_record, record_at}
 use Rattle.journal.proofs.RoundTrip.{record_place}
 use Rattle.party.specs.Party.{Party, new_party, level_at, context_of, started, entered, hearing}
 use Rattle.party.specs.Run.{Ran, resting, open_at, step_at, bytes_of}
@@ -44,15 +46,15 @@ module _ (f : ℕ) (j : List ℕ) (at : ℕ) (r : Ran) where
       go (suc f) = rw (le-leb (length j) at h)
 
   module _ (h : at < length j) where
-    pub replay_torn : record_at j at ≡ RecordRead.Torn → replay_from (suc f) j at r ≡ found (record { ran = r; used = at })
+    pub replay_torn : record_at j at ≡ Err Torn → replay_from (suc f) j at r ≡ found (record { ran = r; used = at })
     unfolding replay_from
     replay_torn e = rw (lt-leb (length j) at h, e)
 
-    pub replay_bad : record_at j at ≡ RecordRead.Bad → replay_from (suc f) j at r ≡ refused 21 at
+    pub replay_bad : record_at j at ≡ Err Bad → replay_from (suc f) j at r ≡ refused 21 at
     unfolding replay_from
     replay_bad e = rw (lt-leb (length j) at h, e)
 
-    pub replay_read : (x : Record) (next : ℕ) → record_at j at ≡ RecordRead.Read x next
+    pub replay_read : (x : Record) (next : ℕ) → record_at j at ≡ whole_record x next
         → replay_from (suc f) j at r ≡ record_fits r.party at x (replay_from f j next (following r (replayed r.party x)))
     unfolding replay_from
     replay_read x next e = rw (lt-leb (length j) at h, e)
@@ -162,22 +164,16 @@ module _ {j : List ℕ} where
   one_sized {r = r} (one x h e f) z = sized_replayed r.party z x f
 
   -- there is a record
-  pub one_record : {at next : ℕ} {r s : Ran} → One j at r next s → (x : Record) × (record_at j at ≡ RecordRead.Read x next)
+  pub one_record : {at next : ℕ} {r s : Ran} → One j at r next s → (x : Record) × (record_at j at ≡ whole_record x next)
   one_record (one x h e f) = (x, e)
 
   -- and it is the one that is read
-  pub one_read : {at next : ℕ} {r s : Ran} → One j at r next s → {x : Record} {n : ℕ} → record_at j at ≡ RecordRead.Read x n
+  pub one_read : {at next : ℕ} {r s : Ran} → One j at r next s → {x : Record} {n : ℕ} → record_at j at ≡ whole_record x n
       → (n ≡ next) × Fits r.party x × (s ≡ following r (replayed r.party x))
   one_read {at} {next} {r} (one y h e f) {x} {n} i =
-      let ex : y ≡ x = same (sym e ∙ i) in
-      let en : n ≡ next = place (sym i ∙ e) in
+      let ex : y ≡ x = (same_record (sym e ∙ i)).0 in
+      let en : n ≡ next = (same_record (sym i ∙ e)).1 in
       (en, subst (Fits r.party) ex f, ap (λ (z : Record). following r (replayed r.party z)) ex)
-    where
-      same : {y x : Record} {m n : ℕ} → RecordRead.Read y m ≡ RecordRead.Read x n → y ≡ x
-      same e = cc
-
-      place : {y x : Record} {m n : ℕ} → RecordRead.Read y m ≡ RecordRead.Read x n → m ≡ n
-      place e = cc
 
   pub many_le : {at end : ℕ} {r q : Ran} → Many j at r end q → at ≤ end
   many_le none = omega arith
@@ -266,12 +262,12 @@ module _ {j : List ℕ} {total : Found Replay} {at : ℕ} {r : Ran} (g : Goes j 
         go zero l e = absurd (omega arith)
         go (suc f) l e = (f, e)
 
-    pub goes_torn : record_at j at ≡ RecordRead.Torn → total ≡ found (record { ran = r; used = at })
+    pub goes_torn : record_at j at ≡ Err Torn → total ≡ found (record { ran = r; used = at })
     goes_torn e = step.1 ∙ replay_torn step.0 j at r h e
 
-    pub goes_bad : record_at j at ≡ RecordRead.Bad → total ≡ refused 21 at
+    pub goes_bad : record_at j at ≡ Err Bad → total ≡ refused 21 at
     goes_bad e = step.1 ∙ replay_bad step.0 j at r h e
 
-    pub goes_fault : (x : Record) (next k : ℕ) → record_at j at ≡ RecordRead.Read x next → k ≡ fault r.party x → (k ≡ 0 → ⊥) → total ≡ refused k at
+    pub goes_fault : (x : Record) (next k : ℕ) → record_at j at ≡ whole_record x next → k ≡ fault r.party x → (k ≡ 0 → ⊥) → total ≡ refused k at
     goes_fault x next k e i d =
         step.1 ∙ replay_read step.0 j at r h x next e ∙ faults r.party at x _ k i d

@@ -5,8 +5,7 @@ use Rattle.plan.specs.Valid.{plan_valid}
 use Rattle.level.specs.Level.{blank_level}
 use Rattle.journal.specs.declared.Record.{Record}
 use Rattle.journal.specs.declared.Record.TheVariants.{Start, Taken}
-use Rattle.journal.specs.declared.RecordRead.{RecordRead}
-use Rattle.journal.specs.Reading.{record_at}
+use Rattle.journal.specs.Reading.{whole_record, record_at}
 use Rattle.party.specs.Party.{Party}
 use Rattle.party.specs.Run.{Ran}
 use Rattle.party.specs.Valid.{settings_pass}
@@ -25,7 +24,7 @@ started_by (Taken s m) started = started
 
 -- the record at a place of j, which fits the party of r, leads on to q
 pub data One (j : List ℕ) : ℕ → Ran → ℕ → Ran → Type 0 where
-  one : {at next : ℕ} {r : Ran} (x : Record) → at < length j → record_at j at ≡ RecordRead.Read x next → Fits r.party x
+  one : {at next : ℕ} {r : Ran} (x : Record) → at < length j → record_at j at ≡ whole_record x next → Fits r.party x
       → One j at r next (following r (replayed r.party x))
 
 -- some such records, one after the other

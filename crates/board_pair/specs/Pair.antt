@@ -1,18 +1,25 @@
 -- Document 02, Q-13: "A pair vote is two range votes under two agreement numbers, each started and restored by itself, and answers exactly when both have."
-use Rattle.std.specs.Prelude.{not, eqb}
-use Rattle.base.specs.declared.Verdict.{Verdict}
+use Rattle.std.specs.Prelude.{not, eqb, ℤ, Option, Some, None}
+use Rattle.base.specs.Verdict.{Verdict}
 use Rattle.base.specs.Found.{Found, found, refused, ask}
 use Rattle.party.specs.Party.{Party}
-use Rattle.board_calls.specs.declared.Answer.{Answer}
+use Rattle.board_calls.specs.Answers.{Answer}
 use Rattle.board_calls.specs.Calls.{answered_of}
-use Rattle.board_pair.specs.declared.PairAnswer.{PairAnswer}
-use Rattle.board_pair.specs.declared.PairAnswered.{PairAnswered}
+
+-- the readings of the first and of the second vote, if both have an answer
+abbrev pub PairAnswer : Type 0
+PairAnswer = Option (ℤ × ℤ)
+
+-- what the reading gives
+pub record PairAnswered : Type 0 where
+  pub verdict : Verdict
+  pub answer : PairAnswer
 
 -- "answers exactly when both have"
 abbrev pub pair_of : Answer → Answer → PairAnswer
-pair_of Answer.None b = PairAnswer.None
-pair_of (Answer.At y) Answer.None = PairAnswer.None
-pair_of (Answer.At y) (Answer.At z) = PairAnswer.At y z
+pair_of None b = None
+pair_of (Some y) None = None
+pair_of (Some y) (Some z) = Some (y, z)
 
 -- a party's own reading asks its questions: where it refuses, so does the pair's, with its number and place
 abbrev pub asking : {A : Type 0} → Verdict → Found A → Found A
@@ -32,4 +39,4 @@ pair_questions p q =
 -- what the call gives
 abbrev pub pair_gives : Found PairAnswer → PairAnswered
 pair_gives (found a) = record { verdict = Verdict.Accepted; answer = a }
-pair_gives (refused number place) = record { verdict = Verdict.Refused number place; answer = PairAnswer.None }
+pair_gives (refused number place) = record { verdict = Verdict.Refused number place; answer = None }

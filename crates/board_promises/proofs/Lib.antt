@@ -4,3 +4,4 @@ pub mod Outgoing
 pub mod Refused
 pub mod Restored
 pub mod Starts
+pub mod Verdicts

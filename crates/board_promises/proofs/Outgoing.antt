@@ -22,7 +22,7 @@ use Rattle.plan.specs.Plan.{Plan}
 use Rattle.plan.specs.Reading.{settled_plan}
 use Rattle.plan.proofs.Listed.{asked}
 use Rattle.message.specs.declared.Message.{Message}
-use Rattle.message.specs.declared.MessageRead.{MessageRead}
+use Rattle.format.specs.Reading.{whole}
 use Rattle.message.specs.Message.{in_table, message_bytes}
 use Rattle.message.specs.Reading.{message_at}
 use Rattle.message.proofs.Laws.{message_length}
@@ -53,7 +53,7 @@ messages_end zero s at e = rw (eq-eqb at (length s) e)
 messages_end (suc f) s at e = rw (eq-eqb at (length s) e)
 
 -- a message is read, and then the rest
-messages_next : (f : ℕ) (s : List ℕ) (at : ℕ) (m : Message) (next : ℕ) → at < length s → message_at s at ≡ MessageRead.Read m next
+messages_next : (f : ℕ) (s : List ℕ) (at : ℕ) (m : Message) (next : ℕ) → at < length s → message_at s at ≡ whole m next
     → messages_from (suc f) s at ≡ with_rest m (messages_from f s next)
 unfolding messages_from
 messages_next f s at m next l e = rw (ne_eqb at (length s) (λ i. omega arith), e)
@@ -90,7 +90,7 @@ read_after (m ∷ ms) (suc f) s p l e w =
     let e2 : s ≡ (p ++ b) ++ bytes_of ms = e1 ∙ sym (append_assoc p b (bytes_of ms)) in
     let n : length (p ++ b) ≡ length p + length b = length-append p b in
     let k : length s ≡ length (p ++ b) + length (bytes_of ms) = ap length e2 ∙ length-append (p ++ b) (bytes_of ms) in
-    let r : message_at s (length p) ≡ MessageRead.Read m (length p + length b) = ap (λ (x : List ℕ). message_at x (length p)) e1 ∙ message_read m p (bytes_of ms) h.0 (omega (arith, h.1)) in
+    let r : message_at s (length p) ≡ whole m (length p + length b) = ap (λ (x : List ℕ). message_at x (length p)) e1 ∙ message_read m p (bytes_of ms) h.0 (omega (arith, h.1)) in
     messages_next f s (length p) m (length p + length b) (omega (arith, message_pos m)) r
     ∙ ap (λ (x : ℕ). with_rest m (messages_from f s x)) (sym n)
     ∙ ap (with_rest m) (read_after ms f s (p ++ b) (omega arith) e2 (λ x i. w x (Memᴰ.tail i)))

@@ -7,6 +7,7 @@ use native.Mathlib.Omega.{arith}
 use lib.Dec.{leb, eqb, eqb→eq}
 use lib.ListN.{length, drop, length-take, length-drop}
 use lib.Seq.{drop_at}
+use Rattle.std.specs.Prelude.{Err, Ok}
 use Rattle.base.specs.Distinct.{Distinct}
 use Rattle.base.specs.Limits.{max_number, last_level, outgoing_size}
 use Rattle.base.specs.Put.{put_at}
@@ -17,9 +18,9 @@ use Rattle.plan.specs.Plan.{Plan}
 use Rattle.plan.specs.Reading.{settled_plan}
 use Rattle.plan.proofs.Listed.{asked}
 use Rattle.journal.specs.declared.Record.{Record}
-use Rattle.journal.specs.declared.RecordRead.{RecordRead}
+use Rattle.journal.specs.declared.RecordError.TheVariants.{Torn, Bad}
+use Rattle.journal.specs.Reading.{RecordRead, whole_record, record_at, records_from, records_in}
 use Rattle.journal.specs.Records.{journal_bytes}
-use Rattle.journal.specs.Reading.{record_at, records_from, records_in}
 use Rattle.journal.proofs.RoundTrip.{record_was_written}
 use Rattle.journal.proofs.Records.{journal_none, journal_length, records_read, records_torn}
 use Rattle.journal.proofs.Torn.{record_at_end}
@@ -60,7 +61,7 @@ module _ (p : Party) (j : List ℕ) (all : AllBytes j) where
       subst (λ (us : List Record). Gave us x) (sym i) (l, ap (λ (y : Replay). y.ran) (sym k), ap (λ (y : Replay). y.used) (sym k) ∙ u)
 
   -- what is used up to a record is its bytes more after it
-  next_used : (at : ℕ) (z : Record) (next : ℕ) (rs : List Record) → record_at j at ≡ RecordRead.Read z next → at ≡ length (journal_bytes rs)
+  next_used : (at : ℕ) (z : Record) (next : ℕ) (rs : List Record) → record_at j at ≡ whole_record z next → at ≡ length (journal_bytes rs)
       → next ≡ length (journal_bytes (z ∷ rs))
   next_used at z next rs i u =
       let w = record_was_written j at z next all i in
@@ -78,7 +79,9 @@ module _ (p : Party) (j : List ℕ) (all : AllBytes j) where
           → Gave (records_from f j at rs) x
 
       read : at < length j → (y : RecordRead) → record_at j at ≡ y → Rest → Gave (records_from (suc f) j at rs) x
-      read b (RecordRead.Read z next) i rest =
+      read b (Ok y) i rest =
+          let z : Record = y.value in
+          let next : ℕ = y.next in
           let r : Ran = lived p rs in
           let k : ℕ = fault r.party z in
           let a = asked (eqb k 0) k at (replay_from f j next (lived p (z ∷ rs))) x (sym (replay_read f j at r b z next i) ∙ e) in
@@ -86,15 +89,15 @@ module _ (p : Party) (j : List ℕ) (all : AllBytes j) where
           let s = fault_fits r.party z w.limits (eqb→eq k 0 a.0) in
           subst (λ (ts : List Record). Gave ts x) (sym (records_read f j at rs i))
           (rest next (z ∷ rs) x w.inside (next_used at z next rs i u) (s, l) a.1)
-      read b RecordRead.Torn i rest = stops rs (records_from (suc f) j at rs) at x l u (records_torn (suc f) j at rs i) (sym (replay_torn f j at (lived p rs) b i) ∙ e)
-      read b RecordRead.Bad i rest =
+      read b (Err Torn) i rest = stops rs (records_from (suc f) j at rs) at x l u (records_torn (suc f) j at rs i) (sym (replay_torn f j at (lived p rs) b i) ∙ e)
+      read b (Err Bad) i rest =
           let y : refused 21 at ≡ found x = sym (replay_bad f j at (lived p rs) b i) ∙ e in
           let z : ◌≡◌ {A = ℕ} 0 1 = cc in absurd (omega arith)
 
       go : Dec (at < length j) → Rest → Gave (records_from (suc f) j at rs) x
       go (yes b) rest = read b (record_at j at) refl rest
       go (no b) rest =
-          let i : record_at j at ≡ RecordRead.Torn = ap (record_at j) (omega (arith, b)) ∙ record_at_end j in
+          let i : record_at j at ≡ Err Torn = ap (record_at j) (omega (arith, b)) ∙ record_at_end j in
           stops rs (records_from (suc f) j at rs) at x l u (records_torn (suc f) j at rs i) (sym (replay_end (suc f) j at (lived p rs) (omega (arith, b))) ∙ e)
 
 -- "every message of the whole records' history .. in the first order"

@@ -1,7 +1,7 @@
 -- The records that calls give as parties, which pass question 19, and those that come instead of a party, which fail it (proofs/Given.antt).
 use Rattle.std.specs.Prelude.{◌≡◌, List, ℕ, ℤ, length}
 use Rattle.base.specs.Limits.{level_count}
-use Rattle.base.specs.declared.Verdict.{Verdict}
+use Rattle.base.specs.Verdict.{Verdict}
 use Rattle.varint.specs.Varint.{AllBytes}
 use Rattle.party.specs.Party.{Party}
 use Rattle.board_calls.specs.Calls.{set_up_of, start_questions, take_questions, called_of}

@@ -1,10 +1,10 @@
 -- "An accepted call writes its messages from the outgoing buffer's first byte": the messages that bytes are, read one after the other.
 use mathlib.Core.List.{List, [], ◌∷◌, Memᴰ}
 use Rattle.std.proofs.Math.Option.{Option, none, some}
-use Rattle.std.specs.Prelude.{ℕ, zero, suc, eqb, length}
+use Rattle.std.specs.Prelude.{ℕ, zero, suc, eqb, length, Ok, Err}
 use Rattle.base.specs.Pick.{pick}
 use Rattle.message.specs.declared.Message.{Message}
-use Rattle.message.specs.declared.MessageRead.{MessageRead}
+use Rattle.format.specs.Reading.{Read}
 use Rattle.message.specs.Message.{InLimits}
 use Rattle.message.specs.Reading.{message_at}
 
@@ -14,9 +14,9 @@ with_rest m none = none
 with_rest m (some ms) = some (m ∷ ms)
 
 -- what is read first, and then what stands after it
-abbrev pub with_next : MessageRead → (ℕ → Option (List Message)) → Option (List Message)
-with_next (MessageRead.Read m next) more = with_rest m (more next)
-with_next (MessageRead.Failed fault at) more = none
+abbrev pub with_next : Read Message → (ℕ → Option (List Message)) → Option (List Message)
+with_next (Ok r) more = with_rest r.value (more r.next)
+with_next (Err e) more = none
 
 -- the messages from `at` to the last byte of s, at most f; none if something else stands there
 unfoldable pub messages_from : ℕ → List ℕ → ℕ → Option (List Message)

@@ -1,4 +1,3 @@
-pub mod Faults
 pub mod Replaying
 pub mod Restores
 pub mod Scans

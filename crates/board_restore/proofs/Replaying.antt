@@ -1,22 +1,23 @@
 -- The pass that replays the records: those so far are replayed, and their messages written one after the other.
 use mathlib.Core.Path.{◌≡◌, refl, sym, ap, ◌∙◌, subst}
-use mathlib.Core.List.{List, ◌++◌}
+use mathlib.Core.List.{List}
 use Prim.Native.Nat.{ℕ, ◌+◌, ◌≤◌, ◌<◌}
 use native.Mathlib.Omega.{arith}
 use lib.Dec.{T}
 use lib.ListN.{length}
 use borrow.Author.Tests.{le-ltb}
+use Rattle.std.specs.Prelude.{Ok}
 use Rattle.base.specs.Put.{put_at}
 use Rattle.base.specs.Limits.{max_rules}
-use Rattle.base.specs.declared.Verdict.{Verdict}
+use Rattle.base.specs.Verdict.{Verdict}
 use Rattle.base.specs.Found.{Found, found}
 use Rattle.base.proofs.Puts.{put_none, then_put}
+use Rattle.varint.specs.declared.Parsed.{Parsed}
 use Rattle.component_laws.proofs.Laws.{rows_lent}
 use Rattle.component.specs.Inner.{Lent}
 use Rattle.message.specs.declared.Message.{Message}
 use Rattle.journal.specs.declared.Record.{Record}
-use Rattle.journal.specs.declared.RecordRead.{RecordRead}
-use Rattle.journal.specs.Reading.{record_at}
+use Rattle.journal.specs.Reading.{RecordRead, whole_record, record_at}
 use Rattle.party.specs.declared.Chart.{Chart}
 use Rattle.party.specs.Party.{Party, sending}
 use Rattle.party.specs.Run.{Ran, resting, bytes_of}
@@ -35,23 +36,15 @@ use Rattle.board_restore.specs.Inner.{Ends, Replayable}
 -- ---- a party that has entered no level
 
 -- any chart of no level is its chart
-pub new_charts : {p : Party} → New p → {c : Chart} {ports : List ℕ} → c.sending ≡ 0 → Charts p c ports
+pub new_charts : {p : Party} → New p → {c : Chart} → c.sending ≡ 0 → Charts p c
 unfolding sending
 new_charts {p} w e = record {
   sends = λ i h. rw (new_entered p w i h, e) (sym (le-ltb i 0 (omega arith)));
-  last = omega arith;
-  surveys = λ i h. absurd (omega arith);
-  deepest = λ i h. absurd (omega arith);
-  numbered = λ i h. absurd (omega arith);
+  last = omega (arith, e);
+  surveys = λ i h. absurd (omega (arith, e));
+  deepest = λ i h. absurd (omega (arith, e));
+  numbered = λ i h. absurd (omega (arith, e));
 }
-
--- ---- a record that was not read
-
-abbrev pub NoRecord : RecordRead → Type 0
-NoRecord r = (x : Record) (next : ℕ) → r ≡ RecordRead.Read x next → ⊥
-
-no_record : (r : RecordRead) → NoRecord r → {x : Record} {next : ℕ} → r ≡ RecordRead.Read x next → ⊥
-no_record r h i = h _ _ i
 
 -- ---- the pass
 
@@ -61,21 +54,21 @@ restored_gives : {out out_then : List ℕ} {r : Called} {q : Found Replay} {x : 
 restored_gives {out} e i k = record { result = i ∙ ap restored_of (sym e); outgoing = k ∙ ap (restore_outgoing out) (sym e) }
 
 -- the records before `at` are replayed, and those from there to `end` are left, where all make q; the messages made so far are written from the first byte on
-pub record Replaying (p : Party) (j : List ℕ) (end : ℕ) (out : List ℕ) (now : Party) (d : Chart) (ports : List ℕ) (sum sent at : ℕ) (out_now : List ℕ) : Type 0 where
+pub record Replaying (p : Party) (j : List ℕ) (end : ℕ) (out : List ℕ) (now : Party) (d : Chart) (sum sent at : ℕ) (out_now : List ℕ) : Type 0 where
   pub r : Ran
   pub q : Ran
   pub ends : Ends p j end q
   pub done : Many j 0 (resting p) at r
   pub rest : Many j at r end q
   pub party : now ≡ r.party
-  pub chart : Charts now d ports
+  pub chart : Charts now d
   pub rules : sum ≡ r.rules
   pub bytes : sent ≡ length (bytes_of r.made)
   pub outgoing : out_now ≡ put_at out 0 (bytes_of r.made)
   pub long : length out_now ≡ length out
 
-pub replaying_start : {p : Party} {j : List ℕ} {end : ℕ} {out : List ℕ} → Replayable p j end (length out) → {c : Chart} {ports : List ℕ} → c.sending ≡ 0
-    → Replaying p j end out p c ports 0 0 0 out
+pub replaying_start : {p : Party} {j : List ℕ} {end : ℕ} {out : List ℕ} → Replayable p j end (length out) → {c : Chart} → c.sending ≡ 0
+    → Replaying p j end out p c 0 0 0 out
 replaying_start {p} {j} {end} {out} h e = record {
   r = resting p;
   q = h.ran;
@@ -90,14 +83,14 @@ replaying_start {p} {j} {end} {out} h e = record {
   long = refl;
 }
 
-module _ {p : Party} {j : List ℕ} {end : ℕ} {out : List ℕ} (w : Replayable p j end (length out)) {now : Party} {d : Chart} {ports : List ℕ} {sum sent at : ℕ}
-    {out_now : List ℕ} (s : Replaying p j end out now d ports sum sent at out_now) where
+module _ {p : Party} {j : List ℕ} {end : ℕ} {out : List ℕ} (w : Replayable p j end (length out)) {now : Party} {d : Chart} {sum sent at : ℕ}
+    {out_now : List ℕ} (s : Replaying p j end out now d sum sent at out_now) where
   module _ (h : at < end) where
     -- a record stands there
-    pub replaying_read : NoRecord (record_at j at) → ⊥
-    replaying_read n = let x = one_record (many_first s.rest h).2 in no_record (record_at j at) n x.1
+    pub replaying_read : (r : RecordRead) → r ≡ record_at j at → ((x : Parsed Record) → r ≡ Ok x → ⊥) → ⊥
+    replaying_read r e n = let x = one_record (many_first s.rest h).2 in n _ (e ∙ x.1)
 
-    module _ {x : Record} {next : ℕ} (e : record_at j at ≡ RecordRead.Read x next) where
+    module _ {x : Record} {next : ℕ} (e : record_at j at ≡ whole_record x next) where
       abbrev then : Ran
       then = following s.r (replayed s.r.party x)
 
@@ -126,7 +119,7 @@ module _ {p : Party} {j : List ℕ} {end : ℕ} {out : List ℕ} (w : Replayable
       fits : length (bytes_of s.r.made) + length (bytes_of added) ≤ length out
       fits = omega (arith, many_outgoing p w.new (many_then s.done ahead), bytes_length s.r.made added, w.room)
 
-      pub replaying_asks : Ready now d ports × Room (replayed now x) sent (length out_now) × Fits now x
+      pub replaying_asks : Ready now d × Room (replayed now x) sent (length out_now) × Fits now x
       replaying_asks =
           let sized = many_sized s.done (new_sized p w.new) in
           let plan = ap (λ (z : Party). z.plan) s.party ∙ (many_board s.done).plan in (
@@ -146,7 +139,7 @@ module _ {p : Party} {j : List ℕ} {end : ℕ} {out : List ℕ} (w : Replayable
           omega (arith, f, s.rules, k, ap (λ (z : Ran). z.rules) same)
 
       pub replaying_next : {g : Outcome} {out_then : List ℕ} → Gives (replayed now x) sent out_now g out_then → length out_then ≡ length out_now
-          → Replaying p j end out g.party g.chart g.ports (sum + g.rules) g.sent next out_then
+          → Replaying p j end out g.party g.chart (sum + g.rules) g.sent next out_then
       replaying_next {out_then = out_then} k l = record {
         r = then;
         q = s.q;

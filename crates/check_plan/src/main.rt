@@ -2,31 +2,29 @@
 // wire, or why it is refused.
 #![tactic(auto)]
 
-use drawing::{Ends, Lines};
-use input::{BYTES, Input};
+use script_input::Input;
 use sheet::Sheet;
 use std::io;
 
-mod input;
-mod print;
 mod report;
 mod sheet;
 
 // A proved loop has to end, and nothing says that the input does: the turns are counted up to a number that no run uses up.
+// bench's main says why its loop is not one with this.
 fn main(rt: HostRuntime) -> io::Result<()> {
     let mut stdin = rt.stdin();
-    let mut bytes = [0u8; BYTES];
     let mut input = Input::new();
     let mut sheet = Sheet::new();
-    let mut lines: Lines = [0u64; base::MAX_ROWS];
-    let mut one: Ends = [0u32; base::MAX_ROWS];
-    let mut two: Ends = [0u32; base::MAX_ROWS];
     for _ in 0..u64::MAX {
-        if !input.open {
+        if !input.is_open() {
             break;
         }
-        input = input.next(&mut stdin, &mut bytes);
-        sheet = sheet.after(&rt, input, &mut lines, &mut one, &mut two)?;
+        match input.next(&mut stdin) {
+            Ok(Some(line)) => sheet.read(&rt, line)?,
+            Ok(None) => {}
+            // a drawing that may be cut is not judged
+            Err(_) => return println!(&rt; "the input could not be read to its end"),
+        }
     }
-    sheet.closed(&rt, input, &lines, &one, &two)
+    sheet.close(&rt)
 }

@@ -34,39 +34,39 @@ use Rattle.tree_pass.specs.Inner.{Rows}
 use Rattle.component_tree.specs.Inner.{OfTree, Ports}
 use Rattle.component.specs.Component.{size_of, degree_of, port_of, side_of}
 use Rattle.component.specs.Inner.{Lent, OfPlan, members, Flat, Numbered, Holds, Finds}
-use Rattle.component.specs.declared.Span.{Span}
+use Rattle.component.specs.declared.Component.{Component}
 use Rattle.component.specs.declared.Centre.{Centre}
 
 -- numbers for a tree, an interval for a range
-members_tree : (p : Plan) (s : Span) (l : List ℕ) → p.kind ≡ 1 → members p s l ≡ numbered l
+members_tree : (p : Plan) (c : Component) → p.kind ≡ 1 → members p c ≡ numbered c.ports
 unfolding members
-members_tree p s l k = rw (eq-eqb p.kind 1 k)
+members_tree p c k = rw (eq-eqb p.kind 1 k)
 
-pub members_range : (p : Plan) (s : Span) (l : List ℕ) → (p.kind ≡ 1 → ⊥) → members p s l ≡ interval s.low s.high
+pub members_range : (p : Plan) (c : Component) → (p.kind ≡ 1 → ⊥) → members p c ≡ interval c.low c.high
 unfolding members
-members_range p s l k = rw (ne_eqb p.kind 1 k)
+members_range p c k = rw (ne_eqb p.kind 1 k)
 
 -- ---- is x a member
 
-module _ (p : Plan) (s : Span) (l : List ℕ) (x : ℕ) where
-  pub number_read : p.kind ≡ 1 → numbered l x ≡ members p s l x
-  number_read k = sym (ap (λ (S : Set). S x) (members_tree p s l k))
+module _ (p : Plan) (c : Component) (x : ℕ) where
+  pub number_read : p.kind ≡ 1 → numbered c.ports x ≡ members p c x
+  number_read k = sym (ap (λ (S : Set). S x) (members_tree p c k))
 
-  pub between : (p.kind ≡ 1 → ⊥) → s.low ≤ x → leb x s.high ≡ members p s l x
+  pub between : (p.kind ≡ 1 → ⊥) → c.low ≤ x → leb x c.high ≡ members p c x
   unfolding interval
-  between k h = sym (ap (λ (S : Set). S x) (members_range p s l k) ∙ rw (le-leb s.low x h))
+  between k h = sym (ap (λ (S : Set). S x) (members_range p c k) ∙ rw (le-leb c.low x h))
 
-  pub before : (p.kind ≡ 1 → ⊥) → x < s.low → leb s.low x ≡ members p s l x
+  pub before : (p.kind ≡ 1 → ⊥) → x < c.low → leb c.low x ≡ members p c x
   unfolding interval
-  before k h = rw (lt-leb s.low x h) (sym (ap (λ (S : Set). S x) (members_range p s l k) ∙ rw (lt-leb s.low x h)))
+  before k h = rw (lt-leb c.low x h) (sym (ap (λ (S : Set). S x) (members_range p c k) ∙ rw (lt-leb c.low x h)))
 
 -- ---- marks hold a set
 
 -- a mark for each member of S
-holds_marks : (p : Plan) (r : Span) (l : List ℕ) (S : Set) → p.kind ≡ 1 → ((x : ℕ) → get_or l x 0 ≡ bit (S x)) → Holds p r l S
+holds_marks : (p : Plan) (c : Component) (S : Set) → p.kind ≡ 1 → ((x : ℕ) → get_or c.ports x 0 ≡ bit (S x)) → Holds p c S
 unfolding numbered
-holds_marks p r l S k h = record {
-  is = members_tree p r l k ∙ fun_ext (λ x. ap (λ (z : ℕ). not (eqb z 0)) (h x) ∙ back (S x));
+holds_marks p c S k h = record {
+  is = members_tree p c k ∙ fun_ext (λ x. ap (λ (z : ℕ). not (eqb z 0)) (h x) ∙ back (S x));
   flat = record { most = λ _ x. rw (h x) (small (S x)) };
 }
   where
@@ -79,21 +79,21 @@ holds_marks p r l S k h = record {
     small false = omega arith
 
 -- a range needs none
-pub holds_range : (p : Plan) (r : Span) (l : List ℕ) (S : Set) → (p.kind ≡ 1 → ⊥) → members p r l ≡ S → Holds p r l S
-holds_range p r l S k e = record { is = e; flat = record { most = λ i. absurd (k i) } }
+pub holds_range : (p : Plan) (c : Component) (S : Set) → (p.kind ≡ 1 → ⊥) → members p c ≡ S → Holds p c S
+holds_range p c S k e = record { is = e; flat = record { most = λ i. absurd (k i) } }
 
 -- ---- all positions
 
-pub whole_tree : (p : Plan) (r : Span) (l : List ℕ) (n : ℕ) → p.kind ≡ 1 → ((x : ℕ) → get_or l x 0 ≡ pick (ltb x p.count) 1 (get_or (replicate n 0) x 0)) → Holds p r l (upto p.count)
+pub whole_tree : (p : Plan) (c : Component) (n : ℕ) → p.kind ≡ 1 → ((x : ℕ) → get_or c.ports x 0 ≡ pick (ltb x p.count) 1 (get_or (replicate n 0) x 0)) → Holds p c (upto p.count)
 unfolding upto
-whole_tree p r l n k h = holds_marks p r l (upto p.count) k (λ x. h x ∙ ap (pick (ltb x p.count) 1) (zeros n x) ∙ bits (ltb x p.count))
+whole_tree p c n k h = holds_marks p c (upto p.count) k (λ x. h x ∙ ap (pick (ltb x p.count) 1) (zeros n x) ∙ bits (ltb x p.count))
   where
     bits : (b : Bool) → pick b 1 0 ≡ bit b
     bits true = refl
     bits false = refl
 
-pub whole_range : (p : Plan) (r : Span) (l : List ℕ) → T (plan_valid p) → (p.kind ≡ 1 → ⊥) → r.low ≡ 0 → r.high ≡ p.count - 1 → Holds p r l (upto p.count)
-whole_range p r l v k a b = holds_range p r l (upto p.count) k (members_range p r l k ∙ rw (a, b) (sym (upto_interval p.count (shape p v).some)))
+pub whole_range : (p : Plan) (c : Component) → T (plan_valid p) → (p.kind ≡ 1 → ⊥) → c.low ≡ 0 → c.high ≡ p.count - 1 → Holds p c (upto p.count)
+whole_range p c v k a b = holds_range p c (upto p.count) k (members_range p c k ∙ rw (a, b) (sym (upto_interval p.count (shape p v).some)))
 
 -- ---- the rows of a tree
 
@@ -130,44 +130,44 @@ neighbour_most E n S k = (sought n (λ w. neighbours E n S w && eqb (rank E n S 
 
 -- ---- a component of a tree
 
-module _ (p : Plan) (s : Span) (l : List ℕ) (k : p.kind ≡ 1) where
+module _ (p : Plan) (c : Component) (k : p.kind ≡ 1) where
   abbrev E : Edges
   E = rows p.parent p.child (p.count - 1)
 
   -- what the plan's edges and members tell, the rows and the numbers tell
-  pub as_tree : {A : Type 0} (f : Edges → Set → A) → f (edges_of p) (members p s l) ≡ f (rows p.parent p.child (p.count - 1)) (numbered l)
-  as_tree f = ap₂ f (edges_tree p k) (members_tree p s l k)
+  pub as_tree : {A : Type 0} (f : Edges → Set → A) → f (edges_of p) (members p c) ≡ f (rows p.parent p.child (p.count - 1)) (numbered c.ports)
+  as_tree f = ap₂ f (edges_tree p k) (members_tree p c k)
 
-  pub of_tree : Lent p → OfPlan p (members p s l) → OfTree p.parent p.child p.count (numbered l)
+  pub of_tree : Lent p → OfPlan p (members p c) → OfTree p.parent p.child p.count (numbered c.ports)
   of_tree q h =
-      let O : OfPlan p (numbered l) = subst (OfPlan p) (members_tree p s l k) h in
+      let O : OfPlan p (numbered c.ports) = subst (OfPlan p) (members_tree p c k) h in
       record {
         grows = tree_rows p h.valid k q;
         most = tree_most p h.valid k;
         below = O.below;
-        joins = λ x y a b. subst (λ (F : Edges). Walk (Adjacent F) (In (numbered l)) x y) (edges_tree p k) (O.joins x y a b);
+        joins = λ x y a b. subst (λ (F : Edges). Walk (Adjacent F) (In (numbered c.ports)) x y) (edges_tree p k) (O.joins x y a b);
         some = O.some;
       }
 
   -- before the survey: numbers are marks
 
-  module _ (flat : Flat p l) where
-    pub marks_are : numbered l ≡ marked l
-    marks_are = fun_ext (λ x. numbered_mark l x (flat.most k x))
+  module _ (flat : Flat p c) where
+    pub marks_are : numbered c.ports ≡ marked c.ports
+    marks_are = fun_ext (λ x. numbered_mark c.ports x (flat.most k x))
 
     -- what the rows and the marks tell
-    as_marks : {A : Type 0} (f : Edges → Set → A) → f (edges_of p) (members p s l) ≡ f (rows p.parent p.child (p.count - 1)) (marked l)
+    as_marks : {A : Type 0} (f : Edges → Set → A) → f (edges_of p) (members p c) ≡ f (rows p.parent p.child (p.count - 1)) (marked c.ports)
     as_marks f = as_tree f ∙ ap (f E) marks_are
 
-    pub size_tree : (r : ℕ) → r ≡ count p.count (marked l) → r ≡ size_of p (members p s l)
+    pub size_tree : (r : ℕ) → r ≡ count p.count (marked c.ports) → r ≡ size_of p (members p c)
     size_tree r e = e ∙ sym (as_marks (λ _ S. count p.count S))
 
     -- what the passes find of the marks is the survey
-    pub finds_tree : (l' : List ℕ) (r : Centre) → r.centre ≡ centre (rows p.parent p.child (p.count - 1)) p.count (marked l)
-        → r.degree ≡ degree (rows p.parent p.child (p.count - 1)) p.count (marked l) → Ports (rows p.parent p.child (p.count - 1)) p.count (marked l) l'
-        → Finds p s (members p s l) l' r
+    pub finds_tree : (d : Component) (r : Centre) → r.centre ≡ centre (rows p.parent p.child (p.count - 1)) p.count (marked c.ports)
+        → r.degree ≡ degree (rows p.parent p.child (p.count - 1)) p.count (marked c.ports) → Ports (rows p.parent p.child (p.count - 1)) p.count (marked c.ports) d.ports
+        → Finds p (members p c) d r
     unfolding numbered
-    finds_tree l' r a b h = record {
+    finds_tree d r a b h = record {
       centre = a ∙ sym (as_marks (λ F S. centre F p.count S));
       degree = b ∙ sym (as_marks (λ F S. degree F p.count S));
       same = now ∙ sym (as_marks (λ _ S. S));
@@ -178,32 +178,32 @@ module _ (p : Plan) (s : Span) (l : List ℕ) (k : p.kind ≡ 1) where
         back true z = T→true (not (eqb (suc z) 0)) (not_T (eqb (suc z) 0) (λ e. omega (arith, eqb→eq (suc z) 0 e)))
         back false z = refl
 
-        now : members p s l' ≡ marked l
-        now = members_tree p s l' k ∙ fun_ext (λ x. ap (λ (z : ℕ). not (eqb z 0)) (h x) ∙ back (marked l x) (port E p.count (marked l) x))
+        now : members p d ≡ marked c.ports
+        now = members_tree p d k ∙ fun_ext (λ x. ap (λ (z : ℕ). not (eqb z 0)) (h x) ∙ back (marked c.ports x) (port E p.count (marked c.ports) x))
 
   -- after it
 
-  module _ (N : Numbered p s l) where
-    pub ports_tree : Ports (rows p.parent p.child (p.count - 1)) p.count (numbered l) l
+  module _ (N : Numbered p c) where
+    pub ports_tree : Ports (rows p.parent p.child (p.count - 1)) p.count (numbered c.ports) c.ports
     ports_tree x = N.is k x ∙ as_tree (λ F S. pick (S x) (suc (port F p.count S x)) 0)
 
     -- a member's number
-    number_is : (x : ℕ) → T (members p s l x) → get_or l x 0 ≡ suc (port_of p (members p s l) x)
-    number_is x h = N.is k x ∙ rw (T→true (members p s l x) h)
+    number_is : (x : ℕ) → T (members p c x) → get_or c.ports x 0 ≡ suc (port_of p (members p c) x)
+    number_is x h = N.is k x ∙ rw (T→true (members p c x) h)
 
-    pub port_tree : (x : ℕ) → T (members p s l x) → (1 ≤ get_or l x 0) × (get_or l x 0 - 1 ≡ port_of p (members p s l) x)
+    pub port_tree : (x : ℕ) → T (members p c x) → (1 ≤ get_or c.ports x 0) × (get_or c.ports x 0 - 1 ≡ port_of p (members p c) x)
     port_tree x h = (omega (arith, number_is x h), omega (arith, number_is x h))
 
-    member_at : (x j : ℕ) → get_or l x 0 ≡ suc j → T (members p s l x)
+    member_at : (x j : ℕ) → get_or c.ports x 0 ≡ suc j → T (members p c x)
     unfolding numbered
-    member_at x j e = subst T (number_read p s l x k) (not_T (eqb (get_or l x 0) 0) (λ h. omega (arith, eqb→eq (get_or l x 0) 0 h)))
+    member_at x j e = subst T (number_read p c x k) (not_T (eqb (get_or c.ports x 0) 0) (λ h. omega (arith, eqb→eq (get_or c.ports x 0) 0 h)))
 
     -- the positions with the number j + 1 are side j
-    pub side_tree : (j : ℕ) → 1 ≤ j → OfPlan p (members p s l) → (r : Span) (l' : List ℕ) → ((x : ℕ) → get_or l' x 0 ≡ bit (eqb (get_or l x 0) (j + 1))) → Holds p r l' (side_of p (members p s l) j)
-    side_tree j low O r l' h = holds_marks p r l' (side_of p (members p s l) j) k (λ x. h x ∙ ap bit (at x))
+    pub side_tree : (j : ℕ) → 1 ≤ j → OfPlan p (members p c) → (d : Component) → ((x : ℕ) → get_or d.ports x 0 ≡ bit (eqb (get_or c.ports x 0) (j + 1))) → Holds p d (side_of p (members p c) j)
+    side_tree j low O d h = holds_marks p d (side_of p (members p c) j) k (λ x. h x ∙ ap bit (at x))
       where
         S : Set
-        S = members p s l
+        S = members p c
 
         F : Edges
         F = edges_of p
@@ -214,11 +214,11 @@ module _ (p : Plan) (s : Span) (l : List ℕ) (k : p.kind ≡ 1) where
         C : X.Component F p.count S
         C = let m = member p.count S O.some in record { member = (m.0, m.2); below = O.below; connected = O.joins }
 
-        at : (x : ℕ) → eqb (get_or l x 0) (j + 1) ≡ side F p.count S j x
+        at : (x : ℕ) → eqb (get_or c.ports x 0) (j + 1) ≡ side F p.count S j x
         at x =
-            T-ext (eqb (get_or l x 0) (j + 1)) (side F p.count S j x)
+            T-ext (eqb (get_or c.ports x 0) (j + 1)) (side F p.count S j x)
             (λ t.
-            let e : get_or l x 0 ≡ suc j = eqb→eq (get_or l x 0) (j + 1) t ∙ add-one j in
+            let e : get_or c.ports x 0 ≡ suc j = eqb→eq (get_or c.ports x 0) (j + 1) t ∙ add-one j in
             let m : T (S x) = member_at x j e in
             port_side F ok p.count S C x j m low (omega (arith, number_is x m)))
             (λ t. rw (number_is x (side_member F ok p.count S C j x t) ∙ ap suc (side_port F ok p.count S C j x t) ∙ sym (add-one j)) (eqb_refl (j + 1)))

@@ -10,7 +10,7 @@ use Rattle.plan.specs.Plan.{Plan}
 use Rattle.plan.specs.Positions.{edges_of}
 use Rattle.plan.specs.Valid.{plan_valid}
 use Rattle.component.specs.Component.{size_of, centre_of, degree_of, port_of}
-use Rattle.component.specs.declared.Span.{Span}
+use Rattle.component.specs.declared.Component.{Component}
 use Rattle.component.specs.declared.Centre.{Centre}
 use Rattle.component.specs.declared.Survey.{Survey}
 
@@ -36,54 +36,54 @@ pub record OfPlan (p : Plan) (S : Set) : Type 0 where
   pub joins : (x y : ℕ) → T (S x) → T (S y) → Walk (Adjacent (edges_of p)) (In S) x y
   pub some : 0 < count p.count S
 
--- ---- a component as it is kept: in the array l for a tree, as its span s for a range
+-- ---- a component as it is kept: in its bytes for a tree, from low to high for a range
 
 -- its positions: those with a number other than 0, or those of the interval
-unfoldable pub members : Plan → Span → List ℕ → Set
-members p s l = pick (eqb p.kind 1) (numbered l) (interval s.low s.high)
+unfoldable pub members : Plan → Component → Set
+members p c = pick (eqb p.kind 1) (numbered c.ports) (interval c.low c.high)
 
 -- before the survey: of a tree every number is 0 or 1
-pub record Flat (p : Plan) (l : List ℕ) : Type 0 where
-  pub most : p.kind ≡ 1 → (x : ℕ) → get_or l x 0 ≤ 1
+pub record Flat (p : Plan) (c : Component) : Type 0 where
+  pub most : p.kind ≡ 1 → (x : ℕ) → get_or c.ports x 0 ≤ 1
 
 -- after it: of a tree every number is 0 outside, 1 at the centre, k + 1 in side k
-pub record Numbered (p : Plan) (s : Span) (l : List ℕ) : Type 0 where
-  pub is : p.kind ≡ 1 → (x : ℕ) → get_or l x 0 ≡ pick (members p s l x) (suc (port_of p (members p s l) x)) 0
+pub record Numbered (p : Plan) (c : Component) : Type 0 where
+  pub is : p.kind ≡ 1 → (x : ℕ) → get_or c.ports x 0 ≡ pick (members p c x) (suc (port_of p (members p c) x)) 0
 
 -- the set S, before its survey
-pub record Holds (p : Plan) (s : Span) (l : List ℕ) (S : Set) : Type 0 where
-  pub is : members p s l ≡ S
-  pub flat : Flat p l
+pub record Holds (p : Plan) (c : Component) (S : Set) : Type 0 where
+  pub is : members p c ≡ S
+  pub flat : Flat p c
 
 -- a component before its survey, with its plan's rows, and x one of its positions
-pub record Enterable (p : Plan) (s : Span) (l : List ℕ) (x : ℕ) : Type 0 where
+pub record Enterable (p : Plan) (c : Component) (x : ℕ) : Type 0 where
   pub rows : Lent p
-  pub of : OfPlan p (members p s l)
-  pub flat : Flat p l
-  pub place : T (members p s l x)
+  pub of : OfPlan p (members p c)
+  pub flat : Flat p c
+  pub place : T (members p c x)
 
 -- a component of three or more positions, after its survey
-pub record Surveyed (p : Plan) (s : Span) (l : List ℕ) : Type 0 where
-  pub of : OfPlan p (members p s l)
-  pub three : 3 ≤ size_of p (members p s l)
-  pub numbers : Numbered p s l
+pub record Surveyed (p : Plan) (c : Component) : Type 0 where
+  pub of : OfPlan p (members p c)
+  pub three : 3 ≤ size_of p (members p c)
+  pub numbers : Numbered p c
 
 -- its centre, and k the number of one of its sides
-pub record HasSide (p : Plan) (s : Span) (l : List ℕ) (centre k : ℕ) : Type 0 where
-  pub surveyed : Surveyed p s l
-  pub at : centre ≡ centre_of p (members p s l)
+pub record HasSide (p : Plan) (c : Component) (centre k : ℕ) : Type 0 where
+  pub surveyed : Surveyed p c
+  pub at : centre ≡ centre_of p (members p c)
   pub low : 1 ≤ k
-  pub high : k ≤ degree_of p (members p s l)
+  pub high : k ≤ degree_of p (members p c)
 
--- what numbering the component S finds, and leaves in the array
-pub record Finds (p : Plan) (s : Span) (S : Set) (l : List ℕ) (r : Centre) : Type 0 where
+-- what numbering the component S finds, and leaves in c
+pub record Finds (p : Plan) (S : Set) (c : Component) (r : Centre) : Type 0 where
   pub centre : r.centre ≡ centre_of p S
   pub degree : r.degree ≡ degree_of p S
-  pub same : members p s l ≡ S
-  pub numbers : Numbered p s l
+  pub same : members p c ≡ S
+  pub numbers : Numbered p c
 
 -- and its survey with the board at x
-pub record Surveys (p : Plan) (s : Span) (S : Set) (x : ℕ) (l : List ℕ) (r : Survey) : Type 0 where
+pub record Surveys (p : Plan) (S : Set) (x : ℕ) (c : Component) (r : Survey) : Type 0 where
   pub is : r ≡ survey_of p S x
-  pub same : members p s l ≡ S
-  pub numbers : Numbered p s l
+  pub same : members p c ≡ S
+  pub numbers : Numbered p c

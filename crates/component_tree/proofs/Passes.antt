@@ -23,22 +23,16 @@ use Rattle.marks.proofs.Marks.{on, off}
 use Rattle.tree_pass.proofs.Rows.{row}
 use Rattle.component_tree.specs.Inner.{Apart, found}
 
--- ---- one position
-
-module _ (mark k at : ℕ) (table : List ℕ) where
-  pub rank_on : mark ≡ 1 → (k + 1 ≡ k + bit (eqb mark 1)) × (set table at (k + 2) ≡ pick (eqb mark 1) (set table at (k + 2)) table)
-  rank_on e = rw (eq-eqb mark 1 e) (refl, refl)
-
-  pub rank_off : (mark ≡ 1 → ⊥) → (k ≡ k + bit (eqb mark 1)) × (table ≡ pick (eqb mark 1) (set table at (k + 2)) table)
-  rank_off d = rw (ne_eqb mark 1 d) (omega arith, refl)
-
-pub pick_on : (x a v w : ℕ) → x ≡ a → v ≡ pick (eqb x a) v w
-pick_on x a v w e = rw (eq-eqb x a e)
-
-pub pick_off : (x a v w : ℕ) → (x ≡ a → ⊥) → w ≡ pick (eqb x a) v w
-pick_off x a v w d = rw (ne_eqb x a d)
-
 -- ---- ranks
+
+-- how many of the positions before x are marked
+pub counted_start : (near : List ℕ) → 0 ≡ count 0 (marked near)
+unfolding count
+counted_start near = refl
+
+pub counted_more : (near : List ℕ) (x k k' : ℕ) → k ≡ count x (marked near) → k' ≡ k + bit (eqb (get_or near x 0) 1) → k' ≡ count (x + 1) (marked near)
+unfolding count marked
+counted_more near x k k' e i = rw (add-one x) (omega arith)
 
 -- of the members before x each has its rank and one more at its label
 abbrev pub Ranked : List ℕ → List ℕ → ℕ → List ℕ → Type 0
@@ -66,23 +60,7 @@ module _ (near labels : List ℕ) (n : ℕ) (apart : Apart near labels n) (x k :
           (get_or-set_other table a (get_or labels w 0) (k + 2) 0 (λ r. p (apart w x (omega arith) l t (on near x q) (r ∙ i))) ∙ h w (omega arith) t)
       go (no p) (no q) = rw (ne_eqb (get_or near x 0) 1 q) (h w (omega arith) t)
 
-pub ranked_end : (near labels table : List ℕ) (x n : ℕ) → x ≡ n → Ranked near labels x table → Ranked near labels n table
-ranked_end near labels table x n e h = rw (← e) h
-
 -- ---- the search over rows
-
-module _ (ports : List ℕ) (c a p v w : ℕ) where
-  pub found_first : c ≡ p → pick (eqb (get_or ports v 0) a) v w ≡ found ports c a p v w
-  unfolding found
-  found_first e = rw (eq-eqb c p e)
-
-  pub found_second : (c ≡ p → ⊥) → c ≡ v → pick (eqb (get_or ports p 0) a) p w ≡ found ports c a p v w
-  unfolding found
-  found_second d e = rw (ne_eqb c p d, eq-eqb c v e)
-
-  pub found_none : (c ≡ p → ⊥) → (c ≡ v → ⊥) → w ≡ found ports c a p v w
-  unfolding found
-  found_none d f = rw (ne_eqb c p d, ne_eqb c v f)
 
 -- a row is among the first m
 adjacent_row : (ps cs : List ℕ) (c x i m : ℕ) → i < m → T (ends (row ps cs i) c x) → T (adjacent (rows ps cs m) c x)

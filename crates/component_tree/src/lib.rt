@@ -7,7 +7,11 @@ ghost use Rattle.base.specs.Pick.{pick};
 ghost use Rattle.base.specs.Sets.{bit, count};
 ghost use Rattle.tree.specs.Component.{centre, degree, neighbour};
 ghost use Rattle.marks.specs.Marks.{marked, numbered};
-ghost use Rattle.component_tree.specs.Inner.{tree, OfTree, Ports, Apart, found};
+ghost use Rattle.tree_pass.specs.Tree.{edges_of};
+ghost use Rattle.component_tree.specs.Inner.{Ports, Apart, found};
+ghost use Rattle.component_tree.specs.Tree.{SetOf};
+
+use tree_pass::Tree;
 
 // Labels are bytes: a table has a place for each.
 const LABELS: usize = 256;
@@ -29,52 +33,41 @@ fn ranks(near: &[u8], labels: &[u8], table: &mut [u8; LABELS], n: usize) -> usiz
     requires { (n ≤ length near.now) × (n ≤ length labels.now) × Apart near.now labels.now n × (count n (marked near.now) < max_vertices) }
     ensures { (result ≡ count n (marked near.now)) × ((w : ℕ) → w < n → T (marked near.now w) → get_or table.new (get_or labels.now w 0) 0 ≡ suc (count (suc w) (marked near.now))) }
 {
-    let mut k: u8 = 0;
-    let mut x = 0;
-    while x < n {
-        k = rank(near[x], table, marks::wide(labels[x]), k);
-        x += 1;
+    let mut k = 0u8;
+    for x in 0..n {
+        k = rank(near[x], table, usize::from(labels[x]), k);
     }
-    marks::wide(k)
+    usize::from(k)
 }
 
 // v where there is a mark, else 0.
 fn only(mark: u8, v: u8) -> u8
     ensures { result ≡ pick (eqb mark 1) v 0 }
 {
-    if mark == 1 {
-        return v;
-    }
-    0
+    if mark == 1 { v } else { 0 }
 }
 
 // Each of the first n positions that is a member gets the number that the table has for its label.
+#[tactic(auto, unfolding(marks::specs::Marks::marked))]
 fn renumber(ports: &mut [u8], labels: &[u8], table: &[u8; LABELS], n: usize)
     requires { (n ≤ length ports.old) × (n ≤ length labels.now) }
     ensures { (x : ℕ) → get_or ports.new x 0 ≡ pick (ltb x n) (pick (marked ports.old x) (get_or table.now (get_or labels.now x 0) 0) 0) (get_or ports.old x 0) }
 {
-    let mut x = 0;
-    while x < n {
-        ports[x] = only(ports[x], table[marks::wide(labels[x])]);
-        x += 1;
+    for x in 0..n {
+        ports[x] = only(ports[x], table[usize::from(labels[x])]);
     }
 }
 
 // How many neighbours the centre c of a component has; each position gets its port's number in place of its mark.
-pub fn number(
-    ps: &[u16],
-    cs: &[u16],
-    ports: &mut [u8; base::MAX_VERTICES],
-    n: usize,
-    c: usize,
-) -> usize
-    requires { OfTree ps.now cs.now n (marked ports.old) × ((x : ℕ) → get_or ports.old x 0 ≤ 1) × (c ≡ centre (tree ps.now cs.now n) n (marked ports.old)) }
-    ensures { (result ≡ degree (tree ps.now cs.now n) n (marked ports.old)) × Ports (tree ps.now cs.now n) n (marked ports.old) ports.new }
+pub fn number(tree: &Tree, ports: &mut [u8; base::MAX_VERTICES], c: usize) -> usize
+    requires { SetOf tree.now (marked ports.old) × ((x : ℕ) → get_or ports.old x 0 ≤ 1) × (c ≡ centre (edges_of tree.now) tree.now.positions (marked ports.old)) }
+    ensures { (result ≡ degree (edges_of tree.now) tree.now.positions (marked ports.old)) × Ports (edges_of tree.now) tree.now.positions (marked ports.old) ports.new }
 {
+    let n = tree.positions;
     ports[c] = 0;
     let mut labels = [0u8; base::MAX_VERTICES];
     let mut near = [0u8; base::MAX_VERTICES];
-    tree_pass::around(ps, cs, ports, &mut labels, &mut near, c, n, n - 1);
+    tree_pass::around(tree, ports, &mut labels, &mut near, c);
     let mut table = [0u8; LABELS];
     let d = ranks(&near, &labels, &mut table, n);
     renumber(ports, &labels, &table, n);
@@ -86,36 +79,33 @@ pub fn number(
 fn if_number(x: u8, a: usize, v: usize, w: usize) -> usize
     ensures { result ≡ pick (eqb x a) v w }
 {
-    if marks::wide(x) == a {
-        return v;
-    }
-    w
+    if usize::from(x) == a { v } else { w }
 }
 
 // The other end of a row at c, if its number is a; else w.
+#[tactic(auto, unfolding(crate::specs::Inner::found))]
 fn beside(ports: &[u8], c: usize, a: usize, p: usize, v: usize, w: usize) -> usize
     requires { (p < length ports.now) × (v < length ports.now) }
     ensures { result ≡ found ports.now c a p v w }
 {
     if c == p {
-        return if_number(ports[v], a, v, w);
+        if_number(ports[v], a, v, w)
+    } else if c == v {
+        if_number(ports[p], a, p, w)
+    } else {
+        w
     }
-    if c == v {
-        return if_number(ports[p], a, p, w);
-    }
-    w
 }
 
 // Neighbour k of the centre of a component.
-pub fn neighbour(ps: &[u16], cs: &[u16], ports: &[u8], n: usize, c: usize, k: usize) -> usize
-    requires { OfTree ps.now cs.now n (numbered ports.now) × Ports (tree ps.now cs.now n) n (numbered ports.now) ports.now × (n ≤ length ports.now) × (c ≡ centre (tree ps.now cs.now n) n (numbered ports.now)) × (1 ≤ k) × (k ≤ degree (tree ps.now cs.now n) n (numbered ports.now)) }
-    ensures { result ≡ neighbour (tree ps.now cs.now n) n (numbered ports.now) k }
+pub fn neighbour(tree: &Tree, ports: &[u8], c: usize, k: usize) -> usize
+    requires { SetOf tree.now (numbered ports.now) × Ports (edges_of tree.now) tree.now.positions (numbered ports.now) ports.now × (tree.now.positions ≤ length ports.now) × (c ≡ centre (edges_of tree.now) tree.now.positions (numbered ports.now)) × (1 ≤ k) × (k ≤ degree (edges_of tree.now) tree.now.positions (numbered ports.now)) }
+    ensures { result ≡ neighbour (edges_of tree.now) tree.now.positions (numbered ports.now) k }
 {
-    let mut w = n;
-    let mut i = 0;
-    while i < n - 1 {
-        w = beside(ports, c, k + 1, base::wide(ps[i]), base::wide(cs[i]), w);
-        i += 1;
+    let mut w = tree.positions;
+    for i in 0..tree.positions - 1 {
+        let (p, v) = tree_pass::row(tree, i);
+        w = beside(ports, c, k + 1, p, v, w);
     }
     w
 }

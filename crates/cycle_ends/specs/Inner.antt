@@ -1,13 +1,7 @@
 -- The two vertices that are kept at the root of each set, and where they go when an edge is undone. Serves proofs, and contracts of inner functions.
-use Rattle.std.specs.Prelude.{List, ℕ, ◌≤◌, eqb, length, get_or, set}
+use Rattle.std.specs.Prelude.{List, ℕ, eqb, get_or, set}
 use Rattle.base.specs.Pick.{pick}
 use Rattle.union_find.specs.Inner.{root}
-
--- the columns have a place for each vertex
-pub record Columns (n : ℕ) (up from to : List ℕ) : Type 0 where
-  pub up_long : n ≤ length up
-  pub from_long : n ≤ length from
-  pub to_long : n ≤ length to
 
 -- x where it is in the set of r, else c
 unfoldable pub pulled : ℕ → List ℕ → ℕ → ℕ → ℕ → ℕ

@@ -13,8 +13,8 @@ use Rattle.union_find.specs.Inner.{together, Rooted}
 use Rattle.edges.specs.Rows.{rows}
 use Rattle.edges.proofs.Rows.{rows_length}
 use Rattle.cycles.specs.Inner.{needed}
-use Rattle.cycle_ends.specs.Inner.{Columns, shifted}
-use Rattle.cycle_search.specs.Inner.{cut, Undoes, Kept, Undoable, SameNeed}
+use Rattle.cycle_ends.specs.Inner.{shifted}
+use Rattle.cycle_search.specs.Inner.{Columns, cut, Undoes, Kept, Undoable, SameNeed}
 use Rattle.cycle_search.proofs.Undoing.{l_below, h_below, x_below, y_below, cut_rooted, kept_after, mark_of, need_after}
 
 -- a store leaves a column as long as it was

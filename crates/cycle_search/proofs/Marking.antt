@@ -18,8 +18,7 @@ use Rattle.cycles.specs.Cycles.{on_cycle}
 use Rattle.cycles.specs.Statement.{Rejected}
 use Rattle.cycles.specs.Inner.{needed}
 use Rattle.cycles.proofs.Steps.{rejected_acyclic, latest_on, before_on}
-use Rattle.cycle_ends.specs.Inner.{Columns}
-use Rattle.cycle_search.specs.Inner.{Undoes, Undoable, SameNeed}
+use Rattle.cycle_search.specs.Inner.{Columns, Undoes, Undoable, SameNeed}
 use Rattle.cycle_search.proofs.Sets.{sets_of}
 use Rattle.cycle_search.proofs.Columns.{long, row, rows_next}
 use Rattle.cycle_search.proofs.Starting.{starts_kept, starts_need}

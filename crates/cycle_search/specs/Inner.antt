@@ -5,7 +5,6 @@ use Rattle.tree.specs.Inner.{Acyclic}
 use Rattle.union_find.specs.Inner.{root, steps, Top, together, Rooted}
 use Rattle.edges.specs.Rows.{rows}
 use Rattle.cycles.specs.Inner.{needed, numbered}
-use Rattle.cycle_ends.specs.Inner.{Columns}
 
 -- the sets of `up` are those that the edges join
 pub record Sets (n : ℕ) (E : Edges) (up : List ℕ) : Type 0 where
@@ -33,6 +32,12 @@ Undoes n moved (e ∷ E) up =
 pub record Kept (n : ℕ) (up from to : List ℕ) : Type 0 where
   pub first : (r : ℕ) → r < n → Top up r → (get_or from r 0 < n) × (root n up (get_or from r 0) ≡ r)
   pub second : (r : ℕ) → r < n → Top up r → (get_or to r 0 < n) × (root n up (get_or to r 0) ≡ r)
+
+-- the columns have a place for each vertex
+pub record Columns (n : ℕ) (up from to : List ℕ) : Type 0 where
+  pub up_long : n ≤ length up
+  pub from_long : n ≤ length from
+  pub to_long : n ≤ length to
 
 -- the first m edges, which close no cycle, are joined and can be undone one by one; two vertices are kept at each root
 pub record Undoable (n m : ℕ) (one two moved up from to : List ℕ) : Type 0 where

@@ -2,7 +2,7 @@
 use mathlib.Core.Path.{◌≡◌, refl}
 use mathlib.Core.List.{[], ◌∷◌}
 use Rattle.varint.specs.Varint.{pieces}
-use Rattle.tree.specs.Edges.{Edge, Edges}
+use Rattle.tree.specs.Edges.{Edges}
 use Rattle.plan.specs.Bytes.{edge_bytes}
 use Rattle.drawing.specs.Drawing.{drawn_plan}
 

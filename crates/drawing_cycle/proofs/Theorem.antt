@@ -11,9 +11,9 @@ use borrow.Author.Tests.{eqb-true}
 use Rattle.base.specs.Pick.{pick}
 use Rattle.base.specs.Limits.{max_rows}
 use Rattle.base.specs.Found.{Found, found, refused}
-use Rattle.varint.specs.declared.VarintRead.{VarintRead}
 use Rattle.varint.specs.Varint.{varint_bytes}
 use Rattle.varint.specs.Reading.{varint_at}
+use Rattle.varint.proofs.Laws.{same_value}
 use Rattle.varint.proofs.RoundTrip.{varint_read_at}
 use Rattle.tree.specs.Edges.{Edge, Edges, Below}
 use Rattle.cycles.specs.Cycles.{chosen, on_cycle}
@@ -63,7 +63,7 @@ count_written : (s : List ℕ) (v w : ℕ) (p q : List ℕ) → v < 2 ^ 32 → w
 count_written s v w p q k l i j =
     let a = varint_read_at v s (varint_bytes 1) p (length (varint_bytes 1)) k i refl in
     let b = varint_read_at w s (varint_bytes 1) q (length (varint_bytes 1)) l j refl in
-    cc
+    same_value (sym a ∙ b)
 
 module _ (E : Edges) (m : length E ≤ max_rows) (b : Below (2 ^ 32) E) (place : ℕ) (e : plan_of (drawn_plan E) ≡ refused 8 place) where
   -- all edges drawn are read

@@ -1,82 +1,28 @@
--- A line read byte by byte: what the functions of this crate compute. proofs/Lines.antt shows that it is what the line says.
-use Rattle.std.specs.Prelude.{◌≡◌, Bool, true, false, not, ◌&&◌, List, ◌++◌, ℕ, ◌+◌, eqb, ltb}
+-- What is told of a line that was read. proofs/Lines.antt shows that it is what the line says.
+use Rattle.std.specs.Prelude.{◌≡◌, Option, Some, None, List, ℕ, eqb}
 use Rattle.base.specs.Pick.{pick}
 use Rattle.script_commands.specs.declared.Command.{Command}
-use Rattle.script_commands.specs.declared.Command.TheVariants.{Unknown, Boards, Agreement, Range, Start, Give}
-use Rattle.script_commands.specs.Inner.{no_keyword, keyword_with, command_named}
+use Rattle.script_commands.specs.Inner.{command_named}
 use Rattle.script_numbers.specs.declared.Number.{Number}
-use Rattle.script_numbers.specs.Inner.{no_number, number_with, is_number, reading_of}
-use Rattle.script_words.specs.Words.{is_blank}
-use Rattle.script_words.specs.Scan.{up_to, read_from, scan_by}
-use Rattle.drawing_lines.specs.declared.Line.{Line}
+use Rattle.script_numbers.specs.Inner.{reading_of}
+use Rattle.script_lines.specs.declared.Line.{Line}
+use Rattle.script_lines.specs.Lines.{no_line, line_from}
 use Rattle.drawing_lines.specs.declared.Said.{Said}
-use Rattle.drawing_lines.specs.declared.Scanned.{Scanned}
-use Rattle.drawing_lines.specs.Lines.{says}
+use Rattle.drawing_lines.specs.Lines.{edge_of, range_by, says}
 
--- no byte yet
-abbrev pub no_line : Line
-no_line = record { words = 0; inside = false; keyword = no_keyword; first = no_number; second = no_number; third = no_number }
-
--- the word that a byte belongs to, counted from 1; 4 for every further one
-abbrev pub word_of : Line → ℕ
-word_of l = pick l.inside l.words (pick (ltb l.words 4) (l.words + 1) 4)
-
--- is it the number of a vertex?
-abbrev pub is_vertex : Number → Bool
-is_vertex x = is_number x && not x.negative
-
--- is it the command of a range?
-abbrev pub is_range : Command → Bool
-is_range Unknown = false
-is_range Boards = false
-is_range Agreement = false
-is_range Range = true
-is_range Start = false
-is_range Give = false
-
--- the line with one byte more
-unfoldable pub line_with : Line → ℕ → Line
-line_with l b = pick (is_blank b) outside (inside (word_of l))
-  where
-    outside : Line
-    outside = record { words = l.words; inside = false; keyword = l.keyword; first = l.first; second = l.second; third = l.third }
-
-    inside : ℕ → Line
-    inside w = record {
-      words = w;
-      inside = true;
-      keyword = pick (eqb w 1) (keyword_with l.keyword b) l.keyword;
-      first = pick (eqb w 1) (number_with l.first b) l.first;
-      second = pick (eqb w 2) (number_with l.second b) l.second;
-      third = pick (eqb w 3) (number_with l.third b) l.third;
-    }
-
--- the line that is read from bytes
-abbrev pub line_from : Line → List ℕ → Line
-line_from = read_from line_with
+-- so many words, of which the first is a command or a number
+abbrev pub said_by : Option Command → ℕ → Number → Number → Number → Option Said
+said_by c w x y z =
+    pick (eqb w 0) (Some Said.Nothing)
+    (pick (eqb w 2) (edge_of (reading_of x) (reading_of y))
+    (pick (eqb w 3) (range_by c (reading_of y) (reading_of z))
+    None))
 
 -- what was read says
-unfoldable pub line_said : Line → Said
-line_said l =
-    pick (eqb l.words 0) Said.Nothing
-    (pick (eqb l.words 2 && (is_vertex l.first && is_vertex l.second)) (Said.Edge l.first.magnitude l.second.magnitude)
-    (pick (eqb l.words 3 && (is_range (command_named l.keyword) && (is_number l.second && is_number l.third))) (Said.Range (reading_of l.second) (reading_of l.third))
-    Said.Unreadable))
+unfoldable pub line_said : Line → Option Said
+line_said l = said_by (command_named l.keyword) l.words l.first l.second l.third
 
 -- r is what was read, and so what the line's bytes say
-pub record Tells (l : Line) (r : Said) : Type 0 where
+pub record Tells (l : Line) (r : Option Said) : Type 0 where
   pub read : r ≡ line_said l
   pub line : (s : List ℕ) → l ≡ line_from no_line s → r ≡ says s
-
--- what is found at a place
-abbrev pub found : Bool → Line → ℕ → Scanned
-found ended l next = record { ended = ended; line = l; next = next }
-
--- the line l goes on with the bytes s from place i on, up to the next newline
-abbrev pub scanned : Line → List ℕ → ℕ → Scanned
-scanned = scan_by line_with found
-
--- that is what reading on finds; after the bytes p of a line, the line so far is that of all its bytes
-pub record Scans (l : Line) (s : List ℕ) (i : ℕ) (r : Scanned) : Type 0 where
-  pub found : r ≡ scanned l s i
-  pub line : (p : List ℕ) → l ≡ line_from no_line p → r.line ≡ line_from no_line (p ++ up_to s)

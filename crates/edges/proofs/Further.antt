@@ -14,7 +14,10 @@ use Rattle.base.specs.Limits.{max_degree, max_vertices}
 use Rattle.tree.specs.Edges.{Edges, edges_at, Below}
 use Rattle.union_find.specs.Inner.{Unions}
 use Rattle.edges.specs.Rows.{rows}
-use Rattle.edges.specs.Inner.{fault_in, Degrees, EdgeList, edges_in, Columns, Listing}
+use Rattle.edges.specs.Inner.{fault_in, Degrees, TreeSoFar}
+use Rattle.edges.specs.Columns.{edges_in, tree_so_far, Columns, Listing}
+use Rattle.edges.specs.declared.EdgeList.TheInside.{Inside}
+use Rattle.edges.proofs.Rows.{rows_length}
 use Rattle.edges.proofs.OneEdge.{Passed, passed, fault_agrees}
 
 -- a store at i leaves the first i rows as they were
@@ -40,19 +43,31 @@ pub no_rows : (ps cs : List ℕ) → rows ps cs 0 ≡ []
 unfolding rows
 no_rows ps cs = refl
 
-pub none_listed : (l : EdgeList) → l.vertices ≤ max_vertices → l.count ≡ 0 → Columns l → Unions l.vertices [] l.up l.weight → Degrees l.vertices [] l.degree → Listing l
+pub none_listed : (l : Inside) → l.vertices ≤ max_vertices → l.count ≡ 0 → Columns l → Unions l.vertices [] l.up l.weight → Degrees l.vertices [] l.degree → Listing l
 none_listed l k e c u d =
     let i : edges_in l ≡ [] = ap (rows l.one l.two) e ∙ no_rows l.one l.two in
     record {
       within = k;
+      most = omega arith;
       columns = c;
       below = subst (λ (E : Edges). Below l.vertices E) (sym i) tt;
       unions = subst (λ (E : Edges). Unions l.vertices E l.up l.weight) (sym i) u;
       degrees = subst (λ (E : Edges). Degrees l.vertices E l.degree) (sym i) d;
     }
 
+-- what a list is to its callers: how many edges, and what they ask of a further one
+module _ (l : Inside) {t : TreeSoFar} (seen : tree_so_far l ≡ t) where
+  pub many : length t.edges ≡ l.count
+  many = ap (λ (x : TreeSoFar). length x.edges) (sym seen) ∙ rows_length l.one l.two l.count
+
+  pub room_for_one : length t.edges + 1 < t.vertices → l.count + 1 < l.vertices
+  room_for_one h = omega (arith, many, ap (λ (x : TreeSoFar). x.vertices) seen)
+
+  pub passes : (a b : ℕ) → fault_in t.vertices t.edges a b ≡ 0 → fault_in l.vertices (edges_in l) a b ≡ 0
+  passes a b e = ap (λ (x : TreeSoFar). fault_in x.vertices x.edges a b) seen ∙ e
+
 -- an edge that has no fault passes
-pub edge_passed : (l : EdgeList) → Listing l → (a b : ℕ) → fault_in l.vertices (edges_in l) a b ≡ 0 → Passed l.vertices l.degree a b
+pub edge_passed : (l : Inside) → Listing l → (a b : ℕ) → fault_in l.vertices (edges_in l) a b ≡ 0 → Passed l.vertices l.degree a b
 edge_passed l h a b e =
     passed l.vertices l.up l.degree a b (fault_agrees l.vertices (edges_in l) l.up l.weight l.degree h.unions h.degrees a b ∙ e)
 
@@ -75,8 +90,8 @@ module _ (v : ℕ) (E : Edges) (degree : List ℕ) (a b : ℕ) (d : Degrees v E 
       }
 
 -- one edge more
-module _ (l : EdgeList) (h : Listing l) (a b : ℕ) (k : l.count + 1 < l.vertices) (e : fault_in l.vertices (edges_in l) a b ≡ 0) (up weight degree : List ℕ) where
-  abbrev more : EdgeList
+module _ (l : Inside) (h : Listing l) (a b : ℕ) (k : l.count + 1 < l.vertices) (e : fault_in l.vertices (edges_in l) a b ≡ 0) (up weight degree : List ℕ) where
+  abbrev more : Inside
   more = record { vertices = l.vertices; count = l.count + 1; one = set l.one l.count a; two = set l.two l.count b; up = up; weight = weight; degree = degree }
 
   pub more_in : edges_in more ≡ record { one = a; two = b } ∷ edges_in l
@@ -90,6 +105,7 @@ module _ (l : EdgeList) (h : Listing l) (a b : ℕ) (k : l.count + 1 < l.vertice
       let p : Passed l.vertices l.degree a b = edge_passed l h a b e in
       record {
         within = h.within;
+        most = omega (arith, h.within);
         columns = record {
           one = omega (arith, length-set l.one l.count a, h.columns.one);
           two = omega (arith, length-set l.two l.count b, h.columns.two);

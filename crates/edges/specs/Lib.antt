@@ -1,3 +1,4 @@
 pub mod Reading
 pub mod Rows
 pub mod Inner
+pub mod Columns

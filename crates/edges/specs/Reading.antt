@@ -1,16 +1,14 @@
 -- Document 01, "Questions at the door", 4 and 7 to 9: the edges of a plan, left to right, "both groups of an edge .. read before 7 .. is asked".
-use Rattle.std.specs.Prelude.{Bool, not, ◌&&◌, List, ◌∷◌, ℕ, zero, suc, ltb, eqb}
+use Rattle.std.specs.Prelude.{Bool, not, ◌&&◌, List, ◌∷◌, ℕ, zero, suc, ltb, eqb, Ok, Err}
 use Rattle.base.specs.Found.{Found, refused, ask}
 use Rattle.base.specs.Limits.{max_degree}
-use Rattle.varint.specs.declared.VarintRead.{VarintRead}
-use Rattle.varint.specs.Reading.{varint_at}
-use Rattle.tree.specs.Edges.{Edge, Edges, all, joined, edges_at}
+use Rattle.varint.specs.Reading.{VarintRead, varint_at}
+use Rattle.tree.specs.Edges.{Edges, all, joined, edges_at}
 
 -- "Is each group whole and well formed? 4": what is read at `at`, and then what follows it
 abbrev pub onward : {A : Type 0} → ℕ → VarintRead → (ℕ → ℕ → Found A) → Found A
-onward at (VarintRead.Value v next) f = f v next
-onward at (VarintRead.Short least) f = refused 4 at
-onward at VarintRead.Malformed f = refused 4 at
+onward at (Ok r) f = f r.value r.next
+onward at (Err e) f = refused 4 at
 
 abbrev pub varint_then : {A : Type 0} → List ℕ → ℕ → (ℕ → ℕ → Found A) → Found A
 varint_then s at f = onward at (varint_at s at) f

@@ -8,18 +8,19 @@ use lib.ListN.{length, take, drop, length-append, length-take, length-drop}
 use lib.Seq.{drop-drop, take-append_seam, drop-append_seam}
 use Rattle.base.specs.Limits.{max_number}
 use Rattle.base.proofs.Parts.{part_none, part_join}
-use Rattle.varint.specs.declared.VarintRead.TheVariants.{Value, Short, Malformed}
+use Rattle.std.specs.Prelude.{Err}
+use Rattle.varint.specs.declared.VarintError.TheVariants.{Short}
 use Rattle.varint.specs.Varint.{AllBytes, varint_bytes}
-use Rattle.varint.specs.Reading.{varint_at}
+use Rattle.varint.specs.Reading.{value, varint_at}
 use Rattle.varint.specs.Statement.{BytesAt, Beginning}
 use Rattle.varint.proofs.RoundTrip.{varint_was_written, value_place}
+use Rattle.varint.proofs.Laws.{same_value, same_next}
 use Rattle.varint.proofs.Further.{varint_value_stays}
 use Rattle.format.specs.declared.Fault.{Fault}
-use Rattle.format.specs.declared.FieldRead.{FieldRead}
 use Rattle.format.specs.Format.{Format, says, field, Spells}
-use Rattle.format.specs.Reading.{field_at, failed, read_at}
+use Rattle.format.specs.Reading.{failed, field_at, read_at}
 use Rattle.format.specs.Statement.{Sensible, Leads, Breaks, Fails}
-use Rattle.format.proofs.Fields.{Finds, good, outside, cut, cut_outside, malformed, finds, read_as, of_value}
+use Rattle.format.proofs.Fields.{Finds, good, outside, cut, cut_outside, malformed, finds, read_as, of_value, same_failed}
 use Rattle.varint.proofs.Bytes.{from_to, value_stands, read_there, read_further, short_completed, short_begins, short_least, none_begins, none_stands}
 use Rattle.format.proofs.Reading.{read_on, read_fails, some}
 
@@ -27,18 +28,17 @@ use Rattle.format.proofs.Reading.{read_on, read_fails, some}
 
 -- the first field fails, or it is read and a later one fails
 pub data Failing {A : Type 0} (low high : ℕ) (rest : ℕ → Format A) (s : List ℕ) (at : ℕ) (fault : Fault) (place : ℕ) : Type 0 where
-  here : field_at low high s at ≡ FieldRead.Failed fault → at ≡ place → Failing low high rest s at fault place
-  later : (v n : ℕ) → low ≤ v → v ≤ high → varint_at s at ≡ Value v n → read_at (rest v) s n ≡ failed fault place → Failing low high rest s at fault place
+  here : field_at low high s at ≡ failed fault at → at ≡ place → Failing low high rest s at fault place
+  later : (v n : ℕ) → low ≤ v → v ≤ high → varint_at s at ≡ value v n → read_at (rest v) s n ≡ failed fault place → Failing low high rest s at fault place
 
 pub failing : {A : Type 0} (low high : ℕ) (rest : ℕ → Format A) (s : List ℕ) (at : ℕ) (fault : Fault) (place : ℕ) → read_at (field low high rest) s at ≡ failed fault place
     → Failing low high rest s at fault place
 failing {A} low high rest s at fault place e = go (finds low high s at)
   where
-    first : {x : Fault} → field_at low high s at ≡ FieldRead.Failed x → Failing low high rest s at fault place
+    first : {x : Fault} → field_at low high s at ≡ failed x at → Failing low high rest s at fault place
     first {x} h =
-        let y = sym (read_fails low high rest s at h) ∙ e in
-        let ef : x ≡ fault = cc in
-        here (h ∙ ap FieldRead.Failed ef) (cc)
+        let w = same_failed (sym (read_fails low high rest s at h) ∙ e) in
+        here (h ∙ ap (λ (z : Fault). failed z at) w.0) w.1
 
     go : Finds low high s at → Failing low high rest s at fault place
     go (good v n p q g h) = later v n p q g (sym (read_on low high rest s at h) ∙ e)
@@ -48,15 +48,13 @@ failing {A} low high rest s at fault place e = go (finds low high s at)
     go (malformed g h) = first h
 
 -- what its fault says of the bytes from it on
-pub field_breaks : (low high : ℕ) (s : List ℕ) (at : ℕ) (fault : Fault) → low < 128 → low ≤ high → AllBytes s → at ≤ length s → field_at low high s at ≡ FieldRead.Failed fault
+pub field_breaks : (low high : ℕ) (s : List ℕ) (at : ℕ) (fault : Fault) → low < 128 → low ≤ high → AllBytes s → at ≤ length s → field_at low high s at ≡ failed fault at
     → Breaks low high (drop at s) fault
 field_breaks low high s at fault k j b l e = go (finds low high s at)
   where
-    is : {x : Fault} → field_at low high s at ≡ FieldRead.Failed x → Breaks low high (drop at s) x → Breaks low high (drop at s) fault
+    is : {x : Fault} → field_at low high s at ≡ failed x at → Breaks low high (drop at s) x → Breaks low high (drop at s) fault
     is {x} h y =
-        let z : FieldRead.Failed x ≡ FieldRead.Failed fault = sym h ∙ e in
-        let ef : x ≡ fault = cc in
-        subst (Breaks low high (drop at s)) ef y
+        subst (Breaks low high (drop at s)) (same_failed (sym h ∙ e)).0 y
 
     go : Finds low high s at → Breaks low high (drop at s) fault
     go (good v n p q g h) = let z : ◌≡◌ {A = ℕ} 0 1 = cc in absurd (omega arith)
@@ -74,18 +72,18 @@ field_breaks low high s at fault k j b l e = go (finds low high s at)
 -- and what is as a fault says is read so
 module _ (low high : ℕ) (s : List ℕ) (at : ℕ) (b : AllBytes s) (l : at ≤ length s) where
   -- where the bytes end inside a varint, none stands
-  unended : (v : ℕ) → v ≤ max_number → Beginning (varint_bytes v) (drop at s) → (u n : ℕ) → varint_at s at ≡ Value u n → ⊥
+  unended : (v : ℕ) → v ≤ max_number → Beginning (varint_bytes v) (drop at s) → (u n : ℕ) → varint_at s at ≡ value u n → ⊥
   unended v h i u n g =
-      let f : varint_at (s ++ i.0) at ≡ Value u n = varint_value_stays s i.0 at u n g in
-      let k : Value u n ≡ Value v (at + length (varint_bytes v)) = sym f ∙ read_further s at l v h i in
-      let en : n ≡ at + length (varint_bytes v) = cc in
+      let f : varint_at (s ++ i.0) at ≡ value u n = varint_value_stays s i.0 at u n g in
+      let k : value u n ≡ value v (at + length (varint_bytes v)) = sym f ∙ read_further s at l v h i in
+      let en : n ≡ at + length (varint_bytes v) = same_next k in
       let p = value_place 5 s at u n g in
       omega (arith, p.1, i.1, ap length i.2, length-append (drop at s) i.0, length-drop at s)
 
-  pub breaks_read : (fault : Fault) → high ≤ max_number → Breaks low high (drop at s) fault → field_at low high s at ≡ FieldRead.Failed fault
+  pub breaks_read : (fault : Fault) → high ≤ max_number → Breaks low high (drop at s) fault → field_at low high s at ≡ failed fault at
   breaks_read Fault.Cut m (v, p, q, i) = go (finds low high s at)
     where
-      go : Finds low high s at → field_at low high s at ≡ FieldRead.Failed Fault.Cut
+      go : Finds low high s at → field_at low high s at ≡ failed Fault.Cut at
       go (good u n _ _ g h) = absurd (unended v (omega arith) i u n g)
       go (outside u n _ g h) = absurd (unended v (omega arith) i u n g)
       go (cut least _ g h) = h
@@ -93,7 +91,7 @@ module _ (low high : ℕ) (s : List ℕ) (at : ℕ) (b : AllBytes s) (l : at ≤
       go (malformed g h) = absurd (none_begins s at l g v (omega arith) i)
   breaks_read Fault.CutOutside m ((v, p, i), above) = go (finds low high s at)
     where
-      go : Finds low high s at → field_at low high s at ≡ FieldRead.Failed Fault.CutOutside
+      go : Finds low high s at → field_at low high s at ≡ failed Fault.CutOutside at
       go (good u n _ _ g h) = absurd (unended v p i u n g)
       go (outside u n _ g h) = absurd (unended v p i u n g)
       go (cut least o g h) =
@@ -103,13 +101,13 @@ module _ (low high : ℕ) (s : List ℕ) (at : ℕ) (b : AllBytes s) (l : at ≤
       go (malformed g h) = absurd (none_begins s at l g v p i)
   breaks_read Fault.Malformed m none = go (finds low high s at)
     where
-      stands : (u n : ℕ) → varint_at s at ≡ Value u n → ⊥
+      stands : (u n : ℕ) → varint_at s at ≡ value u n → ⊥
       stands u n g = let w = value_stands s at u n b g in (none u w.0).1 (drop n s) w.1
 
-      ends : (least : ℕ) → varint_at s at ≡ Short least → ⊥
+      ends : (least : ℕ) → varint_at s at ≡ Err (Short least) → ⊥
       ends least g = let w = short_begins s at least b l g in (none least w.0).0 w.1
 
-      go : Finds low high s at → field_at low high s at ≡ FieldRead.Failed Fault.Malformed
+      go : Finds low high s at → field_at low high s at ≡ failed Fault.Malformed at
       go (good u n _ _ g h) = absurd (stands u n g)
       go (outside u n _ g h) = absurd (stands u n g)
       go (cut least _ g h) = absurd (ends least g)
@@ -117,17 +115,17 @@ module _ (low high : ℕ) (s : List ℕ) (at : ℕ) (b : AllBytes s) (l : at ≤
       go (malformed g h) = h
   breaks_read Fault.Outside m (v, p, q, e, o) = go (finds low high s at)
     where
-      there : varint_at s at ≡ Value v (at + length (varint_bytes v))
+      there : varint_at s at ≡ value v (at + length (varint_bytes v))
       there = read_there s at l v p q e
 
       both : (u : ℕ) → u ≡ v → (v < low) ⊎ (high < v) → low ≤ u → u ≤ high → ⊥
       both u z (inl x) y w = omega arith
       both u z (inr x) y w = omega arith
 
-      go : Finds low high s at → field_at low high s at ≡ FieldRead.Failed Fault.Outside
+      go : Finds low high s at → field_at low high s at ≡ failed Fault.Outside at
       go (good u n y w g h) =
-          let k : Value u n ≡ Value v (at + length (varint_bytes v)) = sym g ∙ there in
-          let z : u ≡ v = cc in
+          let k : value u n ≡ value v (at + length (varint_bytes v)) = sym g ∙ there in
+          let z : u ≡ v = same_value k in
           absurd (both u z o y w)
       go (outside u n _ g h) = h
       go (cut least _ g h) = let y = there in let z : ◌≡◌ {A = ℕ} 0 1 = cc in absurd (omega arith)
@@ -218,7 +216,7 @@ nothing_between s at place before e o =
 
 -- bytes that begin with a varint: it is read, and the others stand behind it
 first_of : (s : List ℕ) (at place v : ℕ) (more : List ℕ) {before : List ℕ} → v ≤ max_number → BytesAt s at place before → before ≡ varint_bytes v ++ more
-    → (varint_at s at ≡ Value v (at + length (varint_bytes v))) × BytesAt s (at + length (varint_bytes v)) place more
+    → (varint_at s at ≡ value v (at + length (varint_bytes v))) × BytesAt s (at + length (varint_bytes v)) place more
 first_of s at place v more h o e =
     let bs : List ℕ = varint_bytes v in
     let n : ℕ = at + length bs in
@@ -243,7 +241,7 @@ leads_read (field x y rest) (k0, k1, k2, k) s at fault place b low high before (
 leads_read (field x y rest) (k0, k1, k2, k) s at fault place b low high before (inr (v, p, q, more, e, g)) o r =
     let w = first_of s at place v more (omega arith) o e in
     let n : ℕ = at + length (varint_bytes v) in
-    read_on x y rest s at (sym (read_as x y s at w.0 (of_value x y v n p q)))
+    read_on x y rest s at (sym (read_as x y s at w.0 (of_value x y at v n p q)))
     ∙ leads_read (rest v) (k v p q) s n fault place b low high more g w.1 r
 
 pub fails_read : {A : Type 0} (f : Format A) → Sensible f → (s : List ℕ) (at : ℕ) (fault : Fault) (place : ℕ) → AllBytes s → Fails f s at fault place → read_at f s at ≡ failed fault place

@@ -7,27 +7,28 @@ use native.Mathlib.Omega.{arith}
 use native.Mathlib.Nat.{le_refl}
 use lib.ListN.{length, take, drop, length-append}
 use Rattle.base.proofs.Parts.{part_none, part_join}
-use Rattle.varint.specs.declared.VarintRead.TheVariants.{Value, Malformed}
+use Rattle.std.specs.Prelude.{Err}
+use Rattle.varint.specs.declared.VarintError.TheVariants.{Malformed}
 use Rattle.varint.specs.Varint.{AllBytes, varint_bytes}
-use Rattle.varint.specs.Reading.{varint_at}
+use Rattle.varint.specs.Reading.{value, varint_at}
 use Rattle.varint.specs.Statement.{BytesAt, Beginning}
 use Rattle.varint.proofs.RoundTrip.{varint_read_at, varint_was_written, value_place}
+use Rattle.varint.proofs.Laws.{same_value, same_next}
 use Rattle.varint.proofs.Further.{varint_value_stays, varint_malformed_stays, varint_least}
 use Rattle.format.specs.declared.Fault.{Fault}
-use Rattle.format.specs.declared.FieldRead.{FieldRead}
 use Rattle.format.specs.Format.{Format, says, field, Spells}
-use Rattle.format.specs.Reading.{field_at, whole, failed, with_field, read_at}
+use Rattle.format.specs.Reading.{Read, field_at, whole, failed, with_field, read_at}
 use Rattle.format.specs.Statement.{Sensible}
-use Rattle.format.proofs.Fields.{Finds, good, outside, cut, cut_outside, malformed, finds, read_as, of_value}
+use Rattle.format.proofs.Fields.{Finds, good, outside, cut, cut_outside, malformed, finds, read_as, of_value, same_whole}
 
 -- ---- one field, and what follows it
 
 module _ {A : Type 0} (low high : ℕ) (rest : ℕ → Format A) (s : List ℕ) (at : ℕ) where
-  pub read_on : {v next : ℕ} → field_at low high s at ≡ FieldRead.Value v next → read_at (field low high rest) s at ≡ read_at (rest v) s next
-  read_on e = ap (λ (r : FieldRead). with_field at r (λ v next. read_at (rest v) s next)) e
+  pub read_on : {v next : ℕ} → field_at low high s at ≡ whole v next → read_at (field low high rest) s at ≡ read_at (rest v) s next
+  read_on e = ap (λ (r : Read ℕ). with_field r (λ v next. read_at (rest v) s next)) e
 
-  pub read_fails : {fault : Fault} → field_at low high s at ≡ FieldRead.Failed fault → read_at (field low high rest) s at ≡ failed fault at
-  read_fails e = ap (λ (r : FieldRead). with_field at r (λ v next. read_at (rest v) s next)) e
+  pub read_fails : {fault : Fault} → field_at low high s at ≡ failed fault at → read_at (field low high rest) s at ≡ failed fault at
+  read_fails e = ap (λ (r : Read ℕ). with_field r (λ v next. read_at (rest v) s next)) e
 
 -- ---- what is written is read back
 
@@ -40,7 +41,7 @@ spelled_read (field low high rest) (k0, k1, k2, k) bs a p q (v, l, h, more, e, g
     let e2 : s ≡ (p ++ b) ++ (more ++ q) = e1 ∙ sym (append_assoc p b (more ++ q)) in
     let n : length (p ++ b) ≡ length p + length b = length-append p b in
     let r = varint_read_at v s p (more ++ q) (length p) (omega arith) e1 refl in
-    read_on low high rest s (length p) (sym (read_as low high s (length p) r (of_value low high v (length p + length b) l h)))
+    read_on low high rest s (length p) (sym (read_as low high s (length p) r (of_value low high (length p) v (length p + length b) l h)))
     ∙ ap₂ (read_at (rest v)) e2 (sym n)
     ∙ spelled_read (rest v) (k v l h) more a (p ++ b) q g
     ∙ ap (whole a) (omega (arith, ap length e, length-append b more))
@@ -49,14 +50,14 @@ spelled_read (field low high rest) (k0, k1, k2, k) bs a p q (v, l, h, more, e, g
 
 -- its first field, and what follows that
 pub whole_first : {A : Type 0} (low high : ℕ) (rest : ℕ → Format A) (s : List ℕ) (at : ℕ) (a : A) (next : ℕ) → read_at (field low high rest) s at ≡ whole a next
-    → (v n : ℕ) × (low ≤ v) × (v ≤ high) × (varint_at s at ≡ Value v n) × (read_at (rest v) s n ≡ whole a next)
+    → (v n : ℕ) × (low ≤ v) × (v ≤ high) × (varint_at s at ≡ value v n) × (read_at (rest v) s n ≡ whole a next)
 whole_first low high rest s at a next e = go (finds low high s at)
   where
-    none : {fault : Fault} → field_at low high s at ≡ FieldRead.Failed fault
-        → (v n : ℕ) × (low ≤ v) × (v ≤ high) × (varint_at s at ≡ Value v n) × (read_at (rest v) s n ≡ whole a next)
+    none : {fault : Fault} → field_at low high s at ≡ failed fault at
+        → (v n : ℕ) × (low ≤ v) × (v ≤ high) × (varint_at s at ≡ value v n) × (read_at (rest v) s n ≡ whole a next)
     none h = let y = read_fails low high rest s at h in let z : ◌≡◌ {A = ℕ} 0 1 = cc in absurd (omega arith)
 
-    go : Finds low high s at → (v n : ℕ) × (low ≤ v) × (v ≤ high) × (varint_at s at ≡ Value v n) × (read_at (rest v) s n ≡ whole a next)
+    go : Finds low high s at → (v n : ℕ) × (low ≤ v) × (v ≤ high) × (varint_at s at ≡ value v n) × (read_at (rest v) s n ≡ whole a next)
     go (good v n p q g h) = (v, n, p, q, g, sym (read_on low high rest s at h) ∙ e)
     go (outside v n p g h) = none h
     go (cut least p g h) = none h
@@ -65,7 +66,7 @@ whole_first low high rest s at a next e = go (finds low high s at)
 
 -- it ends within the bytes
 pub whole_place : {A : Type 0} (f : Format A) (s : List ℕ) (at : ℕ) (a : A) (next : ℕ) → at ≤ length s → read_at f s at ≡ whole a next → (at ≤ next) × (next ≤ length s)
-whole_place (says x) s at a next l e = let n : at ≡ next = cc in (omega arith, omega arith)
+whole_place (says x) s at a next l e = let n = (same_whole e).1 in (omega (arith, n), omega (arith, n))
 whole_place (field low high rest) s at a next l e =
     let w = whole_first low high rest s at a next e in
     let p = value_place 5 s at w.0 w.1 w.4 in
@@ -74,7 +75,7 @@ whole_place (field low high rest) s at a next l e =
 
 -- some bytes spell it
 pub whole_spelled : {A : Type 0} (f : Format A) (s : List ℕ) (at : ℕ) (a : A) (next : ℕ) → read_at f s at ≡ whole a next → (bs : List ℕ) × Spells f bs a
-whole_spelled (says x) s at a next e = ([], (refl, (cc)))
+whole_spelled (says x) s at a next e = ([], (refl, (same_whole e).0))
 whole_spelled (field low high rest) s at a next e =
     let w = whole_first low high rest s at a next e in
     let r = whole_spelled (rest w.0) s w.1 a next w.5 in
@@ -84,8 +85,8 @@ whole_spelled (field low high rest) s at a next e =
 pub whole_written : {A : Type 0} (f : Format A) (s : List ℕ) (at : ℕ) (a : A) (next : ℕ) → AllBytes s → at ≤ length s → read_at f s at ≡ whole a next
     → (bs : List ℕ) × Spells f bs a × BytesAt s at next bs
 whole_written (says x) s at a next b l e =
-    let n : at ≡ next = cc in
-    ([], (refl, (cc)), (omega arith, omega arith, ap (λ (m : ℕ). take (m - at) (drop at s)) (sym n) ∙ part_none s at))
+    let n : at ≡ next = (same_whole e).1 in
+    ([], (refl, (same_whole e).0), (omega arith, omega arith, ap (λ (m : ℕ). take (m - at) (drop at s)) (sym n) ∙ part_none s at))
 whole_written (field low high rest) s at a next b l e =
     let w = whole_first low high rest s at a next e in
     let o = varint_was_written s at w.0 w.1 b w.4 in
@@ -108,7 +109,7 @@ whole_before (field low high rest) s t at a next e =
     go w (finds low high s at) (whole_before (rest v) s t n a next w.5)
   where
     Whole : Type 0
-    Whole = (v n : ℕ) × (low ≤ v) × (v ≤ high) × (varint_at (s ++ t) at ≡ Value v n) × (read_at (rest v) (s ++ t) n ≡ whole a next)
+    Whole = (v n : ℕ) × (low ≤ v) × (v ≤ high) × (varint_at (s ++ t) at ≡ value v n) × (read_at (rest v) (s ++ t) n ≡ whole a next)
 
     Goal : Type 0
     Goal = (read_at (field low high rest) s at ≡ whole a next) ⊎ ((place : ℕ) × (read_at (field low high rest) s at ≡ failed Fault.Cut place))
@@ -116,22 +117,22 @@ whole_before (field low high rest) s t at a next e =
     go : (w : Whole) → Finds low high s at → (read_at (rest w.0) s w.1 ≡ whole a next) ⊎ ((place : ℕ) × (read_at (rest w.0) s w.1 ≡ failed Fault.Cut place)) → Goal
     go w (good v n p q g h) r = on r
       where
-        same : varint_at (s ++ t) at ≡ Value v n
+        same : varint_at (s ++ t) at ≡ value v n
         same = varint_value_stays s t at v n g
 
         step : read_at (field low high rest) s at ≡ read_at (rest w.0) s w.1
         step =
-            let k : Value v n ≡ Value w.0 w.1 = sym same ∙ w.4 in
-            let ev : v ≡ w.0 = cc in
-            let en : n ≡ w.1 = cc in
+            let k : value v n ≡ value w.0 w.1 = sym same ∙ w.4 in
+            let ev : v ≡ w.0 = same_value k in
+            let en : n ≡ w.1 = same_next k in
             read_on low high rest s at h ∙ ap₂ (λ (x y : ℕ). read_at (rest x) s y) ev en
 
         on : (read_at (rest w.0) s w.1 ≡ whole a next) ⊎ ((place : ℕ) × (read_at (rest w.0) s w.1 ≡ failed Fault.Cut place)) → Goal
         on (inl x) = inl (step ∙ x)
         on (inr x) = inr (x.0, step ∙ x.1)
     go w (outside v n p g h) r =
-        let k : Value v n ≡ Value w.0 w.1 = sym (varint_value_stays s t at v n g) ∙ w.4 in
-        let ev : v ≡ w.0 = cc in
+        let k : value v n ≡ value w.0 w.1 = sym (varint_value_stays s t at v n g) ∙ w.4 in
+        let ev : v ≡ w.0 = same_value k in
         absurd (both p (omega (arith, w.2)) (omega (arith, w.3)))
       where
         both : (v < low) ⊎ (high < v) → low ≤ v → v ≤ high → ⊥
@@ -140,8 +141,8 @@ whole_before (field low high rest) s t at a next e =
     go w (cut least p g h) r = inr (at, read_fails low high rest s at h)
     go w (cut_outside least p g h) r = absurd (omega (arith, varint_least s t at least w.0 w.1 g w.4, w.3))
     go w (malformed g h) r =
-        let k : varint_at (s ++ t) at ≡ Malformed = varint_malformed_stays s t at g in
-        let y : varint_at (s ++ t) at ≡ Value w.0 w.1 = w.4 in
+        let k : varint_at (s ++ t) at ≡ Err Malformed = varint_malformed_stays s t at g in
+        let y : varint_at (s ++ t) at ≡ value w.0 w.1 = w.4 in
         let z : ◌≡◌ {A = ℕ} 0 1 = cc in
         absurd (omega arith)
 

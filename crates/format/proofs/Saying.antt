@@ -2,24 +2,24 @@
 use mathlib.Core.Path.{◌≡◌, refl, ap}
 use mathlib.Core.List.{List}
 use Prim.Native.Nat.{ℕ}
-use Rattle.format.specs.declared.FieldRead.{FieldRead}
+use Rattle.std.specs.Prelude.{Ok, Err}
 use Rattle.format.specs.Format.{Format, says, field, saying, Spells}
-use Rattle.format.specs.Reading.{field_at, Read, whole, failed, with_field, read_at}
+use Rattle.format.specs.Reading.{field_at, Read, whole, with_field, read_at}
 use Rattle.format.specs.Statement.{Sensible}
 
 module _ {A B : Type 0} (f : A → B) where
   abbrev pub say_read : Read A → Read B
-  say_read (whole a next) = whole (f a) next
-  say_read (failed fault at) = failed fault at
+  say_read (Ok r) = whole (f r.value) r.next
+  say_read (Err e) = Err e
 
   pub saying_read : (g : Format A) (s : List ℕ) (at : ℕ) → read_at (saying f g) s at ≡ say_read (read_at g s at)
   saying_read (says a) s at = refl
   saying_read (field low high rest) s at = go (field_at low high s at) (λ v. saying_read (rest v) s)
     where
-      go : (x : FieldRead) → ((v next : ℕ) → read_at (saying f (rest v)) s next ≡ say_read (read_at (rest v) s next))
-          → with_field at x (λ v next. read_at (saying f (rest v)) s next) ≡ say_read (with_field at x (λ v next. read_at (rest v) s next))
-      go (FieldRead.Value v next) rec = rec v next
-      go (FieldRead.Failed fault) rec = refl
+      go : (x : Read ℕ) → ((v next : ℕ) → read_at (saying f (rest v)) s next ≡ say_read (read_at (rest v) s next))
+          → with_field x (λ v next. read_at (saying f (rest v)) s next) ≡ say_read (with_field x (λ v next. read_at (rest v) s next))
+      go (Ok r) rec = rec r.value r.next
+      go (Err e) rec = refl
 
   pub saying_spells : (g : Format A) (bs : List ℕ) (a : A) → Spells g bs a → Spells (saying f g) bs (f a)
   saying_spells (says x) bs a (e, h) = (e, ap f h)

@@ -10,47 +10,36 @@ use Rattle.base.specs.Pick.{pick}
 use Rattle.base.specs.Put.{put_at}
 use Rattle.base.proofs.Puts.{then_put}
 use Rattle.varint.specs.Varint.{varint_bytes}
-use Rattle.varint.proofs.Laws.{length_last, pieces_most}
-use Rattle.format.specs.declared.Fault.{Fault}
-use Rattle.format.specs.declared.FieldRead.{FieldRead}
-use Rattle.format.specs.Format.{Format, field}
-use Rattle.format.specs.Reading.{field_at, Read, read_at}
-use Rattle.format.proofs.Reading.{read_on, read_fails}
+use Rattle.varint.proofs.Laws.{same_parsed, length_last, pieces_most}
+use Rattle.varint.specs.declared.Parsed.{Parsed}
+use Rattle.format.specs.declared.Failure.{Failure}
+use Rattle.format.specs.Format.{Format}
+use Rattle.format.specs.Reading.{whole, read_at}
 use Rattle.format.proofs.Saying.{say_read, saying_read}
 use Rattle.message.specs.declared.Message.{Message}
-use Rattle.message.specs.declared.MessageRead.{MessageRead}
 use Rattle.message.specs.Message.{kind_of, message_bytes}
 use Rattle.message.specs.Format.{message_format}
 use Rattle.message.specs.Reading.{message_at}
 use Rattle.message.proofs.Laws.{message_length, value_most}
-use Rattle.message.proofs.RoundTrip.{found_whole}
-use Rattle.message.proofs.Broken.{found_failed}
 use Rattle.journal.specs.declared.Record.{Record}
 use Rattle.journal.specs.declared.Record.TheVariants.{Start, Taken}
-use Rattle.journal.specs.declared.RecordRead.{RecordRead}
+use Rattle.std.specs.Prelude.{Ok, Err}
+use Rattle.journal.specs.Reading.{whole_record}
 use Rattle.journal.specs.Journal.{record_bytes}
-use Rattle.journal.specs.Format.{start_format, from_sender, taken_format, record_format}
-use Rattle.journal.specs.Reading.{fails_as, as_read, record_at}
+use Rattle.journal.specs.Format.{start_format, from_sender, taken_format}
 
 -- ---- reading
 
--- a format whose first field is read, or fails
-module _ (low high : ℕ) (rest : ℕ → Format Record) (s : List ℕ) (at : ℕ) where
-  pub read_next : {v next : ℕ} → field_at low high s at ≡ FieldRead.Value v next → as_read (read_at (rest v) s next) ≡ as_read (read_at (field low high rest) s at)
-  read_next e = ap as_read (sym (read_on low high rest s at e))
-
-  pub read_broken : {fault : Fault} → field_at low high s at ≡ FieldRead.Failed fault → fails_as fault ≡ as_read (read_at (field low high rest) s at)
-  read_broken e = ap as_read (sym (read_fails low high rest s at e))
-
 -- a taken message that is read, or fails
-module _ (b : ℕ) (s : List ℕ) (at : ℕ) where
-  pub read_taken : {m : Message} {next : ℕ} → message_at s at ≡ MessageRead.Read m next → RecordRead.Read (Taken b m) next ≡ as_read (read_at (from_sender b) s at)
-  unfolding message_at
-  read_taken {m} {next} e = sym (ap as_read (saying_read (Taken b) message_format s at) ∙ ap (λ (x : Read Message). as_read (say_read (Taken b) x)) (found_whole (read_at message_format s at) m next e))
+taken_as : (b : ℕ) (s : List ℕ) (at : ℕ) → read_at (from_sender b) s at ≡ say_read (Taken b) (message_at s at)
+unfolding message_at
+taken_as b s at = saying_read (Taken b) message_format s at
 
-  pub taken_broken : {fault : Fault} {place : ℕ} → message_at s at ≡ MessageRead.Failed fault place → fails_as fault ≡ as_read (read_at (from_sender b) s at)
-  unfolding message_at
-  taken_broken {fault} {place} e = sym (ap as_read (saying_read (Taken b) message_format s at) ∙ ap (λ (x : Read Message). as_read (say_read (Taken b) x)) (found_failed (read_at message_format s at) fault place e))
+pub taken_read : (b : ℕ) (s : List ℕ) (at : ℕ) {r : Parsed Message} → message_at s at ≡ Ok r → whole (Taken b r.value) r.next ≡ read_at (from_sender b) s at
+taken_read b s at e = ap (say_read (Taken b)) (sym e) ∙ sym (taken_as b s at)
+
+pub taken_fails : (b : ℕ) (s : List ℕ) (at : ℕ) {x : Failure} → message_at s at ≡ Err x → Err x ≡ read_at (from_sender b) s at
+taken_fails b s at e = ap (say_read (Taken b)) (sym e) ∙ sym (taken_as b s at)
 
 -- tag 1 is a start, the other a taken message
 abbrev pub after_tag : ℕ → Format Record
@@ -62,9 +51,9 @@ tag_start k e = rw (eq-eqb k 1 e)
 pub tag_taken : (k : ℕ) → (k ≡ 1 → ⊥) → after_tag k ≡ taken_format
 tag_taken k d = rw (ne_eqb k 1 d)
 
-pub read_record : (s : List ℕ) (at : ℕ) {r : RecordRead} → r ≡ as_read (read_at record_format s at) → r ≡ record_at s at
-unfolding record_at
-read_record s at e = e
+-- records that are read alike are the same and end at the same place
+pub same_record : {x y : Record} {m n : ℕ} → whole_record x m ≡ whole_record y n → (x ≡ y) × (m ≡ n)
+same_record e = same_parsed e
 
 -- ---- lengths
 
@@ -94,13 +83,16 @@ module _ (l l1 l2 : List ℕ) where
       let m = head_length 1 a (omega arith) in
       (omega (arith, h.0, w.0), then_put l l1 l2 0 i (varint_bytes 1 ++ varint_bytes a) (varint_bytes x) (omega arith) h.1 (omega (arith, h.0)) w.1)
 
-  pub taken_put : (s : ℕ) (m : Message) (i k : ℕ) → length (record_bytes (Taken s m)) ≤ length l → (i ≡ length (varint_bytes 2 ++ varint_bytes s)) × (l1 ≡ put_at l 0 (varint_bytes 2 ++ varint_bytes s))
+  pub taken_put : (s n : ℕ) (m : Message) (i k : ℕ) → n ≡ s → length (record_bytes (Taken s m)) ≤ length l
+      → (i ≡ length (varint_bytes 2 ++ varint_bytes n)) × (l1 ≡ put_at l 0 (varint_bytes 2 ++ varint_bytes n))
       → Written l1 i (message_bytes m) k l2 → (k ≡ length (record_bytes (Taken s m))) × (l2 ≡ put_at l 0 (record_bytes (Taken s m)))
   unfolding record_bytes
-  taken_put s m i k f h w =
-      let n = taken_length s m in
+  taken_put s n m i k e f h w =
+      let d : varint_bytes 2 ++ varint_bytes n ≡ varint_bytes 2 ++ varint_bytes s = ap (λ (x : ℕ). varint_bytes 2 ++ varint_bytes x) e in
+      let c = taken_length s m in
       let b = head_length 2 s (omega arith) in
-      (omega (arith, h.0, w.0), then_put l l1 l2 0 i (varint_bytes 2 ++ varint_bytes s) (message_bytes m) (omega arith) h.1 (omega (arith, h.0)) w.1)
+      let g : i ≡ length (varint_bytes 2 ++ varint_bytes s) = h.0 ∙ ap length d in
+      (omega (arith, g, w.0), then_put l l1 l2 0 i (varint_bytes 2 ++ varint_bytes s) (message_bytes m) (omega arith) (h.1 ∙ ap (put_at l 0) d) (omega (arith, g)) w.1)
 
 -- a message has at most four varints, in the table or not
 pub message_most : (m : Message) → length (message_bytes m) ≤ 20

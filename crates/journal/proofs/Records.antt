@@ -11,9 +11,10 @@ use Rattle.base.specs.Put.{put_at}
 use Rattle.varint.specs.Varint.{AllBytes}
 use Rattle.journal.specs.declared.Record.{Record}
 use Rattle.journal.specs.declared.Record.TheVariants.{Start, Taken}
-use Rattle.journal.specs.declared.RecordRead.{RecordRead}
+use Rattle.std.specs.Prelude.{Ok, Err}
+use Rattle.journal.specs.declared.RecordError.TheVariants.{Torn, Bad}
 use Rattle.journal.specs.Journal.{record_bytes}
-use Rattle.journal.specs.Reading.{record_at, with_record, records_from}
+use Rattle.journal.specs.Reading.{RecordRead, whole_record, record_at, with_record, records_from}
 use Rattle.journal.specs.Records.{InLimits, AllInLimits, ProperBeginning, journal_bytes}
 use Rattle.journal.specs.Statement.{Begins}
 use Rattle.journal.proofs.Laws.{start_length, taken_length}
@@ -34,13 +35,13 @@ pub journal_before : (r : Record) (rs : List Record) (q : List ℕ) → journal_
 journal_before r rs q = ap (λ (x : List ℕ). x ++ q) (journal_more r rs) ∙ append_assoc (journal_bytes rs) (record_bytes r) q
 
 -- a record is read
-pub records_read : (f : ℕ) (j : List ℕ) (at : ℕ) (acc : List Record) {r : Record} {next : ℕ} → record_at j at ≡ RecordRead.Read r next
+pub records_read : (f : ℕ) (j : List ℕ) (at : ℕ) (acc : List Record) {r : Record} {next : ℕ} → record_at j at ≡ whole_record r next
     → records_from (suc f) j at acc ≡ records_from f j next (r ∷ acc)
 unfolding records_from
 records_read f j at acc e = ap (λ (x : RecordRead). with_record x acc (λ r next. records_from f j next (r ∷ acc))) e
 
 -- nothing more is read from a torn record on
-pub records_torn : (f : ℕ) (j : List ℕ) (at : ℕ) (acc : List Record) → record_at j at ≡ RecordRead.Torn → records_from f j at acc ≡ acc
+pub records_torn : (f : ℕ) (j : List ℕ) (at : ℕ) (acc : List Record) → record_at j at ≡ Err Torn → records_from f j at acc ≡ acc
 unfolding records_from
 records_torn zero j at acc e = refl
 records_torn (suc f) j at acc e = ap (λ (x : RecordRead). with_record x acc (λ r next. records_from f j next (r ∷ acc))) e
@@ -74,11 +75,11 @@ limits_drop (suc d) (r ∷ rs) (h, hs) = limits_drop d rs hs
 
 -- the latest record, before q
 pub journal_record : (r : Record) (rs : List Record) (q : List ℕ) → InLimits r
-    → record_at (journal_bytes (r ∷ rs) ++ q) (length (journal_bytes rs)) ≡ RecordRead.Read r (length (journal_bytes (r ∷ rs)))
+    → record_at (journal_bytes (r ∷ rs) ++ q) (length (journal_bytes rs)) ≡ whole_record r (length (journal_bytes (r ∷ rs)))
 journal_record r rs q h =
     ap (λ (x : List ℕ). record_at x (length (journal_bytes rs))) (journal_before r rs q)
     ∙ record_read r (journal_bytes rs) q h
-    ∙ ap (RecordRead.Read r) (sym (journal_length r rs))
+    ∙ ap (whole_record r) (sym (journal_length r rs))
 
 -- the records rs, before q, are read one after the other
 read_through : (rs : List Record) (q : List ℕ) (f : ℕ) → AllInLimits rs
@@ -95,7 +96,7 @@ read_through (r ∷ rs) q f (h, hs) =
 
 -- a journal that ends in a torn record
 pub journal_read_before : (rs : List Record) (tail : List ℕ) (j : List ℕ) → AllInLimits rs → j ≡ journal_bytes rs ++ tail
-    → record_at (journal_bytes rs ++ tail) (length (journal_bytes rs)) ≡ RecordRead.Torn → records_from (length j) j 0 [] ≡ rs
+    → record_at (journal_bytes rs ++ tail) (length (journal_bytes rs)) ≡ Err Torn → records_from (length j) j 0 [] ≡ rs
 journal_read_before rs tail j h e torn =
     let b : List ℕ = journal_bytes rs ++ tail in
     let f : ℕ = length b - length rs in
@@ -240,7 +241,7 @@ module _ {j : List ℕ} {rs : List Record} (h : Holds j rs) where
   pub holds_used : take (length (journal_bytes rs)) j ≡ journal_bytes rs
   holds_used = ap (take (length (journal_bytes rs))) h.bytes ∙ take_at (journal_bytes rs) h.tail (length (journal_bytes rs)) refl
 
-  pub holds_end : record_at j (length (journal_bytes rs)) ≡ RecordRead.Torn
+  pub holds_end : record_at j (length (journal_bytes rs)) ≡ Err Torn
   holds_end = ap (λ (x : List ℕ). record_at x (length (journal_bytes rs))) h.bytes ∙ torn_beginning h.next (journal_bytes rs) h.tail h.next_limits h.torn
 
 -- the same records
@@ -313,14 +314,14 @@ unfolding records_from
 bytes_begin j h = from (length j) 0 [] tt (omega arith) (sym journal_none) (omega arith)
   where
     here : (at : ℕ) (acc : List Record) → AllInLimits acc → at ≤ length j → take at j ≡ journal_bytes acc
-        → (record_at j at ≡ RecordRead.Torn) ⊎ (record_at j at ≡ RecordRead.Bad) → Begins j acc
+        → (record_at j at ≡ Err Torn) ⊎ (record_at j at ≡ Err Bad) → Begins j acc
     here at acc a l e o =
         let n : at ≡ length (journal_bytes acc) = omega (arith, ap length e, length-take at j) in
         record {
           limits = a;
           inside = omega arith;
           bytes = ap (λ (x : ℕ). take x j) (sym n) ∙ e;
-          end = subst (λ (x : ℕ). (record_at j x ≡ RecordRead.Torn) ⊎ (record_at j x ≡ RecordRead.Bad)) n o;
+          end = subst (λ (x : ℕ). (record_at j x ≡ Err Torn) ⊎ (record_at j x ≡ Err Bad)) n o;
         }
 
     from : (f at : ℕ) (acc : List Record) → AllInLimits acc → at ≤ length j → take at j ≡ journal_bytes acc → length j ≤ at + f → Begins j (records_from f j at acc)
@@ -330,11 +331,13 @@ bytes_begin j h = from (length j) 0 [] tt (omega arith) (sym journal_none) (omeg
         go : (x : RecordRead) → record_at j at ≡ x
             → ((next : ℕ) (r : Record) → AllInLimits (r ∷ acc) → next ≤ length j → take next j ≡ journal_bytes (r ∷ acc) → length j ≤ next + f → Begins j (records_from f j next (r ∷ acc)))
             → Begins j (with_record x acc (λ r next. records_from f j next (r ∷ acc)))
-        go (RecordRead.Read r next) i rec =
+        go (Ok x) i rec =
+            let r : Record = x.value in
+            let next : ℕ = x.next in
             let w = record_was_written j at r next h i in
             let n : next ≡ at + (next - at) = omega (arith, w.longer) in
             rec next r (w.limits, a) w.inside
             (ap (λ (x : ℕ). take x j) n ∙ take-add at (next - at) j ∙ ap₂ (λ (x y : List ℕ). x ++ y) e w.bytes ∙ sym (journal_more r acc))
             (omega (arith, w.longer))
-        go RecordRead.Torn i rec = here at acc a l e (inl i)
-        go RecordRead.Bad i rec = here at acc a l e (inr i)
+        go (Err Torn) i rec = here at acc a l e (inl i)
+        go (Err Bad) i rec = here at acc a l e (inr i)

@@ -7,9 +7,8 @@ use native.Mathlib.Decide.{ℕ_discrete}
 use lib.ListN.{length, take, drop}
 use Rattle.varint.specs.Varint.{AllBytes, varint_bytes}
 use Rattle.varint.proofs.RoundTrip.{value_place}
-use Rattle.format.specs.declared.Fault.{Fault}
 use Rattle.format.specs.Format.{Spells}
-use Rattle.format.specs.Reading.{Read, whole, failed, read_at}
+use Rattle.format.specs.Reading.{Read, whole, read_at}
 use Rattle.format.specs.Statement.{Sensible, Reads}
 use Rattle.format.proofs.Reading.{whole_first, whole_place}
 use Rattle.format.proofs.Saying.{saying_spells, saying_spelled, saying_sensible}
@@ -19,10 +18,10 @@ use Rattle.message.specs.Format.{message_format}
 use Rattle.message.proofs.RoundTrip as messages
 use Rattle.journal.specs.declared.Record.{Record}
 use Rattle.journal.specs.declared.Record.TheVariants.{Start, Taken}
-use Rattle.journal.specs.declared.RecordRead.{RecordRead}
+use Rattle.std.specs.Prelude.{Ok, Err}
 use Rattle.journal.specs.Journal.{record_bytes}
 use Rattle.journal.specs.Format.{start_format, taken_format, record_format}
-use Rattle.journal.specs.Reading.{fails_as, as_read, record_at}
+use Rattle.journal.specs.Reading.{whole_record, as_read, record_at}
 use Rattle.journal.specs.Records.{InLimits}
 use Rattle.journal.proofs.Laws.{after_tag, tag_start, tag_taken}
 
@@ -99,25 +98,16 @@ by_format = formats.reads record_format sensible
 
 -- ---- what is written is read back
 
-pub record_read : (r : Record) (p q : List ℕ) → InLimits r → record_at (p ++ (record_bytes r ++ q)) (length p) ≡ RecordRead.Read r (length p + length (record_bytes r))
+pub record_read : (r : Record) (p q : List ℕ) → InLimits r → record_at (p ++ (record_bytes r ++ q)) (length p) ≡ whole_record r (length p + length (record_bytes r))
 unfolding record_at
 record_read r p q h = ap as_read (by_format.written (record_bytes r) r p q (spells r h))
 
 -- ---- what is read was written
 
-fails_never : (fault : Fault) (r : Record) (next : ℕ) → fails_as fault ≡ RecordRead.Read r next → ⊥
-fails_never Fault.Cut r next e = let z : ◌≡◌ {A = ℕ} 0 1 = cc in omega arith
-fails_never Fault.CutOutside r next e = let z : ◌≡◌ {A = ℕ} 0 1 = cc in omega arith
-fails_never Fault.Malformed r next e = let z : ◌≡◌ {A = ℕ} 0 1 = cc in omega arith
-fails_never Fault.Outside r next e = let z : ◌≡◌ {A = ℕ} 0 1 = cc in omega arith
-fails_never Fault.Spare r next e = let z : ◌≡◌ {A = ℕ} 0 1 = cc in omega arith
-
-found_whole : (x : Read Record) (r : Record) (next : ℕ) → as_read x ≡ RecordRead.Read r next → x ≡ whole r next
-found_whole (whole y n) r next e =
-    let ey : y ≡ r = cc in
-    let en : n ≡ next = cc in
-    ap₂ whole ey en
-found_whole (failed fault at) r next e = absurd (fails_never fault r next e)
+-- what the format finds where a record is read
+read_whole : (x : Read Record) (r : Record) (next : ℕ) → as_read x ≡ whole_record r next → x ≡ whole r next
+read_whole (Ok y) r next e = cc
+read_whole (Err x) r next e = let z : ◌≡◌ {A = ℕ} 0 1 = cc in absurd (omega arith)
 
 -- r, in its limits, stands from `at` to `next`
 pub record Written (s : List ℕ) (at : ℕ) (r : Record) (next : ℕ) : Type 0 where
@@ -127,12 +117,12 @@ pub record Written (s : List ℕ) (at : ℕ) (r : Record) (next : ℕ) : Type 0 
   pub bytes : take (next - at) (drop at s) ≡ record_bytes r
 
 module _ (s : List ℕ) (at : ℕ) (r : Record) (next : ℕ) where
-  by_reading : record_at s at ≡ RecordRead.Read r next → read_at record_format s at ≡ whole r next
+  by_reading : record_at s at ≡ whole_record r next → read_at record_format s at ≡ whole r next
   unfolding record_at
-  by_reading e = found_whole (read_at record_format s at) r next e
+  by_reading e = read_whole (read_at record_format s at) r next e
 
   -- a record that is read ends past its first byte and within the bytes
-  pub record_place : record_at s at ≡ RecordRead.Read r next → (at < next) × (next ≤ length s)
+  pub record_place : record_at s at ≡ whole_record r next → (at < next) × (next ≤ length s)
   record_place e =
       let w = whole_first 1 2 after_tag s at r next (by_reading e) in
       let p = value_place 5 s at w.0 w.1 w.4 in
@@ -140,7 +130,7 @@ module _ (s : List ℕ) (at : ℕ) (r : Record) (next : ℕ) where
       (omega (arith, p.0, q.0), q.1)
 
   -- what is read as r is the record r, in its limits
-  pub record_was_written : AllBytes s → record_at s at ≡ RecordRead.Read r next → Written s at r next
+  pub record_was_written : AllBytes s → record_at s at ≡ whole_record r next → Written s at r next
   record_was_written h e =
       let p = record_place e in
       let w = by_format.only s at r next h (omega (arith, p.0, p.1)) (by_reading e) in

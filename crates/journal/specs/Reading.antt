@@ -1,32 +1,45 @@
 -- Reading a record by its format, and the records of given bytes. `Reads` (Statement.antt) says what is found, so that nobody needs to believe these definitions.
-use Rattle.std.specs.Prelude.{List, [], ◌∷◌, ℕ, zero, suc, length}
+use Rattle.std.specs.Prelude.{◌≡◌, List, [], ◌∷◌, ℕ, zero, suc, length, Result, Ok, Err}
+use Rattle.varint.specs.declared.Parsed.{Parsed}
 use Rattle.format.specs.declared.Fault.{Fault}
-use Rattle.format.specs.Reading.{Read, whole, failed, read_at}
+use Rattle.format.specs.declared.Failure.{Failure}
+use Rattle.format.specs.Reading.{Read, read_at}
 use Rattle.journal.specs.declared.Record.{Record}
-use Rattle.journal.specs.declared.RecordRead.{RecordRead}
+use Rattle.journal.specs.declared.RecordError.{RecordError}
+use Rattle.journal.specs.declared.RecordError.TheVariants.{Torn, Bad}
 use Rattle.journal.specs.Format.{record_format}
 
 -- "A torn last record, one that only further bytes could make whole": the fault decides, and not a refusal's number
-abbrev pub fails_as : Fault → RecordRead
-fails_as Fault.Cut = RecordRead.Torn
-fails_as Fault.CutOutside = RecordRead.Bad
-fails_as Fault.Malformed = RecordRead.Bad
-fails_as Fault.Outside = RecordRead.Bad
-fails_as Fault.Spare = RecordRead.Bad
+abbrev pub fails_as : Fault → RecordError
+fails_as Fault.Cut = Torn
+fails_as Fault.CutOutside = Bad
+fails_as Fault.Malformed = Bad
+fails_as Fault.Outside = Bad
+fails_as Fault.Spare = Bad
+
+abbrev pub FailsAs : Failure → RecordError → Type 0
+FailsAs x e = e ≡ fails_as x.fault
+
+-- what reading a record finds: it and the place past it, or why there is none
+abbrev pub RecordRead : Type 0
+RecordRead = Result (Parsed Record) RecordError
 
 -- what the format finds, as the reader answers it
 abbrev pub as_read : Read Record → RecordRead
-as_read (whole r next) = RecordRead.Read r next
-as_read (failed fault at) = fails_as fault
+as_read (Ok r) = Ok r
+as_read (Err x) = Err (fails_as x.fault)
 
 -- the record that stands at `at`
 unfoldable pub record_at : List ℕ → ℕ → RecordRead
 record_at s at = as_read (read_at record_format s at)
 
+-- read: the record, and the place past it
+abbrev pub whole_record : Record → ℕ → RecordRead
+whole_record r next = Ok (record { value = r; next = next })
+
 abbrev pub with_record : RecordRead → List Record → (Record → ℕ → List Record) → List Record
-with_record (RecordRead.Read r next) rs more = more r next
-with_record RecordRead.Torn rs more = rs
-with_record RecordRead.Bad rs more = rs
+with_record (Ok r) rs more = more r.value r.next
+with_record (Err e) rs more = rs
 
 -- the whole records from `at` on, at most f, after rs; the latest first
 unfoldable pub records_from : ℕ → List ℕ → ℕ → List Record → List Record

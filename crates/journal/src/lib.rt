@@ -6,13 +6,21 @@ ghost use Rattle.base.specs.Put.{put_at};
 ghost use Rattle.varint.specs.Varint.{varint_bytes};
 ghost use Rattle.format.specs.Reading.{read_at};
 ghost use Rattle.journal.specs.Journal.{record_bytes};
-ghost use Rattle.journal.specs.Format.{from_agreement, start_format, from_sender, taken_format};
-ghost use Rattle.journal.specs.Reading.{fails_as, as_read, record_at};
+ghost use Rattle.journal.specs.Format.{start_format, from_sender, taken_format, record_format};
+ghost use Rattle.journal.specs.Reading.{record_at};
+
+use format::{Failure, Fault};
+use varint::Parsed;
 
 // The most bytes of a record that a call writes: its tag, a sender and a message; that of a start is no longer.
 pub const RECORD_SIZE: usize = 2 + base::MESSAGE_SIZE;
 
-#[derive(Clone, Copy)]
+// The tags of a start's record and of a taken message's.
+const START: u32 = 1;
+
+const TAKEN: u32 = 2;
+
+#[derive(Clone, Copy, Debug, PartialEq, Eq)]
 pub enum Record {
     Start {
         agreement: u32,
@@ -24,107 +32,89 @@ pub enum Record {
     },
 }
 
-// What reading a record finds: it and the place past it; a beginning of one, which only further bytes could make whole; or neither.
-#[derive(Clone, Copy)]
-pub enum RecordRead {
-    Read { record: Record, next: usize },
+// Why no whole record was read.
+#[derive(Clone, Copy, Debug, PartialEq, Eq)]
+pub enum RecordError {
+    // A beginning of one, which only further bytes could make whole.
     Torn,
+    // Neither a record nor a beginning of one.
     Bad,
 }
 
-// A record that fails by this fault: torn where further bytes could make it whole.
-fn failing(fault: format::Fault) -> RecordRead
-    ensures { result ≡ fails_as fault }
-{
-    match fault {
-        format::Fault::Cut => RecordRead::Torn,
-        format::Fault::CutOutside => RecordRead::Bad,
-        format::Fault::Malformed => RecordRead::Bad,
-        format::Fault::Outside => RecordRead::Bad,
-        format::Fault::Spare => RecordRead::Bad,
-    }
-}
+// A record that fails by a fault is torn where further bytes could make it whole.
+impl From<Failure> for RecordError {
+    ghost use Rattle.journal.specs.Reading.{FailsAs};
 
-// The position at `at` of a start's record with this agreement number.
-fn read_position(s: &[u8], at: usize, agreement: u32) -> RecordRead
-    ensures { result ≡ as_read (read_at (from_agreement agreement) s.now at) }
-{
-    match format::read_field(s, at, 0, base::MAX_POSITION) {
-        format::FieldRead::Value {
-            value: x,
-            next: end,
-        } => RecordRead::Read {
-            record: Record::Start {
-                agreement: agreement,
-                position: x,
-            },
-            next: end,
-        },
-        format::FieldRead::Failed(fault) => failing(fault),
+    ghost from_gives = { FailsAs };
+
+    fn from(failure: Failure) -> RecordError {
+        match failure.fault {
+            Fault::Cut => RecordError::Torn,
+            Fault::CutOutside => RecordError::Bad,
+            Fault::Malformed => RecordError::Bad,
+            Fault::Outside => RecordError::Bad,
+            Fault::Spare => RecordError::Bad,
+        }
     }
 }
 
 // A start's record after its tag.
-fn read_start(s: &[u8], at: usize) -> RecordRead
-    ensures { result ≡ as_read (read_at start_format s.now at) }
+fn read_start(s: &[u8], at: usize) -> Result<Parsed<Record>, Failure>
+    ensures { result ≡ read_at start_format s.now at }
 {
-    match format::read_field(s, at, 0, base::MAX_NUMBER) {
-        format::FieldRead::Value {
-            value: agreement,
-            next,
-        } => read_position(s, next, agreement),
-        format::FieldRead::Failed(fault) => failing(fault),
-    }
+    let agreement = format::read_field(s, at, 0, base::MAX_NUMBER)?;
+    let position = format::read_field(s, agreement.next, 0, base::MAX_POSITION)?;
+    Ok(Parsed {
+        value: Record::Start {
+            agreement: agreement.value,
+            position: position.value,
+        },
+        next: position.next,
+    })
 }
 
-// The message at `at` of a record with this sender.
-fn read_message(s: &[u8], at: usize, sender: u8) -> RecordRead
-    ensures { result ≡ as_read (read_at (from_sender sender) s.now at) }
+// The message of a record with this sender.
+fn read_message(s: &[u8], at: usize, sender: u8) -> Result<Parsed<Record>, Failure>
+    ensures { result ≡ read_at (from_sender sender) s.now at }
 {
-    match message::read_at(s, at) {
-        message::MessageRead::Read {
-            message: m,
-            next: end,
-        } => RecordRead::Read {
-            record: Record::Taken {
-                sender: sender,
-                message: m,
-            },
-            next: end,
-        },
-        message::MessageRead::Failed { fault, at: _ } => failing(fault),
-    }
+    let Parsed {
+        value: message,
+        next,
+    } = message::read_at(s, at)?;
+    let value = Record::Taken { sender, message };
+    Ok(Parsed { value, next })
 }
 
 // The record of a taken message after its tag.
-fn read_taken(s: &[u8], at: usize) -> RecordRead
-    ensures { result ≡ as_read (read_at taken_format s.now at) }
+fn read_taken(s: &[u8], at: usize) -> Result<Parsed<Record>, Failure>
+    ensures { result ≡ read_at taken_format s.now at }
 {
-    match format::read_field(s, at, 0, base::MAX_SENDER) {
-        format::FieldRead::Value {
-            value: sender,
-            next,
-        } => read_message(s, next, sender as u8),
-        format::FieldRead::Failed(fault) => failing(fault),
+    let sender = format::read_field(s, at, 0, base::MAX_SENDER)?;
+    read_message(s, sender.next, sender.value as u8)
+}
+
+// A record, by its format.
+#[tactic(auto, using(crate::proofs::Laws::tag_start, crate::proofs::Laws::tag_taken))]
+fn read_record(s: &[u8], at: usize) -> Result<Parsed<Record>, Failure>
+    ensures { result ≡ read_at record_format s.now at }
+{
+    let tag = format::read_field(s, at, START, TAKEN)?;
+    if tag.value == START {
+        return read_start(s, tag.next);
     }
+    read_taken(s, tag.next)
 }
 
 // The record that stands at `at`.
-pub fn read_at(s: &[u8], at: usize) -> RecordRead
+#[tactic(auto, unfolding(crate::specs::Reading::record_at))]
+pub fn read_at(s: &[u8], at: usize) -> Result<Parsed<Record>, RecordError>
     ensures { result ≡ record_at s.now at }
 {
-    match format::read_field(s, at, 1, 2) {
-        format::FieldRead::Value { value: k, next } => {
-            if k == 1 {
-                return read_start(s, next);
-            }
-            read_taken(s, next)
-        }
-        format::FieldRead::Failed(fault) => failing(fault),
-    }
+    Ok(read_record(s, at)?)
 }
 
 // How many bytes a record's tag and the number after it have.
+#[tactic(auto, using(varint::proofs::Laws::pieces_most))]
 fn head_size(tag: u32, number: u32) -> usize
     ensures { result ≡ length (varint_bytes tag ++ varint_bytes number) }
 {
@@ -138,9 +128,10 @@ pub fn size(r: Record) -> usize
     match r {
         Record::Start {
             agreement,
-            position: x,
-        } => head_size(1, agreement) + varint::size(x),
-        Record::Taken { sender, message: m } => head_size(2, sender as u32) + message::size(m),
+            position,
+        } => head_size(START, agreement) + varint::size(position),
+        Record::Taken { sender, message } => head_size(TAKEN, u32::from(sender))
+            + message::size(message),
     }
 }
 
@@ -161,14 +152,14 @@ fn put(out: &mut [u8], r: Record) -> usize
     match r {
         Record::Start {
             agreement,
-            position: x,
+            position,
         } => {
-            let i = put_head(out, 1, agreement);
-            varint::put(out, i, x)
+            let i = put_head(out, START, agreement);
+            varint::put(out, i, position)
         }
-        Record::Taken { sender, message: m } => {
-            let i = put_head(out, 2, sender as u32);
-            message::put(out, i, m)
+        Record::Taken { sender, message } => {
+            let i = put_head(out, TAKEN, u32::from(sender));
+            message::put(out, i, message)
         }
     }
 }

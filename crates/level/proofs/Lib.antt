@@ -1,1 +1,1 @@
-pub mod Choices
+pub mod Splits

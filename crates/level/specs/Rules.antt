@@ -2,12 +2,24 @@
 use Rattle.std.specs.Prelude.{Bool, true, false, not, ◌&&◌, ℕ, ◌+◌, leb, ltb, eqb, get_or}
 use Rattle.base.specs.Pick.{pick, smallest}
 use Rattle.message.specs.Message.{none_value}
+use Rattle.message.specs.declared.Body.{Body}
 use Rattle.message.specs.declared.Body.TheVariants.{FirstEcho, FirstProposal, SecondEcho, SecondProposal, Centre}
 use Rattle.level.specs.declared.Context.{Context}
-use Rattle.level.specs.declared.Effect.{Effect}
-use Rattle.level.specs.declared.Effect.TheVariants.{Nothing, Quiet, Send, Enter, SendEnter}
 use Rattle.level.specs.Level.{Level, senders, not_yet, no_output, with_port_echo, with_none_echo, with_proposal, with_first, with_second_echo, with_second_proposal, with_result, with_output, with_centre_told}
 use Rattle.level.specs.Counts.{weak, strong, candidate, candidates, other_echoes, at_least, may_propose, proposed, split, echoed_by, second_proposed, echoed_values, sided}
+
+-- what a rule does besides changing its level's record; the code's stands for it by `as_applied` (Tie.antt)
+pub data Effect : Type 0 where
+  -- the rule does not apply
+  Nothing : Effect
+  -- it applies and makes no message
+  Quiet : Effect
+  -- it applies and makes this message
+  Send : Body → Effect
+  -- it applies and enters this side of the next level, at the old position if so said, else at the side's neighbour
+  Enter : ℕ → Bool → Effect
+  -- it applies, sends this side, and enters it at its neighbour
+  SendEnter : ℕ → Effect
 
 -- the level after a rule, and what the rule does besides
 pub record Applied : Type 0 where

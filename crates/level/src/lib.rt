@@ -1,10 +1,12 @@
 // One level of a party: what the board did at it, and the fourteen rules over what it heard there.
 #![tactic(auto)]
 
-ghost use Rattle.std.specs.Prelude.{◌≡◌, replicate};
+ghost use Rattle.std.specs.Prelude.{◌≡◌, ◌≤◌, ◌<◌, replicate};
+ghost use Rattle.base.specs.Limits.{max_boards, max_degree};
 ghost use Rattle.level.specs.Level.{blank_level, slot_count};
-ghost use Rattle.level.specs.Rules;
 ghost use Rattle.level.specs.Tie.{as_level};
+
+use level_counts::Counting;
 
 mod rules;
 
@@ -15,6 +17,9 @@ pub const NOT_YET: u8 = level_counts::NOT_YET;
 // An output that is not there yet: one more than the largest position.
 pub const NO_OUTPUT: base::Position = base::MAX_POSITION + 1;
 
+// What is not there yet is NOT_YET or NO_OUTPUT and no None of an Option: question 19 is asked of every record, and two that stand for one level are
+// the same (`party_one`), which a Some(NOT_YET) would break.
+//
 // What the board did at a level. What it heard there is lent beside it: the senders of each message, by its slot.
 #[derive(Clone, Copy)]
 pub struct Level {
@@ -52,41 +57,44 @@ pub struct Context {
     pub port: u8,
     pub centre: base::Position,
     pub next_entered: bool,
+    // as the next level's record has it: NO_OUTPUT where there is none
     pub next_output: base::Position,
 }
 
-// What a rule does besides changing its level's record.
+impl Context {
+    // What the rules count by.
+    fn counting(self) -> Counting
+        requires { (self.degree ≤ max_degree) × (self.t < self.n) × (self.n ≤ max_boards) }
+        ensures boards { result.n ≡ self.n }
+        ensures faults { result.t ≡ self.t }
+        ensures degree { result.degree ≡ self.degree }
+    {
+        Counting {
+            n: self.n,
+            t: self.t,
+            degree: self.degree as u8,
+        }
+    }
+}
+
+// What a rule that applies does besides changing its level's record.
 #[derive(Clone, Copy)]
 pub enum Effect {
-    // the rule does not apply
-    Nothing,
-    // it applies and makes no message
+    // it makes no message
     Quiet,
-    // it applies and makes this message
+    // it makes this message
     Send(message::Body),
-    // it applies and enters this side of the next level, at the old position if so said, else at the side's neighbour
+    // it enters this side of the next level, at the old position if so said, else at the side's neighbour
     Enter { side: u8, keep: bool },
-    // it applies, sends this side, and enters it at its neighbour
+    // it sends this side, and enters it at its neighbour
     SendEnter { side: u8 },
 }
 
+// What a rule that applies gives: the record after it, and what it does besides.
 #[derive(Clone, Copy)]
 pub struct Applied {
     pub level: Level,
     pub effect: Effect,
-}
-
-// Does a rule with this effect apply?
-pub fn applies(e: Effect) -> bool
-    ensures { result ≡ Rules.applies e }
-{
-    match e {
-        Effect::Nothing => false,
-        Effect::Quiet => true,
-        Effect::Send(_) => true,
-        Effect::Enter { side: _, keep: _ } => true,
-        Effect::SendEnter { side: _ } => true,
-    }
 }
 
 impl Level {

@@ -1,320 +1,265 @@
-// The fourteen rules of document 01, each a method that hands the record and the effect back.
-ghost use Rattle.std.specs.Prelude.{◌≡◌, List, ℕ, ◌≤◌, length};
-ghost use Rattle.level.specs.declared.Effect.TheVariants.{Quiet};
-ghost use Rattle.level.specs.Level.{not_yet, slot_count, with_output};
+// The fourteen rules of document 01, each a method that hands the record and the effect back where the rule applies.
+ghost use Rattle.std.specs.Prelude.{◌≡◌, ◌&&◌, List, ℕ, ◌≤◌, ◌<◌, leb, ltb, slice_set, true};
+ghost use Rattle.message.specs.Message.{none_value};
+ghost use Rattle.level.specs.Level.{not_yet, value_count, with_output};
 ghost use Rattle.level.specs.Inner.{InLimits};
 ghost use Rattle.level.specs.Rules;
+ghost use Rattle.level.specs.Rules.{Quiet};
 ghost use Rattle.level.specs.Tie.{as_level, as_applied};
 
 use crate::{Applied, Context, Effect, Level, NO_OUTPUT, NONE, NOT_YET};
+use level_counts::Heard;
 use message::Body;
 
+// What is not there yet is NOT_YET or NO_OUTPUT and no None: why stands at `Level` (`party_one`).
 impl Level {
-    // The rule does not apply.
-    fn idle(self) -> Applied
-        ensures { (s : List ℕ) → as_applied s result ≡ Rules.idle (as_level s self) }
-    {
-        Applied {
-            level: self,
-            effect: Effect::Nothing,
-        }
-    }
-
     // First echo of the port.
-    pub fn rule1(self, c: Context) -> Applied
-        ensures { (s : List ℕ) → as_applied s result ≡ Rules.rule1 c (as_level s self) }
+    #[tactic(auto, unfolding(crate::specs::Rules::rule1))]
+    pub fn rule1(self, c: Context) -> Option<Applied>
+        ensures { (s : List ℕ) → as_applied s self result ≡ Rules.rule1 c (as_level s self) }
     {
         if self.echoed_port {
-            return self.idle();
+            return None;
         }
-        let mut l = self;
-        l.echoed_port = true;
-        let b = Body::FirstEcho(c.port);
-        Applied {
-            level: l,
-            effect: Effect::Send(b),
-        }
+        let level = Level {
+            echoed_port: true,
+            ..self
+        };
+        let effect = Effect::Send(Body::FirstEcho(c.port));
+        Some(Applied { level, effect })
     }
 
     // First echo of none.
-    pub fn rule2(self, sets: &[senders::Mask], c: Context) -> Applied
-        requires { InLimits c (as_level sets.now self) × (slot_count ≤ length sets.now) }
-        ensures { as_applied sets.now result ≡ Rules.rule2 c (as_level sets.now self) }
+    #[tactic(auto, unfolding(crate::specs::Rules::rule2, crate::specs::Counts::other_echoes, crate::specs::Level::senders, level_counts::specs::Places::slot))]
+    pub fn rule2(self, heard: &Heard, c: Context) -> Option<Applied>
+        requires { InLimits c (as_level heard.now self) }
+        ensures { as_applied heard.now self result ≡ Rules.rule2 c (as_level heard.now self) }
     {
-        if self.echoed_none {
-            return self.idle();
+        if self.echoed_none || !level_counts_first::none_due(c.counting(), heard, c.port) {
+            return None;
         }
-        if !level_counts_first::none_due(sets, c.degree, c.port, c.t) {
-            return self.idle();
-        }
-        let mut l = self;
-        l.echoed_none = true;
-        let b = Body::FirstEcho(NONE);
-        Applied {
-            level: l,
-            effect: Effect::Send(b),
-        }
+        let level = Level {
+            echoed_none: true,
+            ..self
+        };
+        let effect = Effect::Send(Body::FirstEcho(NONE));
+        Some(Applied { level, effect })
     }
 
     // First proposal.
-    pub fn rule3(self, sets: &[senders::Mask], c: Context) -> Applied
-        requires { InLimits c (as_level sets.now self) × (slot_count ≤ length sets.now) }
-        ensures { as_applied sets.now result ≡ Rules.rule3 c (as_level sets.now self) }
+    #[tactic(auto, unfolding(crate::specs::Rules::rule3, crate::specs::Counts::may_propose, crate::specs::Level::senders, level_counts::specs::Places::slot))]
+    pub fn rule3(self, heard: &Heard, c: Context) -> Option<Applied>
+        requires { InLimits c (as_level heard.now self) }
+        ensures { as_applied heard.now self result ≡ Rules.rule3 c (as_level heard.now self) }
     {
         if self.proposal != NOT_YET {
-            return self.idle();
+            return None;
         }
-        let v = level_counts_first::proposal(sets, c.degree, c.t);
-        if v == NOT_YET {
-            return self.idle();
-        }
-        let mut l = self;
-        l.proposal = v;
-        let b = Body::FirstProposal(v);
-        Applied {
-            level: l,
-            effect: Effect::Send(b),
-        }
+        let v = level_counts_first::proposal(c.counting(), heard)?;
+        let level = Level {
+            proposal: v,
+            ..self
+        };
+        let effect = Effect::Send(Body::FirstProposal(v));
+        Some(Applied { level, effect })
     }
 
     // First result.
-    pub fn rule4(self, sets: &[senders::Mask], c: Context) -> Applied
-        requires { InLimits c (as_level sets.now self) × (slot_count ≤ length sets.now) }
-        ensures { as_applied sets.now result ≡ Rules.rule4 c (as_level sets.now self) }
+    #[tactic(auto, using(crate::proofs::Splits::split_by_sets), unfolding(crate::specs::Rules::rule4, crate::specs::Counts::proposed, crate::specs::Level::senders, level_counts::specs::Places::slot))]
+    pub fn rule4(self, heard: &Heard, c: Context) -> Option<Applied>
+        requires { InLimits c (as_level heard.now self) }
+        ensures { as_applied heard.now self result ≡ Rules.rule4 c (as_level heard.now self) }
     {
         if self.first != NOT_YET {
-            return self.idle();
+            return None;
         }
-        let w = level_counts_first_result::result(sets, c.degree, c.n, c.t);
-        if w == NOT_YET {
-            return self.idle();
-        }
-        let mut l = self;
-        l.first = w;
-        Applied {
-            level: l,
-            effect: Effect::Quiet,
-        }
+        let w = level_counts_first_result::result(c.counting(), heard)?;
+        let level = Level { first: w, ..self };
+        let effect = Effect::Quiet;
+        Some(Applied { level, effect })
+    }
+
+    // A second echo of w.
+    fn second_echo(self, w: u8) -> Applied
+        requires { w < value_count }
+        ensures { result ≡ record { level = record self { echoed = slice_set self.echoed w true }; effect = Effect.Send (Body.SecondEcho w) } }
+    {
+        let mut level = self;
+        level.echoed[usize::from(w)] = true;
+        let effect = Effect::Send(Body::SecondEcho(w));
+        Applied { level, effect }
     }
 
     // Second echo of the first result.
-    pub fn rule5(self, c: Context) -> Applied
+    #[tactic(auto, unfolding(crate::specs::Rules::rule5))]
+    pub fn rule5(self, c: Context) -> Option<Applied>
         requires { self.first ≤ not_yet }
-        ensures { (s : List ℕ) → as_applied s result ≡ Rules.rule5 c (as_level s self) }
+        ensures { (s : List ℕ) → as_applied s self result ≡ Rules.rule5 c (as_level s self) }
     {
         let w = self.first;
-        if w == NOT_YET {
-            return self.idle();
+        if w == NOT_YET || self.echoed[usize::from(w)] {
+            return None;
         }
-        let i = w as usize;
-        if self.echoed[i] {
-            return self.idle();
-        }
-        let mut l = self;
-        l.echoed[i] = true;
-        let b = Body::SecondEcho(w);
-        Applied {
-            level: l,
-            effect: Effect::Send(b),
-        }
+        Some(self.second_echo(w))
     }
 
     // Second echo of what t+1 boards echoed.
-    pub fn rule6(self, sets: &[senders::Mask], c: Context) -> Applied
-        requires { InLimits c (as_level sets.now self) × (slot_count ≤ length sets.now) }
-        ensures { as_applied sets.now result ≡ Rules.rule6 c (as_level sets.now self) }
+    #[tactic(auto, unfolding(crate::specs::Rules::rule6, crate::specs::Counts::echoed_by, crate::specs::Level::senders, level_counts::specs::Places::slot))]
+    pub fn rule6(self, heard: &Heard, c: Context) -> Option<Applied>
+        requires { InLimits c (as_level heard.now self) }
+        ensures { as_applied heard.now self result ≡ Rules.rule6 c (as_level heard.now self) }
     {
         if self.first == NOT_YET {
-            return self.idle();
+            return None;
         }
-        let echoed = self.echoed;
-        let v = level_counts_second::echo(sets, &echoed, c.degree, c.t);
-        if v == NOT_YET {
-            return self.idle();
-        }
-        let i = v as usize;
-        let mut l = self;
-        l.echoed[i] = true;
-        let b = Body::SecondEcho(v);
-        Applied {
-            level: l,
-            effect: Effect::Send(b),
-        }
+        let v = level_counts_second::echo(c.counting(), heard, &self.echoed)?;
+        Some(self.second_echo(v))
     }
 
     // Second proposal.
-    pub fn rule7(self, sets: &[senders::Mask], c: Context) -> Applied
-        requires { InLimits c (as_level sets.now self) × (slot_count ≤ length sets.now) }
-        ensures { as_applied sets.now result ≡ Rules.rule7 c (as_level sets.now self) }
+    #[tactic(auto, unfolding(crate::specs::Rules::rule7, crate::specs::Counts::echoed_by, crate::specs::Level::senders, level_counts::specs::Places::slot))]
+    pub fn rule7(self, heard: &Heard, c: Context) -> Option<Applied>
+        requires { InLimits c (as_level heard.now self) }
+        ensures { as_applied heard.now self result ≡ Rules.rule7 c (as_level heard.now self) }
     {
-        let first = self.first;
-        if first == NOT_YET {
-            return self.idle();
+        if self.first == NOT_YET || self.second_proposal != NOT_YET {
+            return None;
         }
-        if self.second_proposal != NOT_YET {
-            return self.idle();
-        }
-        let w = level_counts_second::proposal(sets, c.degree, c.t);
-        if w == NOT_YET {
-            return self.idle();
-        }
-        let mut l = self;
-        l.second_proposal = w;
-        let b = Body::SecondProposal(w);
-        Applied {
-            level: l,
-            effect: Effect::Send(b),
-        }
+        let w = level_counts_second::proposal(c.counting(), heard)?;
+        let level = Level {
+            second_proposal: w,
+            ..self
+        };
+        let effect = Effect::Send(Body::SecondProposal(w));
+        Some(Applied { level, effect })
     }
 
     // The result.
-    pub fn rule8(self, sets: &[senders::Mask], c: Context) -> Applied
-        requires { InLimits c (as_level sets.now self) × (slot_count ≤ length sets.now) }
-        ensures { as_applied sets.now result ≡ Rules.rule8 c (as_level sets.now self) }
+    #[tactic(auto, unfolding(crate::specs::Rules::rule8, crate::specs::Counts::second_proposed, crate::specs::Counts::echoed_by, crate::specs::Counts::echoed_values, crate::specs::Level::senders, level_counts::specs::Places::slot))]
+    pub fn rule8(self, heard: &Heard, c: Context) -> Option<Applied>
+        requires { InLimits c (as_level heard.now self) }
+        ensures { as_applied heard.now self result ≡ Rules.rule8 c (as_level heard.now self) }
     {
-        if self.first == NOT_YET {
-            return self.idle();
+        if self.first == NOT_YET || self.result != NOT_YET {
+            return None;
         }
-        if self.result != NOT_YET {
-            return self.idle();
-        }
-        let g = level_counts_second_result::result(sets, c.degree, c.n, c.t);
-        if g.value == NOT_YET {
-            return self.idle();
-        }
-        let mut l = self;
-        l.result = g.value;
-        l.sure = g.sure;
-        Applied {
-            level: l,
-            effect: Effect::Quiet,
-        }
+        let g = level_counts_second_result::result(c.counting(), heard)?;
+        let level = Level {
+            result: g.value,
+            sure: g.sure,
+            ..self
+        };
+        let effect = Effect::Quiet;
+        Some(Applied { level, effect })
     }
 
     // The output x, if there is none yet.
-    fn answer(self, x: base::Position) -> Applied
-        ensures { (s : List ℕ) → as_applied s result ≡ Rules.when (Rules.unanswered (as_level s self)) (as_level s self) (Rules.does (with_output (as_level s self) x) Quiet) }
+    fn answer(self, x: base::Position) -> Option<Applied>
+        ensures { (s : List ℕ) → as_applied s self result ≡ Rules.when (Rules.unanswered (as_level s self)) (as_level s self) (Rules.does (with_output (as_level s self) x) Quiet) }
     {
         if self.output != NO_OUTPUT {
-            return self.idle();
+            return None;
         }
-        let mut l = self;
-        l.output = x;
-        Applied {
-            level: l,
-            effect: Effect::Quiet,
-        }
+        let level = Level { output: x, ..self };
+        let effect = Effect::Quiet;
+        Some(Applied { level, effect })
     }
 
     // The centre as output, after result 0.
-    pub fn rule9(self, c: Context) -> Applied
-        ensures { (s : List ℕ) → as_applied s result ≡ Rules.rule9 c (as_level s self) }
+    #[tactic(auto, unfolding(crate::specs::Rules::rule9))]
+    pub fn rule9(self, c: Context) -> Option<Applied>
+        ensures { (s : List ℕ) → as_applied s self result ≡ Rules.rule9 c (as_level s self) }
     {
         if self.result != 0 {
-            return self.idle();
+            return None;
         }
         self.answer(c.centre)
     }
 
-    // The next level entered, after a result of 1 or more.
-    pub fn rule10(self, c: Context) -> Applied
-        ensures { (s : List ℕ) → as_applied s result ≡ Rules.rule10 c (as_level s self) }
+    // Is the result a value of 1 or more?
+    fn aside(self) -> bool
+        ensures { result ≡ (leb 1 self.result && ltb self.result none_value) }
     {
-        let k = self.result;
-        if k < 1 {
-            return self.idle();
+        1 <= self.result && self.result < NONE
+    }
+
+    // The next level entered, after a result of 1 or more.
+    #[tactic(auto, unfolding(crate::specs::Rules::rule10))]
+    pub fn rule10(self, c: Context) -> Option<Applied>
+        ensures { (s : List ℕ) → as_applied s self result ≡ Rules.rule10 c (as_level s self) }
+    {
+        if !self.aside() || c.next_entered {
+            return None;
         }
-        if NONE <= k {
-            return self.idle();
-        }
-        if c.next_entered {
-            return self.idle();
-        }
-        if self.sure {
-            return Applied {
-                level: self,
-                effect: Effect::Enter {
-                    side: k,
-                    keep: c.port == k,
-                },
-            };
-        }
-        Applied {
-            level: self,
-            effect: Effect::SendEnter { side: k },
-        }
+        let side = self.result;
+        let effect = if self.sure {
+            Effect::Enter {
+                side,
+                keep: c.port == side,
+            }
+        } else {
+            Effect::SendEnter { side }
+        };
+        let level = self;
+        Some(Applied { level, effect })
     }
 
     // The centre as output and told, after result none.
-    pub fn rule11(self, c: Context) -> Applied
-        ensures { (s : List ℕ) → as_applied s result ≡ Rules.rule11 c (as_level s self) }
+    #[tactic(auto, unfolding(crate::specs::Rules::rule11))]
+    pub fn rule11(self, c: Context) -> Option<Applied>
+        ensures { (s : List ℕ) → as_applied s self result ≡ Rules.rule11 c (as_level s self) }
     {
-        if self.result != NONE {
-            return self.idle();
+        if self.result != NONE || self.told_centre {
+            return None;
         }
-        if self.told_centre {
-            return self.idle();
-        }
-        let mut l = self;
-        l.told_centre = true;
-        if l.output == NO_OUTPUT {
-            l.output = c.centre;
-        }
-        let b = Body::Centre;
-        Applied {
-            level: l,
-            effect: Effect::Send(b),
-        }
+        let output = if self.output == NO_OUTPUT {
+            c.centre
+        } else {
+            self.output
+        };
+        let level = Level {
+            told_centre: true,
+            output,
+            ..self
+        };
+        let effect = Effect::Send(Body::Centre);
+        Some(Applied { level, effect })
     }
 
     // The next level entered, by t+1 side messages.
-    pub fn rule12(self, sets: &[senders::Mask], c: Context) -> Applied
-        requires { InLimits c (as_level sets.now self) × (slot_count ≤ length sets.now) }
-        ensures { as_applied sets.now result ≡ Rules.rule12 c (as_level sets.now self) }
+    #[tactic(auto, unfolding(crate::specs::Rules::rule12, crate::specs::Counts::sided, crate::specs::Level::senders, level_counts::specs::Places::slot))]
+    pub fn rule12(self, heard: &Heard, c: Context) -> Option<Applied>
+        requires { InLimits c (as_level heard.now self) }
+        ensures { as_applied heard.now self result ≡ Rules.rule12 c (as_level heard.now self) }
     {
-        if self.result != NONE {
-            return self.idle();
+        if self.result != NONE || c.next_entered {
+            return None;
         }
-        if c.next_entered {
-            return self.idle();
-        }
-        let k = level_counts_leave::side(sets, c.degree, c.t);
-        if k == NOT_YET {
-            return self.idle();
-        }
-        Applied {
-            level: self,
-            effect: Effect::Enter {
-                side: k,
-                keep: false,
-            },
-        }
+        let side = level_counts_leave::side(c.counting(), heard)?;
+        let level = self;
+        let effect = Effect::Enter { side, keep: false };
+        Some(Applied { level, effect })
     }
 
     // The centre as output, by t+1 centre messages.
-    pub fn rule13(self, sets: &[senders::Mask], c: Context) -> Applied
-        requires { InLimits c (as_level sets.now self) × (slot_count ≤ length sets.now) }
-        ensures { as_applied sets.now result ≡ Rules.rule13 c (as_level sets.now self) }
+    #[tactic(auto, unfolding(crate::specs::Rules::rule13, crate::specs::Level::senders, level_counts::specs::Places::slot))]
+    pub fn rule13(self, heard: &Heard, c: Context) -> Option<Applied>
+        requires { InLimits c (as_level heard.now self) }
+        ensures { as_applied heard.now self result ≡ Rules.rule13 c (as_level heard.now self) }
     {
-        if !level_counts_leave::centre_due(sets, c.t) {
-            return self.idle();
+        if !level_counts_leave::centre_due(c.counting(), heard) {
+            return None;
         }
         self.answer(c.centre)
     }
 
     // The next level's output.
-    pub fn rule14(self, c: Context) -> Applied
-        ensures { (s : List ℕ) → as_applied s result ≡ Rules.rule14 c (as_level s self) }
+    #[tactic(auto, unfolding(crate::specs::Rules::rule14))]
+    pub fn rule14(self, c: Context) -> Option<Applied>
+        ensures { (s : List ℕ) → as_applied s self result ≡ Rules.rule14 c (as_level s self) }
     {
-        let value = self.result;
-        if value < 1 {
-            return self.idle();
-        }
-        if NONE <= value {
-            return self.idle();
-        }
-        if c.next_output == NO_OUTPUT {
-            return self.idle();
+        if !self.aside() || c.next_output == NO_OUTPUT {
+            return None;
         }
         self.answer(c.next_output)
     }

@@ -1,14 +1,12 @@
 // Where a level keeps the sets of senders of its messages, and the searches through them that several rules share.
 #![tactic(auto)]
 
-ghost use Rattle.std.specs.Prelude.{◌≡◌, ◌+◌, ◌-◌, ◌≤◌, ◌<◌, leb, length, get_or};
-ghost use Rattle.base.specs.Limits.{max_degree};
-ghost use Rattle.base.specs.Pick.{pick, smallest};
+ghost use Rattle.std.specs.Prelude.{◌≡◌, ◌+◌, ◌-◌, ◌*◌, ◌≤◌, ◌<◌};
+ghost use Rattle.base.specs.Limits.{max_degree, max_boards};
 ghost use Rattle.base.specs.Sets.{count};
-ghost use Rattle.message.specs.Message.{none_value};
-ghost use Rattle.senders.specs.Senders.{union, at_least};
-ghost use Rattle.level_counts.specs.Places.{second_proposals, slot_count};
-ghost use Rattle.level_counts.specs.Inner.{places_of, reached, first_of};
+ghost use Rattle.level_counts.specs.Places.{second_proposals};
+ghost use Rattle.level_counts.specs.Inner.{places_of};
+ghost use Rattle.level_counts.specs.Choice.{reached, first_value, first_candidate};
 
 // None, as a value of a level; the values before it are 0 to base::MAX_DEGREE.
 pub const NONE: u8 = base::NONE;
@@ -33,6 +31,9 @@ pub const SIDES: usize = SECOND_PROPOSALS + NONE_PLACE;
 pub const CENTRES: usize = SIDES + NONE_PLACE;
 // How many messages differ at a level: one set of senders for each.
 pub const SLOTS: usize = CENTRES + 1;
+
+// What was heard at a level: the senders of each message, by its slot.
+pub type Heard = [senders::Mask; SLOTS];
 
 // These constants.
 #[derive(Clone, Copy)]
@@ -68,81 +69,82 @@ pub fn constants() -> Places
 }
 
 // The place of a message's set of senders.
+#[tactic(auto, unfolding(crate::specs::Places::slot))]
 pub fn slot(b: message::Body) -> usize
     ensures { result ≡ Rattle.level_counts.specs.Places.slot b }
 {
     match b {
-        message::Body::FirstEcho(v) => v as usize,
-        message::Body::FirstProposal(v) => FIRST_PROPOSALS + v as usize,
-        message::Body::SecondEcho(v) => SECOND_ECHOES + v as usize,
-        message::Body::SecondProposal(v) => SECOND_PROPOSALS + v as usize,
-        message::Body::Side(v) => SIDES + v as usize,
+        message::Body::FirstEcho(v) => usize::from(v),
+        message::Body::FirstProposal(v) => FIRST_PROPOSALS + usize::from(v),
+        message::Body::SecondEcho(v) => SECOND_ECHOES + usize::from(v),
+        message::Body::SecondProposal(v) => SECOND_PROPOSALS + usize::from(v),
+        message::Body::Side(v) => SIDES + usize::from(v),
         message::Body::Centre => CENTRES,
     }
 }
 
-// n-t: the sound boards alone are so many.
-pub fn quorum(n: u32, t: u32) -> u32
-    requires { t < n }
-    ensures { result ≡ n - t }
-{
-    n - t
+// What the rules at a level count by: n boards, at most t of them faulty, and d, the number of the centre's neighbours.
+#[derive(Clone, Copy)]
+pub struct Counting {
+    pub n: u32,
+    pub t: u32,
+    pub degree: u8,
+    ghost in_limits: { (degree ≤ max_degree) × (t < n) × (n ≤ max_boards) },
 }
 
-// The candidate with number i in the order "smallest, none last".
-pub fn candidate(degree: usize, i: usize) -> usize
-    ensures { result ≡ pick (leb i degree) i none_value }
-{
-    if i <= degree { i } else { NONE_PLACE }
-}
+impl Counting {
+    // t+1: one of them is a sound board.
+    pub fn weak(self) -> u32
+        ensures { result ≡ self.t + 1 }
+    {
+        self.t + 1
+    }
 
-// The union of a and b where the test holds, else a.
-pub fn either_if(test: bool, a: senders::Mask, b: senders::Mask) -> senders::Mask
-    ensures { result ≡ pick test (union a b) a }
-{
-    if test { senders::either(a, b) } else { a }
-}
+    // 2t+1: t+1 of them are sound boards.
+    pub fn strong(self) -> u32
+        ensures { result ≡ 2 * self.t + 1 }
+    {
+        2 * self.t + 1
+    }
 
-// The first of the `number` sets from `from` on that has k senders, counted from 0; `number` if none has.
-pub fn first_reaching(sets: &[senders::Mask], from: usize, number: usize, k: u32) -> usize
-    requires { (from + number ≤ slot_count) × (slot_count ≤ length sets.now) }
-    ensures { result ≡ smallest number (λ i. at_least k (get_or sets.now (from + i) 0)) }
-{
-    let mut i = 0;
-    while i < number {
-        if senders::reaches(sets[from + i], k) {
-            return i;
+    // n-t: the sound boards alone are so many.
+    pub fn quorum(self) -> u32
+        ensures { result ≡ self.n - self.t }
+    {
+        self.n - self.t
+    }
+
+    // The smallest of the values 0 to d that has k senders, the sets of these values being those from `from` on. (`find` was tried and did not prove.)
+    pub fn first_value(self, heard: &Heard, from: usize, k: u32) -> Option<u8>
+        requires { from ≤ second_proposals }
+        ensures { result ≡ first_value self.degree (reached heard.now from k) }
+    {
+        for v in 0..=self.degree {
+            if senders::reaches(heard[from + usize::from(v)], k) {
+                return Some(v);
+            }
         }
-        i += 1;
+        None
     }
-    i
-}
 
-// How many of the `number` sets from `from` on have k senders.
-pub fn count_reaching(sets: &[senders::Mask], from: usize, number: usize, k: u32) -> usize
-    requires { (from + number ≤ slot_count) × (slot_count ≤ length sets.now) }
-    ensures { result ≡ count number (λ i. at_least k (get_or sets.now (from + i) 0)) }
-{
-    let mut i = 0;
-    let mut sum = 0;
-    while i < number {
-        sum += senders::reaches(sets[from + i], k) as usize;
-        i += 1;
+    // How many of the values 0 to d have k senders.
+    pub fn count_values(self, heard: &Heard, from: usize, k: u32) -> usize
+        requires { from ≤ second_proposals }
+        ensures { result ≡ count (self.degree + 1) (reached heard.now from k) }
+    {
+        let degree = usize::from(self.degree);
+        let sets = &heard[from..=from + degree];
+        sets.iter().filter(|m| senders::reaches(**m, k)).count()
     }
-    sum
-}
 
-// The first candidate with k senders, its sets being those from `from` on; degree + 2 if there is none.
-pub fn first_candidate(sets: &[senders::Mask], from: usize, degree: usize, k: u32) -> usize
-    requires { (degree ≤ max_degree) × (from ≤ second_proposals) × (slot_count ≤ length sets.now) }
-    ensures { result ≡ first_of degree (reached sets.now from k) }
-{
-    let i = first_reaching(sets, from, degree + 1, k);
-    if i <= degree {
-        return i;
+    // The first candidate that has k senders, in the order "smallest, none last".
+    pub fn first_candidate(self, heard: &Heard, from: usize, k: u32) -> Option<u8>
+        requires { from ≤ second_proposals }
+        ensures { result ≡ first_candidate self.degree (reached heard.now from k) }
+    {
+        if let Some(v) = self.first_value(heard, from, k) {
+            return Some(v);
+        }
+        senders::reaches(heard[from + NONE_PLACE], k).then_some(NONE)
     }
-    if senders::reaches(sets[from + NONE_PLACE], k) {
-        return degree + 1;
-    }
-    degree + 2
 }

@@ -1,64 +1,64 @@
 // What rule 4 counts and chooses, of the sets of senders of a level: the first result.
 #![tactic(auto)]
 
-ghost use Rattle.std.specs.Prelude.{◌≡◌, ◌≤◌, ◌<◌, length};
-ghost use Rattle.base.specs.Limits.{max_degree, max_boards};
-ghost use Rattle.level_counts.specs.Places.{bit_places, slot_count};
-ghost use Rattle.level_counts_first_result.specs.Inner.{with_digit, split_at_place, splits, result_of};
+ghost use Rattle.std.specs.Prelude.{◌≡◌, ◌<◌};
+ghost use Rattle.level_counts.specs.Places.{bit_places};
+ghost use Rattle.level_counts_first_result.specs.Inner.{values_with, with_digit, split_at_place, splits, result_of};
 
-// Rule 4: the senders that first-echoed none or a value with this digit at this place.
-fn digit_echoes(sets: &[senders::Mask], degree: usize, place: u32, digit: usize) -> senders::Mask
-    requires { (degree ≤ max_degree) × (place < bit_places) × (slot_count ≤ length sets.now) }
-    ensures { result ≡ with_digit sets.now degree place digit }
+use level_counts::{Counting, Heard};
+
+// The senders that first-echoed a value with this digit at this place.
+#[tactic(auto, using(senders::proofs::Laws::over_none, senders::proofs::Laws::over_next))]
+fn value_echoes(c: Counting, heard: &Heard, place: u32, digit: u8) -> senders::Mask
+    requires { place < bit_places }
+    ensures { result ≡ values_with heard.now c.degree place digit }
 {
-    let mut m = 0;
-    let mut v: usize = 0;
-    while v <= degree {
-        m = level_counts::either_if((v >> place) % 2 == digit, m, sets[v]);
-        v += 1;
+    let mut all = 0;
+    for v in 0..=c.degree {
+        if (v >> place) % 2 == digit {
+            all = senders::either(all, heard[usize::from(v)]);
+        }
     }
-    senders::either(m, sets[level_counts::NONE_PLACE])
+    all
 }
 
-// Rule 4: at this place both digits have t+1 senders.
-fn split_at(sets: &[senders::Mask], degree: usize, t: u32, place: u32) -> bool
-    requires { (degree ≤ max_degree) × (t < max_boards) × (place < bit_places) × (slot_count ≤ length sets.now) }
-    ensures { result ≡ split_at_place sets.now degree t place }
+// The senders that first-echoed none or a value with this digit at this place.
+fn digit_echoes(c: Counting, heard: &Heard, place: u32, digit: u8) -> senders::Mask
+    requires { place < bit_places }
+    ensures { result ≡ with_digit heard.now c.degree place digit }
 {
-    if senders::reaches(digit_echoes(sets, degree, place, 0), t + 1) {
-        return senders::reaches(digit_echoes(sets, degree, place, 1), t + 1);
-    }
-    false
+    let values = value_echoes(c, heard, place, digit);
+    senders::either(values, heard[level_counts::NONE_PLACE])
 }
 
-// Rule 4: at some place both digits have t+1 senders.
-fn split(sets: &[senders::Mask], degree: usize, t: u32) -> bool
-    requires { (degree ≤ max_degree) × (t < max_boards) × (slot_count ≤ length sets.now) }
-    ensures { result ≡ splits sets.now degree t }
+// At this place both digits have t+1 senders.
+fn split_at(c: Counting, heard: &Heard, place: u32) -> bool
+    requires { place < bit_places }
+    ensures { result ≡ split_at_place heard.now c.degree c.t place }
 {
-    let mut place: u32 = 0;
-    while place < level_counts::BIT_PLACES {
-        if split_at(sets, degree, t, place) {
+    senders::reaches(digit_echoes(c, heard, place, 0), c.weak())
+        && senders::reaches(digit_echoes(c, heard, place, 1), c.weak())
+}
+
+// At some place both digits have t+1 senders.
+fn split(c: Counting, heard: &Heard) -> bool
+    ensures { result ≡ splits heard.now c.degree c.t }
+{
+    // A loop, since the check doesn't prove `any` over these places.
+    for place in 0..level_counts::BIT_PLACES {
+        if split_at(c, heard, place) {
             return true;
         }
-        place += 1;
     }
     false
 }
 
-// Rule 4: the first result, none, or level_counts::NOT_YET.
-pub fn result(sets: &[senders::Mask], degree: u32, n: u32, t: u32) -> u8
-    requires { (degree ≤ max_degree) × (t < n) × (n ≤ max_boards) × (slot_count ≤ length sets.now) }
-    ensures { result ≡ result_of sets.now degree n t }
+// The first result: a value, or none.
+pub fn result(c: Counting, heard: &Heard) -> Option<u8>
+    ensures { result ≡ result_of heard.now c.degree c.n c.t }
 {
-    let d = degree as usize;
-    let k = level_counts::quorum(n, t);
-    let v = level_counts::first_reaching(sets, level_counts::FIRST_PROPOSALS, d + 1, k);
-    if v <= d {
-        return v as u8;
+    if let Some(v) = c.first_value(heard, level_counts::FIRST_PROPOSALS, c.quorum()) {
+        return Some(v);
     }
-    if split(sets, d, t) {
-        return level_counts::NONE;
-    }
-    level_counts::NOT_YET
+    split(c, heard).then_some(level_counts::NONE)
 }

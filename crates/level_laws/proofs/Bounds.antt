@@ -21,8 +21,8 @@ use Rattle.message.specs.Message.{none_value}
 use Rattle.message.specs.declared.Body.{Body}
 use Rattle.message.specs.declared.Body.TheVariants.{SecondEcho}
 use Rattle.level.specs.declared.Context.{Context}
-use Rattle.level.specs.declared.Effect.{Effect}
-use Rattle.level.specs.declared.Effect.TheVariants.{Nothing, Quiet, Send, Enter, SendEnter}
+use Rattle.level.specs.Rules.{Effect}
+use Rattle.level.specs.Rules.{Nothing, Quiet, Send, Enter, SendEnter}
 use Rattle.level.specs.Level.{Level, not_yet, no_output, value_count, with_heard, with_entry, with_second_echo, with_result, with_output, with_centre_told}
 use Rattle.level.specs.Inner.{InLimits}
 use Rattle.level.specs.Rules.{Applied, applies, does, missing, unanswered, aside, result_none, lowest_rule}

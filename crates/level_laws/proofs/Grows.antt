@@ -13,7 +13,7 @@ use Rattle.message.specs.declared.Body.{Body}
 use Rattle.senders.specs.Senders.{is_in, with_sender}
 use Rattle.senders.proofs.Laws.{with_keeps}
 use Rattle.level.specs.declared.Context.{Context}
-use Rattle.level.specs.declared.Effect.{Effect}
+use Rattle.level.specs.Rules.{Effect}
 use Rattle.level.specs.Level.{Level, senders, slot, not_yet, no_output, with_heard, with_entry}
 use Rattle.level.specs.Rules.{lowest_rule}
 use Rattle.level_laws.specs.Inner.{Present, Answered, Echoed, Grows}

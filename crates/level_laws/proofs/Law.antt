@@ -11,7 +11,7 @@ use lib.ListN.{length, get_or, replicate, length-set}
 use Rattle.base.specs.Pick.{pick}
 use Rattle.message.specs.Message.{none_value}
 use Rattle.level.specs.declared.Context.{Context}
-use Rattle.level.specs.declared.Effect.{Effect}
+use Rattle.level.specs.Rules.{Effect}
 use Rattle.level.specs.Level.{Level, senders, not_yet, no_output, value_count, slot_count, blank_level, with_entry, with_port_echo, with_none_echo, with_proposal, with_first, with_second_echo, with_second_proposal, with_result, with_output, with_centre_told}
 use Rattle.level.specs.Counts.{weak, strong, other_echoes, at_least, may_propose, proposed, split, split_at, digit_echoes, echoed_by, second_proposed}
 use Rattle.level.specs.Rules.{unanswered, lowest_rule}

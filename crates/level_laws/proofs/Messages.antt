@@ -12,8 +12,8 @@ use Rattle.message.specs.Message.{none_value, max_value, body_in_table}
 use Rattle.message.specs.declared.Body.{Body}
 use Rattle.message.specs.declared.Body.TheVariants.{FirstEcho, FirstProposal, SecondEcho, SecondProposal, Side, Centre}
 use Rattle.level.specs.declared.Context.{Context}
-use Rattle.level.specs.declared.Effect.{Effect}
-use Rattle.level.specs.declared.Effect.TheVariants.{Nothing, Quiet, Send, Enter, SendEnter}
+use Rattle.level.specs.Rules.{Effect}
+use Rattle.level.specs.Rules.{Nothing, Quiet, Send, Enter, SendEnter}
 use Rattle.level.specs.Level.{Level, value_count, with_heard}
 use Rattle.level.specs.Counts.{sided}
 use Rattle.level.specs.Rules.{lowest_rule}

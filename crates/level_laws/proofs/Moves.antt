@@ -13,8 +13,8 @@ use Rattle.base.proofs.Smallest.{sought, found}
 use Rattle.message.specs.Message.{none_value}
 use Rattle.message.specs.declared.Body.TheVariants.{FirstEcho, FirstProposal, SecondEcho, SecondProposal, Centre}
 use Rattle.level.specs.declared.Context.{Context}
-use Rattle.level.specs.declared.Effect.{Effect}
-use Rattle.level.specs.declared.Effect.TheVariants.{Nothing, Quiet, Send, Enter, SendEnter}
+use Rattle.level.specs.Rules.{Effect}
+use Rattle.level.specs.Rules.{Nothing, Quiet, Send, Enter, SendEnter}
 use Rattle.level.specs.Level.{Level, senders, not_yet, no_output, with_port_echo, with_none_echo, with_proposal, with_first, with_second_echo, with_second_proposal, with_result, with_output, with_centre_told}
 use Rattle.level.specs.Counts.{weak, strong, candidate, other_echoes, at_least, may_propose, proposed, split, echoed_by, second_proposed, echoed_values, sided}
 use Rattle.level.specs.Rules.{Applied, idle, does, when, missing, present, unanswered, aside, result_none, smallest_value, is_value, first_candidate, is_candidate, applies, or_else, rule1, rule2, rule3, rule4, rule5, rule6, rule7, rule8, rule9, rule10, rule11, rule12, rule13, rule14, lowest_rule}
@@ -76,7 +76,7 @@ pub data Move (c : Context) (l : Level) : Level → Effect → Type 0 where
   -- rule 14
   next_output_lem : Aside l → l.output ≡ no_output → (c.next_output ≡ no_output → ⊥) → Move c l (with_output l c.next_output) Quiet
 
--- no rule applies to the record l in context c: a clause for each case, result-proposals and result-echoes for rule 8 and entry for rule 10
+-- no rule applies to the record l in context c: a clause for each case, result_proposals and result_echoes for rule 8 and entry for rule 10
 pub record AtRest (c : Context) (l : Level) : Type 0 where
   pub port_echo : T l.echoed_port
   pub none_echo : T (at_least (weak c) (other_echoes c l)) → T l.echoed_none

@@ -12,7 +12,7 @@ use Rattle.message.specs.Message.{none_value}
 use Rattle.message.specs.declared.Body.{Body}
 use Rattle.message.specs.declared.Body.TheVariants.{Centre}
 use Rattle.level.specs.declared.Context.{Context}
-use Rattle.level.specs.declared.Effect.{Effect}
+use Rattle.level.specs.Rules.{Effect}
 use Rattle.level.specs.Level.{Level, senders, slot, not_yet, no_output, with_heard, with_result}
 use Rattle.level.specs.Counts.{weak, at_least}
 use Rattle.level.specs.Rules.{unanswered, lowest_rule}

@@ -1,81 +1,58 @@
 // Which rule of a level is applied: the lowest of the fourteen that applies.
 #![tactic(auto)]
 
-ghost use Rattle.std.specs.Prelude.{◌≡◌, ◌≤◌, length};
-ghost use Rattle.level.specs.Level.{slot_count};
+ghost use Rattle.std.specs.Prelude.{◌≡◌};
 ghost use Rattle.level.specs.Inner.{InLimits};
 ghost use Rattle.level.specs.Rules.{lowest_rule};
 ghost use Rattle.level.specs.Tie.{as_level, as_applied};
 
+use level::{Applied, Context, Level};
+use level_counts::Heard;
+
 // The lowest rule that applies. Said rule by rule and not as a loop over their numbers, so that a rule that does not apply moves nothing.
-pub fn lowest_rule(l: level::Level, sets: &[senders::Mask], c: level::Context) -> level::Applied
-    requires { InLimits c (as_level sets.now l) × (slot_count ≤ length sets.now) }
-    ensures { as_applied sets.now result ≡ lowest_rule c (as_level sets.now l) }
+#[tactic(auto, using(crate::proofs::Laws::taken, crate::proofs::Laws::passed), unfolding(level::specs::Rules::lowest_rule))]
+pub fn lowest_rule(l: Level, heard: &Heard, c: Context) -> Option<Applied>
+    requires { InLimits c (as_level heard.now l) }
+    ensures { as_applied heard.now l result ≡ lowest_rule c (as_level heard.now l) }
 {
-    let a = l.rule1(c);
-    let e = a.effect;
-    if level::applies(e) {
-        return a;
+    if let Some(a) = l.rule1(c) {
+        return Some(a);
     }
-    let a = l.rule2(sets, c);
-    let e = a.effect;
-    if level::applies(e) {
-        return a;
+    if let Some(a) = l.rule2(heard, c) {
+        return Some(a);
     }
-    let a = l.rule3(sets, c);
-    let e = a.effect;
-    if level::applies(e) {
-        return a;
+    if let Some(a) = l.rule3(heard, c) {
+        return Some(a);
     }
-    let a = l.rule4(sets, c);
-    let e = a.effect;
-    if level::applies(e) {
-        return a;
+    if let Some(a) = l.rule4(heard, c) {
+        return Some(a);
     }
-    let a = l.rule5(c);
-    let e = a.effect;
-    if level::applies(e) {
-        return a;
+    if let Some(a) = l.rule5(c) {
+        return Some(a);
     }
-    let a = l.rule6(sets, c);
-    let e = a.effect;
-    if level::applies(e) {
-        return a;
+    if let Some(a) = l.rule6(heard, c) {
+        return Some(a);
     }
-    let a = l.rule7(sets, c);
-    let e = a.effect;
-    if level::applies(e) {
-        return a;
+    if let Some(a) = l.rule7(heard, c) {
+        return Some(a);
     }
-    let a = l.rule8(sets, c);
-    let e = a.effect;
-    if level::applies(e) {
-        return a;
+    if let Some(a) = l.rule8(heard, c) {
+        return Some(a);
     }
-    let a = l.rule9(c);
-    let e = a.effect;
-    if level::applies(e) {
-        return a;
+    if let Some(a) = l.rule9(c) {
+        return Some(a);
     }
-    let a = l.rule10(c);
-    let e = a.effect;
-    if level::applies(e) {
-        return a;
+    if let Some(a) = l.rule10(c) {
+        return Some(a);
     }
-    let a = l.rule11(c);
-    let e = a.effect;
-    if level::applies(e) {
-        return a;
+    if let Some(a) = l.rule11(c) {
+        return Some(a);
     }
-    let a = l.rule12(sets, c);
-    let e = a.effect;
-    if level::applies(e) {
-        return a;
+    if let Some(a) = l.rule12(heard, c) {
+        return Some(a);
     }
-    let a = l.rule13(sets, c);
-    let e = a.effect;
-    if level::applies(e) {
-        return a;
+    if let Some(a) = l.rule13(heard, c) {
+        return Some(a);
     }
     l.rule14(c)
 }

@@ -1,19 +1,23 @@
--- Laws of marks: one stored, counted; and of passes that write every position anew.
+-- Laws of marks: one stored, those of a part, counted and searched.
 use mathlib.Core.Path.{◌≡◌, refl, sym, ap, ◌∙◌}
 use mathlib.Core.List.{List}
 use mathlib.Core.Bool.{Bool, true, false, not}
-use Prim.Native.Nat.{ℕ, ◌+◌, ◌≤◌, ◌<◌}
+use Prim.Native.Nat.{ℕ, zero, suc, ◌+◌, ◌≤◌, ◌<◌}
 use native.Mathlib.Numerals.{add-one}
 use native.Mathlib.Decide.{ℕ_discrete, dec_lt}
 use native.Mathlib.Omega.{arith}
-use lib.Dec.{T, eqb, eqb→eq, ltb, lt→ltb, ltb→lt}
-use lib.ListN.{length, get_or, set, replicate, length-replicate, get_or-replicate, get_or-eq_default}
+use lib.Dec.{T, eqb, eqb→eq}
+use lib.ListN.{length, get_or, set, take, replicate, length-replicate, get_or-replicate, get_or-eq_default}
 use lib.Seq.{get_or-set_same, get_or-set_other}
 use borrow.Author.Tests.{eq-eqb, ne_eqb, lt-ltb, le-ltb}
-use Rattle.base.specs.Pick.{pick}
+use Rattle.std.specs.Prelude.{count_by, position, unwrap_or}
+use Rattle.std.specs.List.{position_or_len}
+use Rattle.std.proofs.lemmas.List.{length-take-le, get_or-take}
+use Rattle.std.proofs.lemmas.List.Sums.{count_by_more_yes, count_by_more_no, prefix_len_is, prefix_len-le-length}
+use Rattle.base.specs.Pick.{smallest}
 use Rattle.base.specs.Sets.{bit, count}
-use Rattle.base.proofs.Bools.{T-ext}
-use Rattle.base.proofs.Counts.{count_le}
+use Rattle.base.proofs.Bools.{T→true, not-T→false}
+use Rattle.base.proofs.Smallest.{Sought, sought}
 use Rattle.marks.specs.Marks.{marked, numbered}
 
 -- ---- a mark
@@ -49,16 +53,11 @@ pub off : (m : List ℕ) (x : ℕ) → (get_or m x 0 ≡ 1 → ⊥) → T (marke
 unfolding marked
 off m x d h = d (eqb→eq (get_or m x 0) 1 h)
 
--- past the end no position has a number
-pub past : (m : List ℕ) (x : ℕ) → length m ≤ x → false ≡ numbered m x
-unfolding numbered
-past m x l = sym (ap (λ (z : ℕ). not (eqb z 0)) (get_or-eq_default m 0 l))
-
--- what the code tests
-pub mark_on : (x k : ℕ) → x ≡ k → 1 ≡ bit (eqb x k)
+-- a number compared with k
+mark_on : (x k : ℕ) → x ≡ k → 1 ≡ bit (eqb x k)
 mark_on x k e = sym (ap bit (eq-eqb x k e))
 
-pub mark_off : (x k : ℕ) → (x ≡ k → ⊥) → 0 ≡ bit (eqb x k)
+mark_off : (x k : ℕ) → (x ≡ k → ⊥) → 0 ≡ bit (eqb x k)
 mark_off x k d = sym (ap bit (ne_eqb x k d))
 
 -- a mark is 0 or 1
@@ -79,63 +78,45 @@ module _ (l : List ℕ) (x : ℕ) (m : get_or l x 0 ≤ 1) where
       go (yes e) = rw e
       go (no d) = let e : get_or l x 0 ≡ 0 = omega arith in rw e
 
--- ---- marks counted
+-- ---- marks counted and searched
 
-bit_le : (b : Bool) → bit b ≤ 1
-bit_le true = omega arith
-bit_le false = omega arith
-
-pub count_start : (m : List ℕ) → 0 ≡ count 0 (marked m)
-unfolding count
-count_start m = refl
-
-pub count_end : (m : List ℕ) (n x r : ℕ) → x ≡ n → r ≡ count x (marked m) → r ≡ count n (marked m)
-count_end m n x r i e = e ∙ ap (λ (z : ℕ). count z (marked m)) i
-
--- r marks before x and one there if b
-pub count_step : (m : List ℕ) (x r b : ℕ) → r ≡ count x (marked m) → b ≡ bit (eqb (get_or m x 0) 1) → r + b ≡ count (x + 1) (marked m)
+-- as many of the first n elements are 1 as positions below n are marked
+pub count_marks : (m : List ℕ) (n : ℕ) → n ≤ length m → count_by (λ (x : ℕ). eqb x 1) (take n m) ≡ count n (marked m)
 unfolding count marked
-count_step m x r b e i = rw (add-one x) (omega arith)
+count_marks m zero l = refl
+count_marks m (suc n) l = go (eqb (get_or m n 0) 1) refl (count_marks m n (omega arith))
+  where
+    go : (b : Bool) → eqb (get_or m n 0) 1 ≡ b → count_by (λ (x : ℕ). eqb x 1) (take n m) ≡ count n (marked m) → count_by (λ (x : ℕ). eqb x 1) (take (suc n) m) ≡ bit b + count n (marked m)
+    go true e h = let k = rw add-one at (count_by_more_yes (λ (x : ℕ). eqb x 1) m n 0 l e) in omega arith
+    go false e h = let k = rw add-one at (count_by_more_no (λ (x : ℕ). eqb x 1) m n 0 l e) in omega arith
 
--- so few that they fit
-pub count_few : (m : List ℕ) (x r b : ℕ) → r ≡ count x (marked m) → b ≡ bit (eqb (get_or m x 0) 1) → r + b ≤ x + 1
-count_few m x r b e i = omega (arith, count_le x (marked m), bit_le (eqb (get_or m x 0) 1))
+-- the place that `position` gives, or the length
+position_is : (p : ℕ → Bool) (xs : List ℕ) (n : ℕ) → length xs ≡ n → unwrap_or (position p xs) n ≡ position_or_len p xs
+position_is p xs n e = go (dec_lt (position_or_len p xs) (length xs))
+  where
+    go : Dec (position_or_len p xs < length xs) → unwrap_or (position p xs) n ≡ position_or_len p xs
+    go (yes l) = rw (lt-ltb _ _ l) refl
+    go (no l) = let h : length xs ≤ position_or_len p xs = omega arith in rw (le-ltb _ _ h) (omega (arith, prefix_len-le-length (λ x. not (p x)) xs))
 
--- ---- a pass that writes every position anew
+-- the first 1 among the first n elements stands at the smallest marked position
+abbrev pub one : ℕ → Bool
+one x = eqb x 1
 
-ltb_more : (x y : ℕ) → (y ≡ x → ⊥) → ltb y (x + 1) ≡ ltb y x
-ltb_more x y d = T-ext (ltb y (x + 1)) (ltb y x) (λ h. let k : y < x + 1 = ltb→lt y (x + 1) h in lt→ltb y x (omega arith)) (λ h. let k : y < x = ltb→lt y x h in lt→ltb y (x + 1) (omega arith))
+pub first_mark : (m : List ℕ) (n : ℕ) → n ≤ length m → unwrap_or (position one (take n m)) n ≡ smallest n (marked m)
+unfolding marked
+first_mark m n l = position_is one (take n m) n e ∙ prefix_len_is (λ x. not (one x)) (take n m) r 0 (rw e s.most) before at
+  where
+    e : length (take n m) ≡ n
+    e = length-take-le n m l
 
--- below x the numbers are new, and from there on as before
-abbrev pub Written : (ℕ → ℕ) → List ℕ → ℕ → List ℕ → Type 0
-Written new m₀ x m = (y : ℕ) → get_or m y 0 ≡ pick (ltb y x) (new y) (get_or m₀ y 0)
+    r : ℕ
+    r = smallest n (marked m)
 
-module _ (new : ℕ → ℕ) (m₀ : List ℕ) where
-  pub written_start : Written new m₀ 0 m₀
-  written_start y = rw (le-ltb y 0 (omega arith))
+    s : Sought n (marked m) r
+    s = sought n (marked m)
 
-  -- what the pass reads at x is the old number
-  pub written_old : (x : ℕ) (m : List ℕ) → Written new m₀ x m → get_or m x 0 ≡ get_or m₀ x 0
-  written_old x m h = h x ∙ ap (λ (b : Bool). pick b (new x) (get_or m₀ x 0)) (le-ltb x x (omega arith))
+    before : (k : ℕ) → k < r → not (one (get_or (take n m) k 0)) ≡ true
+    before k h = rw (get_or-take n m k 0 (omega (arith, s.most))) (ap not (not-T→false (one (get_or m k 0)) (s.none k h)))
 
-  pub written_more : (x : ℕ) (m : List ℕ) (v : ℕ) → x < length m → v ≡ new x → Written new m₀ x m → Written new m₀ (x + 1) (set m x v)
-  written_more x m v l e h y = go (ℕ_discrete y x)
-    where
-      go : Dec (y ≡ x) → get_or (set m x v) y 0 ≡ pick (ltb y (x + 1)) (new y) (get_or m₀ y 0)
-      go (yes i) = rw (i, lt-ltb x (x + 1) (omega arith)) (get_or-set_same m x v 0 l ∙ e)
-      go (no d) = rw (ltb_more x y d) (get_or-set_other m x y v 0 d ∙ h y)
-
-  pub written_end : (x n : ℕ) (m : List ℕ) → x ≡ n → Written new m₀ x m → Written new m₀ n m
-  written_end x n m e h = rw (← e) h
-
-  -- a pass to the end changes all, where past it nothing changes
-  pub written_all : (n : ℕ) (m : List ℕ) → ((y : ℕ) → n ≤ y → new y ≡ get_or m₀ y 0) → Written new m₀ n m → (y : ℕ) → get_or m y 0 ≡ new y
-  written_all n m past h y = h y ∙ go (dec_lt y n)
-    where
-      go : Dec (y < n) → pick (ltb y n) (new y) (get_or m₀ y 0) ≡ new y
-      go (yes l) = rw (lt-ltb y n l)
-      go (no d) = let l : n ≤ y = omega arith in rw (le-ltb y n l) (sym (past y l))
-
--- past the end no number is k
-pub past_none : (m : List ℕ) (k y : ℕ) → 1 ≤ k → length m ≤ y → bit (eqb (get_or m y 0) k) ≡ get_or m y 0
-past_none m k y low l = let e : get_or m y 0 ≡ 0 = get_or-eq_default m 0 l in rw (e, ne_eqb 0 k (omega arith))
+    at : r < length (take n m) → not (one (get_or (take n m) r 0)) ≡ false
+    at h = let h : r < n = rw e at h in rw (get_or-take n m r 0 h) (ap not (T→true _ (s.hit h)))

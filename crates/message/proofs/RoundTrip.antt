@@ -17,7 +17,7 @@ use Rattle.varint.proofs.Laws.{length_last, pieces_most}
 use Rattle.varint.proofs.RoundTrip.{value_place}
 use Rattle.format.specs.declared.Fault.{Fault}
 use Rattle.format.specs.Format.{Spells}
-use Rattle.format.specs.Reading.{Read, whole, failed, read_at}
+use Rattle.format.specs.Reading.{Read, whole, read_at}
 use Rattle.format.specs.Statement.{Sensible, Reads}
 use Rattle.format.proofs.Reading.{whole_spelled, whole_place, whole_first}
 use Rattle.format.proofs.Theorem as formats
@@ -25,11 +25,10 @@ use Rattle.message_values.specs.Values.{value_low, value_high}
 use Rattle.message.specs.declared.Body.{Body}
 use Rattle.message.specs.declared.Body.TheVariants.{FirstEcho, FirstProposal, SecondEcho, SecondProposal, Side, Centre}
 use Rattle.message.specs.declared.Message.{Message}
-use Rattle.message.specs.declared.MessageRead.{MessageRead}
-use Rattle.message.specs.declared.Exactly.{Exactly}
+use Rattle.std.specs.Prelude.{Ok, Err}
 use Rattle.message.specs.Message.{last_level, kind_of, value_bytes, body_in_table, in_table, message_bytes}
 use Rattle.message.specs.Format.{value_of, body_of, from_kind, from_number, message_format}
-use Rattle.message.specs.Reading.{as_read, message_at, exactly, exact_message}
+use Rattle.message.specs.Reading.{Exactly, broken, message_at, exactly, exact_message}
 use Rattle.message.proofs.Laws.{bytes_with, bytes_without, table_with, kind_without, kind_with, high_most, low_high, read_exactly, exactly_one, message_length}
 
 -- ---- the table
@@ -191,24 +190,16 @@ by_format = formats.reads message_format sensible
 -- ---- what is written is read back
 
 pub message_read : (m : Message) (p q : List ℕ) → in_table m ≡ true → m.number < 2 ^ 32
-    → message_at (p ++ (message_bytes m ++ q)) (length p) ≡ MessageRead.Read m (length p + length (message_bytes m))
+    → message_at (p ++ (message_bytes m ++ q)) (length p) ≡ whole m (length p + length (message_bytes m))
 unfolding message_at
-message_read m p q t h = ap as_read (by_format.written (message_bytes m) m p q (spells m t (omega arith)))
+message_read m p q t h = (by_format.written (message_bytes m) m p q (spells m t (omega arith)))
 
 -- ---- what is read was written
 
--- what the format finds where a message is read
-pub found_whole : (r : Read Message) (m : Message) (next : ℕ) → as_read r ≡ MessageRead.Read m next → r ≡ whole m next
-found_whole (whole x n) m next e =
-    let ex : x ≡ m = cc in
-    let en : n ≡ next = cc in
-    ap₂ whole ex en
-found_whole (failed fault at) m next e = let z : ◌≡◌ {A = ℕ} 0 1 = cc in absurd (omega arith)
-
-module _ (s : List ℕ) (at : ℕ) (m : Message) (next : ℕ) (e : message_at s at ≡ MessageRead.Read m next) where
+module _ (s : List ℕ) (at : ℕ) (m : Message) (next : ℕ) (e : message_at s at ≡ whole m next) where
   by_reading : read_at message_format s at ≡ whole m next
   unfolding message_at
-  by_reading = found_whole (read_at message_format s at) m next e
+  by_reading = e
 
   -- it ends past its first byte and within the bytes
   pub message_place : (at < next) × (next ≤ length s)
@@ -232,34 +223,34 @@ module _ (s : List ℕ) (at : ℕ) (m : Message) (next : ℕ) (e : message_at s 
 
 -- ---- bytes that are exactly one message
 
-exactly_inverse : (s : List ℕ) (r : MessageRead) (m : Message) → exactly s r ≡ Exactly.One m → r ≡ MessageRead.Read m (length s)
-exactly_inverse s (MessageRead.Read x next) m e = go (eqb next (length s)) refl e
+exactly_inverse : (s : List ℕ) (r : Read Message) (m : Message) → exactly s r ≡ Ok m → r ≡ whole m (length s)
+exactly_inverse s (Ok r) m e = go (eqb r.next (length s)) refl e
   where
-    go : (b : Bool) → eqb next (length s) ≡ b → pick b (Exactly.One x) (Exactly.Broken Fault.Spare next) ≡ Exactly.One m → MessageRead.Read x next ≡ MessageRead.Read m (length s)
-    go true p e = let f : x ≡ m = cc in ap₂ MessageRead.Read f (eqb-true next (length s) p)
+    go : (b : Bool) → eqb r.next (length s) ≡ b → ◌≡◌ {A = Exactly} (pick b (Ok r.value) (broken Fault.Spare r.next)) (Ok m) → ◌≡◌ {A = Read Message} (Ok r) (whole m (length s))
+    go true p e = let f : r.value ≡ m = cc in ap₂ whole f (eqb-true r.next (length s) p)
     go false p e = let z : ◌≡◌ {A = ℕ} 0 1 = cc in absurd (omega arith)
-exactly_inverse s (MessageRead.Failed fault at) m e = let z : ◌≡◌ {A = ℕ} 0 1 = cc in absurd (omega arith)
+exactly_inverse s (Err x) m e = let z : ◌≡◌ {A = ℕ} 0 1 = cc in absurd (omega arith)
 
 -- it is read from the first byte on
-pub exact_message_at : (s : List ℕ) (m : Message) → exact_message s ≡ Exactly.One m → message_at s 0 ≡ MessageRead.Read m (length s)
+pub exact_message_at : (s : List ℕ) (m : Message) → exact_message s ≡ Ok m → message_at s 0 ≡ whole m (length s)
 unfolding exact_message
 exact_message_at s m e = exactly_inverse s (message_at s 0) m e
 
-pub exact_message_written : (s : List ℕ) (m : Message) → AllBytes s → exact_message s ≡ Exactly.One m → (in_table m ≡ true) × (m.number < 2 ^ 32) × (s ≡ message_bytes m)
+pub exact_message_written : (s : List ℕ) (m : Message) → AllBytes s → exact_message s ≡ Ok m → (in_table m ≡ true) × (m.number < 2 ^ 32) × (s ≡ message_bytes m)
 exact_message_written s m h e =
     let r = message_was_written s 0 m (length s) (exact_message_at s m e) h in
     (r.0, r.1, sym (part_all s) ∙ r.4)
 
-pub exact_message_read : (m : Message) → in_table m ≡ true → m.number < 2 ^ 32 → exact_message (message_bytes m) ≡ Exactly.One m
+pub exact_message_read : (m : Message) → in_table m ≡ true → m.number < 2 ^ 32 → exact_message (message_bytes m) ≡ Ok m
 exact_message_read m t h =
     let s : List ℕ = message_bytes m in
-    let e : message_at s 0 ≡ MessageRead.Read m (0 + length s) = ap (λ (x : List ℕ). message_at x 0) (sym (append-nil s)) ∙ message_read m [] [] t h in
+    let e : message_at s 0 ≡ whole m (0 + length s) = ap (λ (x : List ℕ). message_at x 0) (sym (append-nil s)) ∙ message_read m [] [] t h in
     sym (read_exactly s e) ∙ exactly_one s m (0 + length s) (omega arith)
 
 -- messages with the same bytes are the same
 pub message_bytes_injective : (m o : Message) → in_table m ≡ true → m.number < 2 ^ 32 → in_table o ≡ true → o.number < 2 ^ 32 → message_bytes m ≡ message_bytes o → m ≡ o
 message_bytes_injective m o t h u k e =
-    let f : Exactly.One m ≡ Exactly.One o = sym (exact_message_read m t h) ∙ ap exact_message e ∙ exact_message_read o u k in
+    let f : ◌≡◌ {A = Exactly} (Ok m) (Ok o) = sym (exact_message_read m t h) ∙ ap exact_message e ∙ exact_message_read o u k in
     cc
 
 -- ---- a message of the table has at most 8 bytes: 5 for the number, 1 each for level, kind and value

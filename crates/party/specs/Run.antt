@@ -7,8 +7,8 @@ use Rattle.message.specs.declared.Body.TheVariants.{Side}
 use Rattle.message.specs.declared.Message.{Message}
 use Rattle.message.specs.Message.{message_bytes}
 use Rattle.level.specs.Level.{Level}
-use Rattle.level.specs.declared.Effect.{Effect}
-use Rattle.level.specs.declared.Effect.TheVariants.{Nothing, Quiet, Send, Enter, SendEnter}
+use Rattle.level.specs.Rules.{Effect}
+use Rattle.level.specs.Rules.{Nothing, Quiet, Send, Enter, SendEnter}
 use Rattle.level.specs.Rules.{Applied, lowest_rule, applies}
 use Rattle.party.specs.Party.{Party, level_at, with_level, component_of, sending, context_of, entering, entered, held_by, hearing}
 
@@ -73,7 +73,7 @@ run_up_to (suc f) p =
     (one_more (made_by p.agreement (open_level p) (rule_at p (open_level p)).effect) (run_up_to f (step_at p (open_level p))))
     (resting p)
 
--- crate party_bounds shows that no rule applies after that many (run-quiescent) and that a life counts at most max_rules (within-rules)
+-- crate party_bounds shows that no rule applies after that many (run_quiescent) and that a life counts at most max_rules (within_rules)
 unfoldable pub run : Party → Ran
 run p = run_up_to max_rules p
 

@@ -12,12 +12,13 @@ ghost use Rattle.party.specs.Tie.{vote_of, as_party};
 // How many sets of senders a party has: one for each message of each level.
 pub const SETS: usize = base::LEVELS * level_counts::SLOTS;
 
-// The sets of senders of all levels, those of level 0 first.
+// The sets of senders of all levels, those of level 0 first: one flat array, cut by `tied`, since callers keep the record (README).
 pub type Sets = [senders::Mask; SETS];
 
 // What the board did at each level.
 pub type Levels = [level::Level; base::LEVELS];
 
+// The settings stand one by one, as the calls' parameters do (README); `vote` gives them together.
 #[derive(Clone, Copy)]
 pub struct Party {
     pub n: u32,
@@ -38,15 +39,16 @@ pub struct Vote {
     pub agreement: u32,
 }
 
-// What the plan tells of a party's levels: kept beside the party during a call.
+// What the plan tells of a party's levels: kept beside the party during a call, and changed in place.
 #[derive(Clone, Copy)]
 pub struct Chart {
-    // how many levels send: 0 to sending - 1
+    // how many levels send: 0 to sending - 1. Beside an array and no ArrayVec: a step writes survey i at place i (`Sends`), and that it is the
+    // next one only `Charts` says.
     pub sending: usize,
     // of each of these: the centre, its degree and the board's port
     pub surveys: [component::Survey; base::LEVELS],
-    // where the component of the last of these lies, while the level after it is not entered
-    pub deepest: component::Span,
+    // the component of the last of these, while the level after it is not entered
+    pub deepest: component::Component,
 }
 
 impl Chart {
@@ -59,11 +61,10 @@ impl Chart {
             degree: 0,
             port: 0,
         };
-        let deepest = component::Span { low: 0, high: 0 };
         Chart {
             sending: 0,
             surveys: [none; base::LEVELS],
-            deepest: deepest,
+            deepest: component::Component::empty(),
         }
     }
 }

@@ -15,8 +15,8 @@ use Rattle.base.proofs.Bools.{T_and}
 use Rattle.base.proofs.Smallest.{sought, found}
 use Rattle.message.specs.declared.Message.{Message}
 use Rattle.message.specs.Message.{in_table, message_bytes}
-use Rattle.level.specs.declared.Effect.{Effect}
-use Rattle.level.specs.declared.Effect.TheVariants.{Nothing, Quiet, Send, Enter, SendEnter}
+use Rattle.level.specs.Rules.{Effect}
+use Rattle.level.specs.Rules.{Nothing, Quiet, Send, Enter, SendEnter}
 use Rattle.level.specs.Rules.{applies}
 use Rattle.level_laws.proofs.Moves.{AtRest, lowest_rest}
 use Rattle.party.specs.Party.{Party, level_at, sending, context_of}

@@ -17,8 +17,8 @@ use Rattle.component.specs.Component.{whole_of, size_of, side_of}
 use Rattle.message.specs.declared.Message.{Message}
 use Rattle.message.specs.Message.{in_table}
 use Rattle.level.specs.declared.Context.{Context}
-use Rattle.level.specs.declared.Effect.{Effect}
-use Rattle.level.specs.declared.Effect.TheVariants.{Nothing, Quiet, Send, Enter, SendEnter}
+use Rattle.level.specs.Rules.{Effect}
+use Rattle.level.specs.Rules.{Nothing, Quiet, Send, Enter, SendEnter}
 use Rattle.level.specs.Level.{Level, no_output, with_heard, with_entry, value_count}
 use Rattle.level.specs.Rules.{applies}
 use Rattle.level_laws.proofs.Bounds as Bounds

@@ -14,8 +14,8 @@ use Rattle.message.specs.declared.Body.TheVariants.{Side}
 use Rattle.message.specs.declared.Message.{Message}
 use Rattle.message.specs.Message.{body_in_table, in_table, none_value, max_value}
 use Rattle.level.specs.declared.Context.{Context}
-use Rattle.level.specs.declared.Effect.{Effect}
-use Rattle.level.specs.declared.Effect.TheVariants.{Nothing, Quiet, Send, Enter, SendEnter}
+use Rattle.level.specs.Rules.{Effect}
+use Rattle.level.specs.Rules.{Nothing, Quiet, Send, Enter, SendEnter}
 use Rattle.level.specs.Level.{Level, not_yet}
 use Rattle.level.specs.Rules.{applies}
 use Rattle.level_laws.proofs.Bounds as Bounds
@@ -44,7 +44,7 @@ messages_most L p = total_most Bounds.messages_left level_messages_worst Bounds.
 
 -- ---- a message taken, and a start
 
--- neither raises them (Sized.antt's aged-hearing, aged-entered)
+-- neither raises them (Sized.antt's aged_hearing, aged_entered)
 pub aged_rules : (L : ℕ) (p q : Party) → Aged p q → rules_left L q ≤ rules_left L p
 aged_rules L p q a = total_aged Bounds.rules_left rules_fair L p q a
 

@@ -1,10 +1,10 @@
 -- The test of a level's entry.
-use mathlib.Core.Path.{◌≡◌, sym, ap, ◌∙◌, subst}
-use mathlib.Core.Bool.{false, ◌&&◌}
+use mathlib.Core.Path.{◌≡◌, refl, sym, ap, ◌∙◌, subst}
+use mathlib.Core.Bool.{Bool, true, false, ◌&&◌}
 use Prim.Native.Nat.{ℕ, suc, ◌-◌, ◌≤◌}
 use native.Mathlib.Omega.{arith}
 use lib.Dec.{T, leb, eqb, leb→le, le→leb, eqb→eq, eqb_refl}
-use Rattle.base.proofs.Bools.{T_and, T-left, T-right, T-ext, not-T→false}
+use Rattle.base.proofs.Bools.{T_and, T-left, T-right}
 use Rattle.party_fields.specs.Inner.{entry_fits}
 
 -- ---- what the test of an entry tells
@@ -36,24 +36,19 @@ module _ (sending d j k : ℕ) where
 pub before : (i : ℕ) → (i ≡ 0 → ⊥) → i ≡ suc (i - 1)
 before i z = omega arith
 
--- ---- the answers of the test
+-- ---- the test as the code makes it
 
-module _ (sending d i k : ℕ) where
-  pub entry_first : i ≡ 0 → eqb k 0 ≡ entry_fits sending d i k
-  unfolding entry_fits
-  entry_first e = ap (λ (j : ℕ). entry_fits sending d j k) (sym e)
+pub entry_first : (sending d i k : ℕ) → i ≡ 0 → entry_fits sending d i k ≡ eqb k 0
+unfolding entry_fits
+entry_first sending d i k e = ap (λ (j : ℕ). entry_fits sending d j k) e
 
-  module _ (z : i ≡ 0 → ⊥) where
-    -- it fails where something that it asks for does
-    pub entry_not : (Below sending d (i - 1) k → ⊥) → false ≡ entry_fits sending d i k
-    entry_not f =
-        sym (not-T→false (entry_fits sending d (suc (i - 1)) k) (λ t. f (below→ sending d (i - 1) k t)))
-        ∙ ap (λ (j : ℕ). entry_fits sending d j k) (sym (before i z))
-
-    -- and else the degree decides
-    pub entry_last : sending ≡ i → 1 ≤ k → leb k d ≡ entry_fits sending d i k
-    entry_last e l =
-        T-ext (leb k d) (entry_fits sending d (suc (i - 1)) k)
-        (λ t. →below sending d (i - 1) k (record { sends = e ∙ before i z; low = l; high = leb→le k d t }))
-        (λ t. le→leb k d (below→ sending d (i - 1) k t).high)
-        ∙ ap (λ (j : ℕ). entry_fits sending d j k) (sym (before i z))
+pub entry_next : (sending d i k : ℕ) → (i ≡ 0 → ⊥) → entry_fits sending d i k ≡ (eqb sending i && leb 1 k) && leb k d
+unfolding entry_fits
+entry_next sending d i k z =
+    ap (λ (j : ℕ). entry_fits sending d j k) (before i z)
+    ∙ ap (λ (j : ℕ). eqb sending j && (leb 1 k && leb k d)) (sym (before i z))
+    ∙ assoc (eqb sending i) (leb 1 k) (leb k d)
+  where
+    assoc : (a b c : Bool) → a && (b && c) ≡ (a && b) && c
+    assoc true b c = refl
+    assoc false b c = refl

@@ -1,21 +1,22 @@
 -- Whether all sets of senders pass, from their union.
-use mathlib.Core.Path.{◌≡◌, refl, sym, ap, ap₂, ◌∙◌, subst}
+use mathlib.Core.Path.{◌≡◌, refl, sym, ap, ◌∙◌, subst}
 use mathlib.Core.List.{List, [], ◌∷◌, ◌++◌}
 use mathlib.Core.Bool.{Bool, true, false, ◌&&◌}
-use Prim.Native.Nat.{ℕ, zero, suc, ◌+◌, ◌*◌, ◌^◌, ◌≤◌, ◌<◌}
+use Prim.Native.Nat.{ℕ, zero, suc, ◌+◌, ◌*◌, ◌^◌, ◌<◌}
 use native.Mathlib.Nat.{le_refl, mul-zero, mul-suc}
-use native.Mathlib.Numerals.{add-one}
 use native.Mathlib.Omega.{arith}
 use lib.Dec.{T, ltb→lt, lt→ltb}
 use lib.Bits.{or_add_and, and_le_l, and_le_r}
-use lib.ListN.{length, get_or, take, drop, take-append-drop, drop_of_length-le}
+use lib.ListN.{length, take, drop, take-append-drop}
 use lib.Pow.{pow_pos}
-use lib.Seq.{drop-cons, take-add, take_all}
+use lib.Seq.{take-add, take_all}
 use borrow.Author.Tests.{lt-ltb}
 use Rattle.base.proofs.Bools.{T_and, T-left, T-right, T-ext}
 use Rattle.senders.specs.Senders.{union, only_below}
 use Rattle.senders.proofs.Laws.{union_lt}
+use Rattle.std.specs.List.{fold}
 use Rattle.party.specs.Valid.{sets_pass}
+use Rattle.party_fields.specs.Inner.{Unites}
 
 and_assoc : (a b c : Bool) → (a && b) && c ≡ a && (b && c)
 and_assoc true b c = refl
@@ -36,20 +37,17 @@ union_below a b n =
     (λ t. lt→ltb (union a b) (2 ^ n)
     (union_lt n a b (ltb→lt a (2 ^ n) (T-left (only_below a n) (only_below b n) t)) (ltb→lt b (2 ^ n) (T-right (only_below a n) (only_below b n) t))))
 
-module _ (n : ℕ) (l : List ℕ) where
-  pub sets_start : sets_pass n l ≡ only_below 0 n && sets_pass n l
-  sets_start = rw (lt-ltb 0 (2 ^ n) (pow_pos n))
+-- a union of all sets, that began with a
+folded : (n : ℕ) (l : List ℕ) (a : ℕ) → only_below (fold union a l) n ≡ only_below a n && sets_pass n l
+unfolding sets_pass
+folded n [] a = and_true (only_below a n)
+folded n (m ∷ l) a =
+    folded n l (union a m)
+    ∙ ap (λ (b : Bool). b && sets_pass n l) (union_below a m n)
+    ∙ and_assoc (only_below a n) (only_below m n) (sets_pass n l)
 
-  pub sets_next : (a i : ℕ) → i < length l → only_below a n && sets_pass n (drop i l) ≡ only_below (union a (get_or l i 0)) n && sets_pass n (drop (i + 1) l)
-  unfolding sets_pass
-  sets_next a i h =
-      ap (λ (r : List ℕ). only_below a n && sets_pass n r) (drop-cons l i 0 h)
-      ∙ sym (and_assoc (only_below a n) (only_below (get_or l i 0) n) (sets_pass n (drop (suc i) l)))
-      ∙ ap₂ ◌&&◌ (sym (union_below a (get_or l i 0) n)) (ap (λ (k : ℕ). sets_pass n (drop k l)) (sym (add-one i)))
-
-  pub sets_end : (a i : ℕ) → length l ≤ i → only_below a n ≡ only_below a n && sets_pass n (drop i l)
-  unfolding sets_pass
-  sets_end a i h = and_true (only_below a n) ∙ ap (λ (r : List ℕ). only_below a n && sets_pass n r) (sym (drop_of_length-le l h))
+pub unites : (l : List ℕ) → Unites l (fold union 0 l)
+unites l = record { below = λ n. folded n l 0 ∙ rw (lt-ltb 0 (2 ^ n) (pow_pos n)) }
 
 -- ---- the sets of each level
 

@@ -8,7 +8,7 @@ use native.Mathlib.Decide.{ℕ_discrete, dec_lt}
 use native.Mathlib.Numerals.{add-one}
 use native.Mathlib.Omega.{arith}
 use lib.Dec.{T, eqb, leb, ltb, leb→le, le→leb, ltb→lt}
-use lib.ListN.{length, get_or, set}
+use lib.ListN.{length, get_or, set, length-set}
 use lib.Seq.{get_or-set_same, get_or-set_other}
 use borrow.Author.Tests.{lt-ltb, le-ltb}
 use Rattle.base.specs.Pick.{pick}
@@ -17,6 +17,7 @@ use Rattle.base.specs.Limits.{level_count}
 use Rattle.base.proofs.Bools.{T_and, T-left, T-right, T→true, true→T, not-T→false, false→not-T, T-ext}
 use Rattle.plan.specs.Plan.{Plan}
 use Rattle.plan.specs.Valid.{plan_valid}
+use Rattle.component.specs.declared.Component.{Component}
 use Rattle.component.specs.declared.Survey.{Survey}
 use Rattle.component.specs.Component.{whole_of, size_of, centre_of, degree_of, side_of}
 use Rattle.component.specs.Inner.{Lent, members, OfPlan, Numbered, survey_of}
@@ -24,7 +25,8 @@ use Rattle.level.specs.Level.{Level, not_yet, slot_count, value_count}
 use Rattle.level.specs.declared.Level as Code
 use Rattle.level.specs.Tie.{as_level}
 use Rattle.party.specs.Party.{Party, level_at, component_of, sending}
-use Rattle.party.specs.Inner.{no_survey, Charts}
+use Rattle.party.specs.declared.Chart.{Chart}
+use Rattle.party.specs.Inner.{no_survey, Charts, Sends, Keeps, Filled}
 use Rattle.party.specs.Tie.{sets_at}
 use Rattle.party.specs.Valid.{every_level, settings_pass, sets_pass, output_passes, value_passes, place_passes, results_pass, level_passes, party_valid}
 use Rattle.party_laws.proofs.Laws.{valid→, sending_three, entered_sending}
@@ -32,21 +34,19 @@ use Rattle.party_laws.proofs.Components as components
 use Rattle.party_fields.specs.Inner.{output_fits, is_unresolved, entry_fits}
 use Rattle.party_fields.proofs.Sets.{pass_all}
 use Rattle.party_fields.proofs.Entries.{below→, →below}
-use Rattle.party_inspect.specs.declared.Last.{Last}
-use Rattle.party_inspect.specs.declared.Entered.{Entered}
-use Rattle.party_inspect.specs.Inner.{results_fit, part_fits, part_of, entered_fits, Deepest, Ready, Sends, Settles, Filled}
+use Rattle.party_inspect.specs.Inner.{results_fit, part_fits, part_of, survey_before, entered_fits, Deepest, Ready, Settles}
 use Rattle.party_inspect.proofs.Entries.{entry_plan}
 
--- the levels below i: the last that sends, and the surveys of those that do
-pub record ChartsTo (p : Party) (i : ℕ) (a : Last) (kept : List Survey) (ports : List ℕ) : Type 0 where
-  pub sends : (j : ℕ) → j < i → sending p j ≡ ltb j a.sending
-  pub most : a.sending ≤ i
-  pub surveys : (j : ℕ) → j < a.sending → get_or kept j no_survey ≡ survey_of p.plan (component_of p j) (level_at p j).position
-  pub last : (j : ℕ) → a.sending ≡ suc j → a.survey ≡ survey_of p.plan (component_of p j) (level_at p j).position
-  pub component : (j : ℕ) → a.sending ≡ suc j → OfPlan p.plan (component_of p j)
-  -- its component is kept until a next level is entered
-  pub deepest : (j : ℕ) → a.sending ≡ suc j → (suc j < i → (level_at p (suc j)).entered ≡ false) → members p.plan a.span ports ≡ component_of p j
-  pub numbers : (j : ℕ) → a.sending ≡ suc j → (suc j < i → (level_at p (suc j)).entered ≡ false) → Numbered p.plan a.span ports
+-- the chart of the levels below i
+pub record ChartsTo (p : Party) (i : ℕ) (d : Chart) : Type 0 where
+  pub full : length d.surveys ≡ level_count
+  pub sends : (j : ℕ) → j < i → sending p j ≡ ltb j d.sending
+  pub most : d.sending ≤ i
+  pub surveys : (j : ℕ) → j < d.sending → get_or d.surveys j no_survey ≡ survey_of p.plan (component_of p j) (level_at p j).position
+  pub component : (j : ℕ) → d.sending ≡ suc j → OfPlan p.plan (component_of p j)
+  -- the component of the last that sends is kept until a next level is entered
+  pub deepest : (j : ℕ) → d.sending ≡ suc j → (suc j < i → (level_at p (suc j)).entered ≡ false) → members p.plan d.deepest ≡ component_of p j
+  pub numbers : (j : ℕ) → d.sending ≡ suc j → (suc j < i → (level_at p (suc j)).entered ≡ false) → Numbered p.plan d.deepest
 
 -- nothing passes with a test that fails
 and_false : (b : Bool) → b && false ≡ false
@@ -58,46 +58,50 @@ and_assoc true b c = refl
 and_assoc false b c = refl
 
 -- no level
-pub charts_start : (p : Party) (a : Last) (kept : List Survey) (ports : List ℕ) → a.sending ≡ 0 → ChartsTo p 0 a kept ports
-charts_start p a kept ports e = record {
+pub charts_start : (p : Party) (d : Chart) → length d.surveys ≡ level_count → d.sending ≡ 0 → ChartsTo p 0 d
+charts_start p d n e = record {
+  full = n;
   sends = λ j h. absurd (not-suc-le-zero h);
   most = omega arith;
   surveys = λ j h. absurd (omega arith);
-  last = λ j q. absurd (omega arith);
   component = λ j q. absurd (omega arith);
   deepest = λ j q _. absurd (omega arith);
   numbers = λ j q _. absurd (omega arith);
 }
 
-module _ (p : Party) (i : ℕ) (a : Last) (kept : List Survey) (ports : List ℕ) (C : ChartsTo p i a kept ports) where
+module _ (p : Party) (i : ℕ) (d : Chart) (C : ChartsTo p i d) where
   -- the last level noted sends
-  last_sends : (j : ℕ) → a.sending ≡ suc j → T (sending p j)
-  last_sends j e = true→T (C.sends j (omega (arith, C.most)) ∙ lt-ltb j a.sending (omega arith))
+  last_sends : (j : ℕ) → d.sending ≡ suc j → T (sending p j)
+  last_sends j e = true→T (C.sends j (omega (arith, C.most)) ∙ lt-ltb j d.sending (omega arith))
 
-  last_centre : (j : ℕ) → a.sending ≡ suc j → a.survey.centre ≡ centre_of p.plan (component_of p j)
-  unfolding survey_of
-  last_centre j e = ap (λ (s : Survey). s.centre) (C.last j e)
+  last_survey : (j : ℕ) → d.sending ≡ suc j → survey_before d (suc j) ≡ survey_of p.plan (component_of p j) (level_at p j).position
+  last_survey j e = let m : suc j - 1 ≡ j = omega arith in ap (λ (k : ℕ). get_or d.surveys k no_survey) m ∙ C.surveys j (omega arith)
 
-  last_degree : (j : ℕ) → a.sending ≡ suc j → a.survey.degree ≡ degree_of p.plan (component_of p j)
+  last_centre : (j : ℕ) → d.sending ≡ suc j → (survey_before d (suc j)).centre ≡ centre_of p.plan (component_of p j)
   unfolding survey_of
-  last_degree j e = ap (λ (s : Survey). s.degree) (C.last j e)
+  last_centre j e = ap (λ (s : Survey). s.centre) (last_survey j e)
+
+  last_degree : (j : ℕ) → d.sending ≡ suc j → (survey_before d (suc j)).degree ≡ degree_of p.plan (component_of p j)
+  unfolding survey_of
+  last_degree j e = ap (λ (s : Survey). s.degree) (last_survey j e)
 
   -- what the next level needs
-  pub charts_ready : T (plan_valid p.plan) → Lent p.plan → i < level_count → Ready p.plan a ports i
+  pub charts_ready : T (plan_valid p.plan) → Lent p.plan → i < level_count → Ready p.plan d i
   charts_ready v r h = record { valid = v; lent = r; exists = h; before = before }
     where
-      before : (j : ℕ) → i ≡ suc j → a.sending ≡ suc j → Deepest p.plan a ports
+      before : (j : ℕ) → i ≡ suc j → d.sending ≡ suc j → Deepest p.plan d i
       before j e q =
-          let d = sym (C.deepest j q (λ l. absurd (omega arith))) in
-          record {
+          let m = sym (C.deepest j q (λ l. absurd (omega arith))) in
+          subst (Deepest p.plan d) (sym e)
+          (record {
             surveyed = record {
-              of = subst (OfPlan p.plan) d (C.component j q);
-              three = subst (λ (S : Set). 3 ≤ size_of p.plan S) d (sending_three p j (last_sends j q));
+              of = subst (OfPlan p.plan) m (C.component j q);
+              three = subst (λ (S : Set). 3 ≤ size_of p.plan S) m (sending_three p j (last_sends j q));
               numbers = C.numbers j q (λ l. absurd (omega arith));
             };
-            centre = last_centre j q ∙ ap (centre_of p.plan) d;
-            degree = last_degree j q ∙ ap (degree_of p.plan) d;
-          }
+            centre = last_centre j q ∙ ap (centre_of p.plan) m;
+            degree = last_degree j q ∙ ap (degree_of p.plan) m;
+          })
 
 -- ---- question 19 of a level, by the side through which it is entered
 
@@ -132,46 +136,46 @@ place_at_lem p (suc j) = refl
 -- ---- the test of the next level is question 19's
 
 -- the entry
-entry_same : (p : Party) (i : ℕ) (a : Last) (kept : List Survey) (ports : List ℕ) → ChartsTo p i a kept ports → (k : ℕ)
-    → entry_fits a.sending a.survey.degree i k ≡ entry_at p i k
+entry_same : (p : Party) (i : ℕ) (d : Chart) → ChartsTo p i d → (k : ℕ)
+    → entry_fits d.sending (survey_before d i).degree i k ≡ entry_at p i k
 unfolding entry_fits entry_at
-entry_same p zero a kept ports C k = refl
-entry_same p (suc j) a kept ports C k = T-ext (entry_fits a.sending a.survey.degree (suc j) k) (sending p j && (leb 1 k && leb k d)) there back
+entry_same p zero d C k = refl
+entry_same p (suc j) d C k = T-ext (entry_fits d.sending (survey_before d (suc j)).degree (suc j) k) (sending p j && (leb 1 k && leb k n)) there back
   where
-    d : ℕ
-    d = degree_of p.plan (component_of p j)
+    n : ℕ
+    n = degree_of p.plan (component_of p j)
 
-    there : T (entry_fits a.sending a.survey.degree (suc j) k) → T (sending p j && (leb 1 k && leb k d))
+    there : T (entry_fits d.sending (survey_before d (suc j)).degree (suc j) k) → T (sending p j && (leb 1 k && leb k n))
     there t =
-        let b = below→ a.sending a.survey.degree j k t in
-        T_and (sending p j) (leb 1 k && leb k d) (last_sends p (suc j) a kept ports C j b.sends)
-        (T_and (leb 1 k) (leb k d) (le→leb 1 k b.low) (le→leb k d (subst (λ (x : ℕ). k ≤ x) (last_degree p (suc j) a kept ports C j b.sends) b.high)))
+        let b = below→ d.sending (survey_before d (suc j)).degree j k t in
+        T_and (sending p j) (leb 1 k && leb k n) (last_sends p (suc j) d C j b.sends)
+        (T_and (leb 1 k) (leb k n) (le→leb 1 k b.low) (le→leb k n (subst (λ (x : ℕ). k ≤ x) (last_degree p (suc j) d C j b.sends) b.high)))
 
-    back : T (sending p j && (leb 1 k && leb k d)) → T (entry_fits a.sending a.survey.degree (suc j) k)
+    back : T (sending p j && (leb 1 k && leb k n)) → T (entry_fits d.sending (survey_before d (suc j)).degree (suc j) k)
     back t =
-        let s = T-left (sending p j) (leb 1 k && leb k d) t in
-        let r = T-right (sending p j) (leb 1 k && leb k d) t in
-        let l : j < a.sending = ltb→lt j a.sending (subst T (C.sends j (omega arith)) s) in
-        let e : a.sending ≡ suc j = omega (arith, C.most) in
-        →below a.sending a.survey.degree j k (record {
+        let s = T-left (sending p j) (leb 1 k && leb k n) t in
+        let r = T-right (sending p j) (leb 1 k && leb k n) t in
+        let l : j < d.sending = ltb→lt j d.sending (subst T (C.sends j (omega arith)) s) in
+        let e : d.sending ≡ suc j = omega (arith, C.most) in
+        →below d.sending (survey_before d (suc j)).degree j k (record {
           sends = e;
-          low = leb→le 1 k (T-left (leb 1 k) (leb k d) r);
-          high = subst (λ (x : ℕ). k ≤ x) (sym (last_degree p (suc j) a kept ports C j e)) (leb→le k d (T-right (leb 1 k) (leb k d) r));
+          low = leb→le 1 k (T-left (leb 1 k) (leb k n) r);
+          high = subst (λ (x : ℕ). k ≤ x) (sym (last_degree p (suc j) d C j e)) (leb→le k n (T-right (leb 1 k) (leb k n) r));
         })
 
 -- the component
-part_same : (p : Party) (i : ℕ) (a : Last) (kept : List Survey) (ports : List ℕ) → ChartsTo p i a kept ports → (k : ℕ)
-    → T (entry_fits a.sending a.survey.degree i k) → part_of p.plan a.span ports i k ≡ part_at p i k
+part_same : (p : Party) (i : ℕ) (d : Chart) → ChartsTo p i d → (k : ℕ)
+    → T (entry_fits d.sending (survey_before d i).degree i k) → part_of p.plan d.deepest i k ≡ part_at p i k
 unfolding part_of part_at
-part_same p zero a kept ports C k t = refl
-part_same p (suc j) a kept ports C k t =
-    ap (λ (S : Set). side_of p.plan S k) (C.deepest j (below→ a.sending a.survey.degree j k t).sends (λ l. absurd (omega arith)))
+part_same p zero d C k t = refl
+part_same p (suc j) d C k t =
+    ap (λ (S : Set). side_of p.plan S k) (C.deepest j (below→ d.sending (survey_before d (suc j)).degree j k t).sends (λ l. absurd (omega arith)))
 
 -- a level that is entered comes after the last that sends
-next_level : (p : Party) (i : ℕ) (a : Last) (kept : List Survey) (ports : List ℕ) → ChartsTo p i a kept ports → (k : ℕ)
-    → T (entry_fits a.sending a.survey.degree i k) → a.sending ≡ i
-next_level p zero a kept ports C k t = omega (arith, C.most)
-next_level p (suc j) a kept ports C k t = (below→ a.sending a.survey.degree j k t).sends
+next_level : (p : Party) (i : ℕ) (d : Chart) → ChartsTo p i d → (k : ℕ)
+    → T (entry_fits d.sending (survey_before d i).degree i k) → d.sending ≡ i
+next_level p zero d C k t = omega (arith, C.most)
+next_level p (suc j) d C k t = (below→ d.sending (survey_before d (suc j)).degree j k t).sends
 
 -- S matters only where the entry passes
 over_same : (p : Plan) (l : Code.Level) (S R : Set) (entry : Bool) → (T entry → S ≡ R) → entry && part_fits p S l ≡ entry && part_fits p R l
@@ -213,124 +217,127 @@ module _ (p : Party) (i : ℕ) (heard : List ℕ) (l : Code.Level) (same : level
     level_out e = decides ∙ rw e
 
     -- a level that is
-    pub level_entered : l.entered ≡ true → (a : Last) (kept : List Survey) (ports : List ℕ) → ChartsTo p i a kept ports
-        → level_passes p i ≡ entered_fits p.plan a ports i l
+    pub level_entered : l.entered ≡ true → (d : Chart) → ChartsTo p i d → level_passes p i ≡ entered_fits p.plan d i l
     unfolding entered_fits
-    level_entered e a kept ports C =
+    level_entered e d C =
         decides ∙ opened p i heard l e
-        ∙ ap (λ (x : Bool). x && part_fits p.plan (part_at p i l.side) l) (sym (entry_same p i a kept ports C l.side))
-        ∙ sym (over_same p.plan l (part_of p.plan a.span ports i l.side) (part_at p i l.side) (entry_fits a.sending a.survey.degree i l.side) (part_same p i a kept ports C l.side))
+        ∙ ap (λ (x : Bool). x && part_fits p.plan (part_at p i l.side) l) (sym (entry_same p i d C l.side))
+        ∙ sym (over_same p.plan l (part_of p.plan d.deepest i l.side) (part_at p i l.side) (entry_fits d.sending (survey_before d i).degree i l.side) (part_same p i d C l.side))
 
 -- an entered level that passes: its entry does
-passes_entry : (p : Plan) (a : Last) (ports : List ℕ) (i : ℕ) (l : Code.Level) → T (entered_fits p a ports i l) → T (entry_fits a.sending a.survey.degree i l.side)
+passes_entry : (p : Plan) (d : Chart) (i : ℕ) (l : Code.Level) → T (entered_fits p d i l) → T (entry_fits d.sending (survey_before d i).degree i l.side)
 unfolding entered_fits
-passes_entry p a ports i l t = T-left (entry_fits a.sending a.survey.degree i l.side) (part_fits p (part_of p a.span ports i l.side) l) t
+passes_entry p d i l t = T-left (entry_fits d.sending (survey_before d i).degree i l.side) (part_fits p (part_of p d.deepest i l.side) l) t
 
 -- ---- the next level is noted
 
-module _ (p : Party) (i : ℕ) (a : Last) (kept : List Survey) (ports : List ℕ) (C : ChartsTo p i a kept ports) where
+module _ (p : Party) (i : ℕ) (d : Chart) (C : ChartsTo p i d) where
   -- a level that is not entered does not send
   not_sending : (level_at p i).entered ≡ false → sending p i ≡ false
   unfolding sending
   not_sending e = rw e
 
   -- the levels up to one that does not send
-  still : sending p i ≡ false → (j : ℕ) → j < suc i → sending p j ≡ ltb j a.sending
+  still : sending p i ≡ false → (j : ℕ) → j < suc i → sending p j ≡ ltb j d.sending
   still e j h = at (ℕ_discrete j i)
     where
-      at : Dec (j ≡ i) → sending p j ≡ ltb j a.sending
-      at (yes q) = ap (sending p) q ∙ e ∙ sym (le-ltb j a.sending (omega (arith, C.most)))
+      at : Dec (j ≡ i) → sending p j ≡ ltb j d.sending
+      at (yes q) = ap (sending p) q ∙ e ∙ sym (le-ltb j d.sending (omega (arith, C.most)))
       at (no q) = C.sends j (omega arith)
 
-  pub charts_out : (level_at p i).entered ≡ false → ChartsTo p (suc i) a kept ports
+  pub charts_out : (level_at p i).entered ≡ false → ChartsTo p (suc i) d
   charts_out e = record {
+    full = C.full;
     sends = still (not_sending e);
     most = omega (arith, C.most);
     surveys = C.surveys;
-    last = C.last;
     component = C.component;
     deepest = λ j q h. C.deepest j q (λ l. h (omega arith));
     numbers = λ j q h. C.numbers j q (λ l. h (omega arith));
   }
 
   -- an entered level of one or two positions: its component takes the place of the last
-  charts_small : (s : Survey) (after : List ℕ) → (level_at p i).entered ≡ true → a.sending ≡ i → sending p i ≡ false → ChartsTo p (suc i) a (set kept i s) after
-  charts_small s after e n f = record {
+  charts_small : (c : Component) → (level_at p i).entered ≡ true → d.sending ≡ i → sending p i ≡ false
+      → ChartsTo p (suc i) (record { sending = d.sending; surveys = d.surveys; deepest = c })
+  charts_small c e n f = record {
+    full = C.full;
     sends = still f;
     most = omega arith;
-    surveys = λ j h. get_or-set_other kept i j s no_survey (λ z. omega arith) ∙ C.surveys j h;
-    last = C.last;
+    surveys = C.surveys;
     component = C.component;
     deepest = λ j q h. absurd (gone j q (h (omega arith)));
     numbers = λ j q h. absurd (gone j q (h (omega arith)));
   }
     where
-      gone : (j : ℕ) → a.sending ≡ suc j → (level_at p (suc j)).entered ≡ false → ⊥
+      gone : (j : ℕ) → d.sending ≡ suc j → (level_at p (suc j)).entered ≡ false → ⊥
       gone j q z = false→not-T z (true→T (ap (λ (k : ℕ). (level_at p k).entered) (sym q ∙ n) ∙ e))
 
   -- a level that sends
-  charts_large : (b : Last) (after : List ℕ) → i < length kept → a.sending ≡ i → T (sending p i) → OfPlan p.plan (component_of p i)
-      → Sends p.plan (component_of p i) (level_at p i).position i b after → ChartsTo p (suc i) b (set kept i b.survey) after
-  charts_large b after room n t o s = record {
-    sends = λ j h. at j (ℕ_discrete j i) h ∙ sym (lt-ltb j b.sending (omega (arith, s.sending)));
+  charts_large : (after : Chart) → i < level_count → d.sending ≡ i → T (sending p i) → OfPlan p.plan (component_of p i)
+      → Sends p.plan (component_of p i) (level_at p i).position i d after → ChartsTo p (suc i) after
+  charts_large after room n t o s = record {
+    full = ap length s.surveys ∙ length-set d.surveys i mine ∙ C.full;
+    sends = λ j h. at j (ℕ_discrete j i) h ∙ sym (lt-ltb j after.sending (omega (arith, s.sending)));
     most = omega (arith, s.sending);
-    surveys = λ j h. survey j (ℕ_discrete j i) (omega (arith, s.sending));
-    last = λ j q. s.survey ∙ ap (λ (k : ℕ). survey_of p.plan (component_of p k) (level_at p k).position) (this j q);
+    surveys = λ j h. ap (λ (l : List Survey). get_or l j no_survey) s.surveys ∙ survey j (ℕ_discrete j i) (omega (arith, s.sending));
     component = λ j q. subst (λ (k : ℕ). OfPlan p.plan (component_of p k)) (this j q) o;
     deepest = λ j q h. s.deepest ∙ ap (component_of p) (this j q);
     numbers = λ j q h. s.numbers;
   }
     where
-      this : (j : ℕ) → b.sending ≡ suc j → i ≡ j
+      mine : Survey
+      mine = survey_of p.plan (component_of p i) (level_at p i).position
+
+      this : (j : ℕ) → after.sending ≡ suc j → i ≡ j
       this j q = omega (arith, s.sending)
 
       at : (j : ℕ) → Dec (j ≡ i) → j < suc i → sending p j ≡ true
       at j (yes q) h = ap (sending p) q ∙ T→true (sending p i) t
-      at j (no q) h = C.sends j (omega arith) ∙ lt-ltb j a.sending (omega arith)
+      at j (no q) h = C.sends j (omega arith) ∙ lt-ltb j d.sending (omega arith)
 
-      survey : (j : ℕ) → Dec (j ≡ i) → j < suc i → get_or (set kept i b.survey) j no_survey ≡ survey_of p.plan (component_of p j) (level_at p j).position
+      survey : (j : ℕ) → Dec (j ≡ i) → j < suc i
+          → get_or (set d.surveys i (survey_of p.plan (component_of p i) (level_at p i).position)) j no_survey ≡ survey_of p.plan (component_of p j) (level_at p j).position
       survey j (yes q) h =
-          subst (λ (k : ℕ). get_or (set kept i b.survey) k no_survey ≡ survey_of p.plan (component_of p k) (level_at p k).position) (sym q)
-          (get_or-set_same kept i b.survey no_survey room ∙ s.survey)
-      survey j (no q) h = get_or-set_other kept i j b.survey no_survey q ∙ C.surveys j (omega arith)
+          subst (λ (k : ℕ). get_or (set d.surveys i (survey_of p.plan (component_of p i) (level_at p i).position)) k no_survey ≡ survey_of p.plan (component_of p k) (level_at p k).position) (sym q)
+          (get_or-set_same d.surveys i (survey_of p.plan (component_of p i) (level_at p i).position) no_survey (omega (arith, C.full)))
+      survey j (no q) h = get_or-set_other d.surveys i j (survey_of p.plan (component_of p i) (level_at p i).position) no_survey q ∙ C.surveys j (omega arith)
 
   -- an entered level that passes
-  pub charts_entered : (heard : List ℕ) (l : Code.Level) → level_at p i ≡ as_level heard l → l.entered ≡ true → Ready p.plan a ports i → i < length kept
-      → (r : Entered) (after : List ℕ) → r.ok ≡ true
-      → Settles p.plan (entered_fits p.plan a ports i l) (part_of p.plan a.span ports i l.side) l.position i a r after
-      → ChartsTo p (suc i) r.last (set kept i r.last.survey) after
-  charts_entered heard l same e y room r after f z = go (dec_lt (size_of p.plan (component_of p i)) 3)
+  pub charts_entered : (heard : List ℕ) (l : Code.Level) → level_at p i ≡ as_level heard l → l.entered ≡ true → Ready p.plan d i
+      → (r : Bool) (after : Chart) → r ≡ true → Settles p.plan (entered_fits p.plan d i l) (part_of p.plan d.deepest i l.side) l.position i d r after
+      → ChartsTo p (suc i) after
+  charts_entered heard l same e y r after f z = go (dec_lt (size_of p.plan (component_of p i)) 3)
     where
-      entry : T (entry_fits a.sending a.survey.degree i l.side)
-      entry = passes_entry p.plan a ports i l (true→T (sym z.passes ∙ f))
+      entry : T (entry_fits d.sending (survey_before d i).degree i l.side)
+      entry = passes_entry p.plan d i l (true→T (sym z.passes ∙ f))
 
       -- its component
-      S : part_of p.plan a.span ports i l.side ≡ component_of p i
-      S = part_same p i a kept ports C l.side entry ∙ ap (λ (m : Level). part_at p i m.side) (sym same) ∙ sym (part_at_lem p i)
+      S : part_of p.plan d.deepest i l.side ≡ component_of p i
+      S = part_same p i d C l.side entry ∙ ap (λ (m : Level). part_at p i m.side) (sym same) ∙ sym (part_at_lem p i)
 
       in_it : (level_at p i).entered ≡ true
       in_it = ap (λ (m : Level). m.entered) same ∙ e
 
-      next : a.sending ≡ i
-      next = next_level p i a kept ports C l.side entry
+      next : d.sending ≡ i
+      next = next_level p i d C l.side entry
 
-      go : Dec (size_of p.plan (component_of p i) < 3) → ChartsTo p (suc i) r.last (set kept i r.last.survey) after
+      go : Dec (size_of p.plan (component_of p i) < 3) → ChartsTo p (suc i) after
       go (yes k) =
           let b = z.small (true→T f) (subst (λ (M : Set). size_of p.plan M < 3) (sym S) k) in
-          subst (λ (d : Last). ChartsTo p (suc i) d (set kept i d.survey) after) (sym b)
-          (charts_small a.survey after in_it next (not-T→false (sending p i) (λ t. omega (arith, sending_three p i t))))
+          let q : record { sending = d.sending; surveys = d.surveys; deepest = after.deepest } ≡ after =
+          λ w. record { sending = sym b.sending w; surveys = sym b.surveys w; deepest = after.deepest } in
+          subst (ChartsTo p (suc i)) q (charts_small after.deepest in_it next (not-T→false (sending p i) (λ t. omega (arith, sending_three p i t))))
       go (no k) =
           let b = z.large (true→T f) (subst (λ (M : Set). 3 ≤ size_of p.plan M) (sym S) (omega arith)) in
-          charts_large r.last after room next (entered_sending p i (true→T in_it) (omega arith)) (subst (OfPlan p.plan) S (entry_plan p.plan a ports i l.side y entry))
-          (subst₂ (λ (M : Set) (x : ℕ). Sends p.plan M x i r.last after) S (ap (λ (m : Level). m.position) (sym same)) b)
+          charts_large after y.exists next (entered_sending p i (true→T in_it) (omega arith)) (subst (OfPlan p.plan) S (entry_plan p.plan d i l.side y entry))
+          (subst₂ (λ (M : Set) (x : ℕ). Sends p.plan M x i d after) S (ap (λ (m : Level). m.position) (sym same)) b)
 
 -- ---- the whole record
 
 -- the levels below i pass, and what is known of them
-pub record Passed (p : Party) (i : ℕ) (a : Last) (kept : List Survey) (ports : List ℕ) : Type 0 where
+pub record Passed (p : Party) (i : ℕ) (d : Chart) : Type 0 where
   pub levels : T (every_level i (level_passes p))
-  pub chart : ChartsTo p i a kept ports
-  pub room : length kept ≡ level_count
+  pub chart : ChartsTo p i d
   pub echoed : (j : ℕ) → j < i → length (level_at p j).echoed ≡ value_count
 
 every_at : (k : ℕ) (f : Set) → T (every_level k f) → (i : ℕ) → i < k → T (f i)
@@ -374,25 +381,23 @@ module _ (p : Party) where
 
   -- ---- the levels one by one
 
-  pub passed_start : (a : Last) (kept : List Survey) (ports : List ℕ) → a.sending ≡ 0 → length kept ≡ level_count → Passed p 0 a kept ports
+  pub passed_start : (d : Chart) → length d.surveys ≡ level_count → d.sending ≡ 0 → Passed p 0 d
   unfolding every_level
-  passed_start a kept ports e n = record {
+  passed_start d n e = record {
     levels = tt;
-    chart = charts_start p a kept ports e;
-    room = n;
+    chart = charts_start p d n e;
     echoed = λ j h. absurd (not-suc-le-zero h);
   }
 
   -- a level passes
-  pub passed_next : (i : ℕ) (a : Last) (kept : List Survey) (ports : List ℕ) → Passed p i a kept ports → T (level_passes p i) → length (level_at p i).echoed ≡ value_count
-      → (b : Last) (more : List Survey) (after : List ℕ) → length more ≡ length kept → ChartsTo p (suc i) b more after → Passed p (i + 1) b more after
+  pub passed_next : (i : ℕ) (d : Chart) → Passed p i d → T (level_passes p i) → length (level_at p i).echoed ≡ value_count
+      → (after : Chart) → ChartsTo p (suc i) after → Passed p (i + 1) after
   unfolding every_level
-  passed_next i a kept ports P t q b more after n C =
-      subst (λ (k : ℕ). Passed p k b more after) (sym (add-one i))
+  passed_next i d P t q after C =
+      subst (λ (k : ℕ). Passed p k after) (sym (add-one i))
       (record {
         levels = T_and (every_level i (level_passes p)) (level_passes p i) P.levels t;
         chart = C;
-        room = n ∙ P.room;
         echoed = λ j h. at j (ℕ_discrete j i) h;
       })
     where
@@ -402,29 +407,28 @@ module _ (p : Party) where
 
   -- ---- all levels pass
 
-  module _ (i : ℕ) (a : Last) (kept : List Survey) (ports : List ℕ) (low : level_count ≤ i) (high : i ≤ level_count) (P : Passed p i a kept ports) where
+  module _ (d : Chart) (P : Passed p level_count d) where
     pub all_pass : T (settings_pass p) → T (plan_valid p.plan) → T (party_valid p)
     unfolding party_valid
     all_pass s v =
-        T_and (settings_pass p && plan_valid p.plan) (every_level level_count (level_passes p)) (T_and (settings_pass p) (plan_valid p.plan) s v)
-        (subst (λ (k : ℕ). T (every_level k (level_passes p))) (omega arith) P.levels)
+        T_and (settings_pass p && plan_valid p.plan) (every_level level_count (level_passes p)) (T_and (settings_pass p) (plan_valid p.plan) s v) P.levels
 
     module _ (full : length p.levels ≡ level_count) where
       pub all_filled : Filled p
-      all_filled = record { levels = full; echoed = λ j h. P.echoed j (omega arith) }
+      all_filled = record { levels = full; echoed = P.echoed }
 
-      pub all_charted : T (party_valid p) → Charts p (record { sending = a.sending; surveys = kept; deepest = a.span }) ports
+      pub all_charted : T (party_valid p) → Charts p d
       all_charted v = record {
-        sends = λ j h. P.chart.sends j (omega arith);
-        last = go (dec_lt a.sending level_count);
+        sends = P.chart.sends;
+        last = go (dec_lt d.sending level_count);
         surveys = P.chart.surveys;
         deepest = λ j q e. P.chart.deepest j q (λ _. e);
         numbered = λ j q e. P.chart.numbers j q (λ _. e);
       }
         where
-          go : Dec (a.sending < level_count) → a.sending < level_count
+          go : Dec (d.sending < level_count) → d.sending < level_count
           go (yes h) = h
           go (no h) =
               let j : ℕ = level_count - 1 in
-              let s : T (sending p j) = true→T (P.chart.sends j (omega arith) ∙ lt-ltb j a.sending (omega arith)) in
+              let s : T (sending p j) = true→T (P.chart.sends j (omega arith) ∙ lt-ltb j d.sending (omega arith)) in
               absurd (omega (arith, components.sending_level p (valid→ p v) full j s))

@@ -14,7 +14,7 @@ use Rattle.message.specs.declared.Body.{Body}
 use Rattle.message.specs.declared.Message.{Message}
 use Rattle.senders.specs.Senders.{with_sender}
 use Rattle.senders.proofs.Laws.{with_old}
-use Rattle.level.specs.declared.Effect.{Effect}
+use Rattle.level.specs.Rules.{Effect}
 use Rattle.level.specs.Level.{Level, senders, slot, held, with_heard}
 use Rattle.level_laws.proofs.Moves.{Move}
 use Rattle.level_laws.proofs.Moves.{port_echo, none_echo, first_proposal_lem, first_value, first_none, own_echo, relay, second_proposal_lem, sure_result, none_result, unsure_result, centre_output, sure_entry, unsure_entry, centre_message, sided_entry, told_output, next_output_lem}

@@ -16,7 +16,7 @@ use Rattle.component.specs.Inner.{OfPlan}
 use Rattle.component_laws.proofs.Laws.{centre_in, neighbour_in, side_in, port_in}
 use Rattle.message.specs.Message.{none_value}
 use Rattle.level.specs.declared.Context.{Context}
-use Rattle.level.specs.declared.Effect.{Effect}
+use Rattle.level.specs.Rules.{Effect}
 use Rattle.level.specs.Level.{Level, with_first, with_result, with_output, with_centre_told}
 use Rattle.level.specs.Rules.{unanswered, applies}
 use Rattle.level_laws.specs.Inner.{Aside}

@@ -11,8 +11,8 @@ use lib.Dec.{T}
 use Rattle.base.proofs.Bools.{or_right}
 use Rattle.message.specs.declared.Body.{Body}
 use Rattle.message.specs.declared.Message.{Message}
-use Rattle.level.specs.declared.Effect.{Effect}
-use Rattle.level.specs.declared.Effect.TheVariants.{Nothing, Quiet, Send, Enter, SendEnter}
+use Rattle.level.specs.Rules.{Effect}
+use Rattle.level.specs.Rules.{Nothing, Quiet, Send, Enter, SendEnter}
 use Rattle.level.specs.Level.{Level}
 use Rattle.level_laws.proofs.Moves.{enters}
 use Rattle.level_laws.proofs.Messages.{Makes}

@@ -10,8 +10,8 @@ use Rattle.message.specs.Message.{none_value}
 use Rattle.message.specs.declared.Body.{Body}
 use Rattle.message.specs.declared.Body.TheVariants.{FirstEcho, FirstProposal, SecondEcho, SecondProposal, Side, Centre}
 use Rattle.level.specs.declared.Context.{Context}
-use Rattle.level.specs.declared.Effect.{Effect}
-use Rattle.level.specs.declared.Effect.TheVariants.{Send, SendEnter}
+use Rattle.level.specs.Rules.{Effect}
+use Rattle.level.specs.Rules.{Send, SendEnter}
 use Rattle.level.specs.Level.{Level, value_count, with_heard, with_second_echo}
 use Rattle.level.specs.Inner.{InLimits}
 use Rattle.level_laws.specs.Inner.{Present, Echoed, Grows}

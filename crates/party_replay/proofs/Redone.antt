@@ -41,9 +41,9 @@ module _ {x y : Ran} (e : x ≡ y) where
   room_same from out h = subst (λ (z : Ran). Room z from out) (sym e) h
 
 -- nothing is done
-pub gives_rest : (p : Party) (c : Chart) (ports : List ℕ) (from : ℕ) (out : List ℕ) → Charts p c ports
-    → Gives (resting p) from out (record { party = p; chart = c; ports = ports; rules = 0; sent = from }) out
-gives_rest p c ports from out h = record {
+pub gives_rest : (p : Party) (c : Chart) (from : ℕ) (out : List ℕ) → Charts p c
+    → Gives (resting p) from out (record { party = p; chart = c; rules = 0; sent = from }) out
+gives_rest p c from out h = record {
   party = refl;
   chart = h;
   rules = refl;

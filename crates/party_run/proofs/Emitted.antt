@@ -11,8 +11,7 @@ use Rattle.message.specs.declared.Body.{Body}
 use Rattle.message.specs.declared.Body.TheVariants.{Side}
 use Rattle.message.specs.declared.Message.{Message}
 use Rattle.message.specs.Message.{message_bytes}
-use Rattle.level.specs.declared.Effect.{Effect}
-use Rattle.level.specs.declared.Effect.TheVariants.{Nothing, Quiet, Send, Enter, SendEnter}
+use Rattle.level.specs.Rules.{Effect, Nothing, Quiet, Send, Enter, SendEnter}
 use Rattle.party.specs.Run.{made_by, bytes_of}
 use Rattle.party_run.proofs.Going.{bytes_none}
 
@@ -30,9 +29,6 @@ some_written before at r after e w = subst (λ (bs : List ℕ). Written before a
 module _ (a i : ℕ) (e : Effect) where
   none : (f : Effect) → made_by a i f ≡ [] → e ≡ f → bytes_of (made_by a i e) ≡ []
   none f h g = ap (λ (x : Effect). bytes_of (made_by a i x)) g ∙ ap bytes_of h ∙ bytes_none
-
-  pub nothing_bytes : e ≡ Nothing → bytes_of (made_by a i e) ≡ []
-  nothing_bytes g = none Nothing refl g
 
   pub quiet_bytes : e ≡ Quiet → bytes_of (made_by a i e) ≡ []
   quiet_bytes g = none Quiet refl g

@@ -59,9 +59,9 @@ run_on f q i e l =
 -- ---- between two rules
 
 -- so many rules led from p to q with its chart; their messages are written from a place on
-pub record Going (p : Party) (from : ℕ) (before : List ℕ) (q : Party) (d : Chart) (ports out : List ℕ) (sent rules : ℕ) : Type 0 where
+pub record Going (p : Party) (from : ℕ) (before : List ℕ) (q : Party) (d : Chart) (out : List ℕ) (sent rules : ℕ) : Type 0 where
   pub sized : Sized q
-  pub charts : Charts q d ports
+  pub charts : Charts q d
   pub left : rules + rules_left (last_level + 1) q ≤ max_rules
   pub made : List Message
   pub state : run p ≡ after rules made (run_up_to (max_rules - rules) q)
@@ -70,9 +70,9 @@ pub record Going (p : Party) (from : ℕ) (before : List ℕ) (q : Party) (d : C
   pub count : sent ≡ from + length (bytes_of made)
 
 -- before the first rule
-pub going_start : (p : Party) (from : ℕ) (before : List ℕ) (c : Chart) (ports : List ℕ) → Sized p → Charts p c ports → Going p from before p c ports before from 0
+pub going_start : (p : Party) (from : ℕ) (before : List ℕ) (c : Chart) → Sized p → Charts p c → Going p from before p c before from 0
 unfolding run
-going_start p from before c ports z h = record {
+going_start p from before c z h = record {
   sized = z;
   charts = h;
   left = omega (arith, rules_most (last_level + 1) p);
@@ -83,9 +83,9 @@ going_start p from before c ports z h = record {
   count = omega (arith, ap length bytes_none);
 }
 
-module _ (p : Party) (from : ℕ) (before : List ℕ) (q : Party) (d : Chart) (ports out : List ℕ) (sent rules : ℕ) (g : Going p from before q d ports out sent rules) where
+module _ (p : Party) (from : ℕ) (before : List ℕ) (q : Party) (d : Chart) (out : List ℕ) (sent rules : ℕ) (g : Going p from before q d out sent rules) where
   -- no rule applies any more
-  pub going_end : open_level q ≡ level_count → Gives (run p) from before (record { party = q; chart = d; ports = ports; rules = rules; sent = sent }) out
+  pub going_end : open_level q ≡ level_count → Gives (run p) from before (record { party = q; chart = d; rules = rules; sent = sent }) out
   going_end o =
       let s : run p ≡ after rules g.made (resting q) = g.state ∙ ap (after rules g.made) (run_stop (max_rules - rules) q o) in
       let m : (run p).made ≡ g.made = ap (λ (r : Ran). r.made) s ∙ append-nil g.made in
@@ -144,10 +144,10 @@ module _ (p : Party) (from : ℕ) (before : List ℕ) (q : Party) (d : Chart) (p
           let a : rules + suc r.rules ≡ rules + 1 + r.rules = omega arith in
           λ k. record { party = r.party; rules = a k; made = sym (append_assoc g.made ms r.made) k }
 
-      pub going_on : (q' : Party) (d' : Chart) (ports' out' : List ℕ) (sent' : ℕ) → q' ≡ step_at q i → Charts q' d' ports'
+      pub going_on : (q' : Party) (d' : Chart) (out' : List ℕ) (sent' : ℕ) → q' ≡ step_at q i → Charts q' d'
           → (ns : List Message) → ns ≡ made_by q.agreement i (rule_at q i).effect → sent' ≡ sent + length (bytes_of ns) → out' ≡ put_at out sent (bytes_of ns)
-          → Going p from before q' d' ports' out' sent' (rules + 1)
-      going_on q' d' ports' out' sent' eq ch ns en es eo =
+          → Going p from before q' d' out' sent' (rules + 1)
+      going_on q' d' out' sent' eq ch ns en es eo =
           let el : length (bytes_of ns) ≡ length (bytes_of ms) = ap (λ (x : List Message). length (bytes_of x)) en in
           let eb : out' ≡ put_at out sent (bytes_of ms) = eo ∙ ap (λ (x : List Message). put_at out sent (bytes_of x)) en in
           let lr : rules_left (last_level + 1) q' ≡ rules_left (last_level + 1) (step_at q i) = ap (rules_left (last_level + 1)) eq in

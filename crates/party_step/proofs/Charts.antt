@@ -5,19 +5,19 @@ use mathlib.Core.List.{List}
 use Prim.Native.Nat.{ℕ, suc, ◌+◌, ◌≤◌, ◌<◌}
 use native.Mathlib.Decide.{ℕ_discrete, dec_lt}
 use native.Mathlib.Omega.{arith}
-use borrow.Author.Tests.{leb-true, leb-false}
 use lib.Dec.{T, leb, ltb, ltb→lt, lt→ltb}
-use lib.ListN.{length, get_or, set}
+use lib.ListN.{length, get_or, set, length-set}
 use lib.Seq.{get_or-set_same, get_or-set_other}
+use Rattle.std.specs.Prelude.{Option, Some, None}
 use Rattle.base.specs.Pick.{pick}
 use Rattle.base.specs.Sets.{Set}
 use Rattle.base.specs.Limits.{level_count}
 use Rattle.base.proofs.Bools.{T-ext, false→not-T}
 use Rattle.plan.specs.Plan.{Plan}
-use Rattle.component.specs.declared.Span.{Span}
+use Rattle.component.specs.declared.Component.{Component}
 use Rattle.component.specs.declared.Survey.{Survey}
-use Rattle.component.specs.Component.{size_of}
-use Rattle.component.specs.Inner.{members, Numbered, survey_of}
+use Rattle.component.specs.Component.{size_of, side_of}
+use Rattle.component.specs.Inner.{members, Numbered, Surveys, survey_of}
 use Rattle.message.specs.declared.Message.{Message}
 use Rattle.level.specs.Level.{Level, with_heard, with_entry}
 use Rattle.level.specs.declared.Level as CodeLevel
@@ -27,12 +27,12 @@ use Rattle.party.specs.Party.{Party, level_at, with_level, component_of, sending
 use Rattle.party.specs.Inner.{Charts, no_survey}
 use Rattle.party_laws.proofs.Laws.{Formed, level_field, board_with, component_side, entry_level, entry_other, entry_above, board_entering, sending_entered, sending_three, entered_sending, sending_level, entered_down}
 use Rattle.party_laws.proofs.Updates.{sending_same}
-use Rattle.party_step.specs.declared.Entered.{Entered}
-use Rattle.party_step.specs.Inner.{Enters, chart_with}
+use Rattle.party_step.specs.declared.Way.{Way}
+use Rattle.party_step.specs.Inner.{place, Enters, Stepped}
 
 -- ---- what a chart tells
 
-module _ (p : Party) (c : Chart) (ports : List ℕ) (h : Charts p c ports) (i : ℕ) (l : i < level_count) where
+module _ (p : Party) (c : Chart) (h : Charts p c) (i : ℕ) (l : i < level_count) where
   pub charted_sends : i < c.sending → T (sending p i)
   charted_sends k = subst T (sym (h.sends i l)) (lt→ltb i c.sending k)
 
@@ -50,14 +50,14 @@ module _ (p : Party) (c : Chart) (ports : List ℕ) (h : Charts p c ports) (i : 
 -- ---- a level's record changes
 
 -- a level replaced by one that was entered likewise
-pub charts_with : (p : Party) (c : Chart) (ports : List ℕ) (i : ℕ) (l : Level) → l.entered ≡ (level_at p i).entered → l.side ≡ (level_at p i).side
-    → l.position ≡ (level_at p i).position → Charts p c ports → Charts (with_level p i l) c ports
-charts_with p c ports i l e s x h = record {
+pub charts_with : (p : Party) (c : Chart) (i : ℕ) (l : Level) → l.entered ≡ (level_at p i).entered → l.side ≡ (level_at p i).side
+    → l.position ≡ (level_at p i).position → Charts p c → Charts (with_level p i l) c
+charts_with p c i l e s x h = record {
   sends = λ j k. sending_same p q j plan (component j) (entered j) ∙ h.sends j k;
   last = h.last;
   surveys = λ j k. h.surveys j k ∙ (λ z. survey_of (sym plan z) (sym (component j) z) (sym (position j) z));
-  deepest = λ j k f. ap (λ (y : Plan). members y c.deepest ports) plan ∙ h.deepest j k (sym (entered (suc j)) ∙ f) ∙ sym (component j);
-  numbered = λ j k f. subst (λ (y : Plan). Numbered y c.deepest ports) (sym plan) (h.numbered j k (sym (entered (suc j)) ∙ f));
+  deepest = λ j k f. ap (λ (y : Plan). members y c.deepest) plan ∙ h.deepest j k (sym (entered (suc j)) ∙ f) ∙ sym (component j);
+  numbered = λ j k f. subst (λ (y : Plan). Numbered y c.deepest) (sym plan) (h.numbered j k (sym (entered (suc j)) ∙ f));
 }
   where
     q : Party
@@ -75,14 +75,14 @@ charts_with p c ports i l e s x h = record {
     position : (j : ℕ) → (level_at (with_level p i l) j).position ≡ (level_at p j).position
     position = level_field p i l (λ m. m.position) x
 
-pub charts_hearing : (p : Party) (c : Chart) (ports : List ℕ) (s : ℕ) (m : Message) → Charts p c ports → Charts (hearing p s m) c ports
+pub charts_hearing : (p : Party) (c : Chart) (s : ℕ) (m : Message) → Charts p c → Charts (hearing p s m) c
 unfolding hearing with_heard
-charts_hearing p c ports s m h = charts_with p c ports m.level (with_heard (level_at p m.level) m.body s) refl refl refl h
+charts_hearing p c s m h = charts_with p c m.level (with_heard (level_at p m.level) m.body s) refl refl refl h
 
 -- ---- a level is entered
 
 -- level i, the first that does not send, is entered over S
-module _ (p : Party) (c : Chart) (ports : List ℕ) (i : ℕ) (S : Set) (k x : ℕ) (w : Formed p) (h : Charts p c ports) (at : c.sending ≡ i)
+module _ (p : Party) (c : Chart) (i : ℕ) (S : Set) (k x : ℕ) (w : Formed p) (h : Charts p c) (at : c.sending ≡ i)
     (new : (level_at p i).entered ≡ false) (component : component_of (entering p i S k x) i ≡ S) where
   abbrev q : Party
   q = entering p i S k x
@@ -100,7 +100,7 @@ module _ (p : Party) (c : Chart) (ports : List ℕ) (i : ℕ) (S : Set) (k x : �
       (ap (λ (m : Level). m.entered) (entry_other p i S k x j (λ e. omega arith)))
 
   before_sends : (j : ℕ) → j < i → T (sending q j)
-  before_sends j l = subst T (sym (before j l)) (charted_sends p c ports h j (omega arith) (omega arith))
+  before_sends j l = subst T (sym (before j l)) (charted_sends p c h j (omega arith) (omega arith))
 
   before_survey : (j : ℕ) → j < i → survey_of q.plan (component_of q j) (level_at q j).position ≡ survey_of p.plan (component_of p j) (level_at p j).position
   before_survey j l z =
@@ -132,9 +132,9 @@ module _ (p : Party) (c : Chart) (ports : List ℕ) (i : ℕ) (S : Set) (k x : �
   here_silent : size_of p.plan S < 3 → T (sending q i) → ⊥
   here_silent l s = omega (arith, sending_three q i s, size)
 
-  -- with fewer positions the chart stays, and the lent array is not asked any more
-  small_charts : (after : List ℕ) → size_of p.plan S < 3 → Charts (entering p i S k x) c after
-  small_charts after l = record {
+  -- with fewer positions the same levels send, and the component is not asked any more
+  small_charts : (d : Component) → size_of p.plan S < 3 → Charts (entering p i S k x) (record { sending = c.sending; surveys = c.surveys; deepest = d })
+  small_charts d l = record {
     sends = λ j m. T-ext (sending q j) (ltb j c.sending) (λ s. lt→ltb j c.sending (only j s (ℕ_discrete j i) (dec_lt j i))) (λ s. before_sends j (omega (arith, at, ltb→lt j c.sending s)));
     last = h.last;
     surveys = λ j m. h.surveys j m ∙ sym (before_survey j (omega arith));
@@ -151,10 +151,10 @@ module _ (p : Party) (c : Chart) (ports : List ℕ) (i : ℕ) (S : Set) (k x : �
       over j e f = false→not-T f (subst (λ (z : ℕ). T (level_at q z).entered) (sym at ∙ e) is_entered)
 
   -- with three or more the chart has one level more
-  module _ (v : Formed (entering p i S k x)) (full : length c.surveys ≡ level_count) (l : 3 ≤ size_of p.plan S) (s : Survey)
-      (is : s ≡ survey_of p.plan S x) (d : Span) (after : List ℕ) (deepest : members p.plan d after ≡ S) (numbers : Numbered p.plan d after) where
-    abbrev more : Chart
-    more = record { sending = i + 1; surveys = set c.surveys i s; deepest = d }
+  module _ (v : Formed (entering p i S k x)) (full : length c.surveys ≡ level_count) (l : 3 ≤ size_of p.plan S) (d : Component)
+      (deepest : members p.plan d ≡ S) (numbers : Numbered p.plan d) where
+    abbrev s : Survey
+    s = survey_of p.plan S x
 
     only : (j : ℕ) → T (sending q j) → Dec (i < j) → j < i + 1
     only j t (yes e) = absurd (after_silent j e t)
@@ -168,7 +168,7 @@ module _ (p : Party) (c : Chart) (ports : List ℕ) (i : ℕ) (S : Set) (k x : �
     mine z = survey_of (sym plan z) (sym component z) (sym here z)
 
     at_i : get_or (set c.surveys i s) i no_survey ≡ survey_of q.plan (component_of q i) (level_at q i).position
-    at_i = get_or-set_same c.surveys i s no_survey (omega (arith, below, full)) ∙ is ∙ mine
+    at_i = get_or-set_same c.surveys i s no_survey (omega (arith, below, full)) ∙ mine
 
     survey : (j : ℕ) → j < i + 1 → Dec (j ≡ i) → get_or (set c.surveys i s) j no_survey ≡ survey_of q.plan (component_of q j) (level_at q j).position
     survey j m (yes e) = subst (λ (z : ℕ). get_or (set c.surveys i s) z no_survey ≡ survey_of q.plan (component_of q z) (level_at q z).position) (sym e) at_i
@@ -176,7 +176,7 @@ module _ (p : Party) (c : Chart) (ports : List ℕ) (i : ℕ) (S : Set) (k x : �
         get_or-set_other c.surveys i j s no_survey e
         ∙ h.surveys j (omega arith) ∙ sym (before_survey j (omega arith))
 
-    more_charts : Charts (entering p i S k x) (record { sending = i + 1; surveys = set c.surveys i s; deepest = d }) after
+    more_charts : Charts (entering p i S k x) (record { sending = i + 1; surveys = set c.surveys i (survey_of p.plan S x); deepest = d })
     more_charts = record {
       sends = λ j m.
           T-ext (sending q j) (ltb j (i + 1)) (λ t. lt→ltb j (i + 1) (only j t (dec_lt i j)))
@@ -185,24 +185,46 @@ module _ (p : Party) (c : Chart) (ports : List ℕ) (i : ℕ) (S : Set) (k x : �
       surveys = λ j m. survey j m (ℕ_discrete j i);
       deepest = λ j e f.
           let y : i ≡ j = omega arith in
-          ap (λ (y : Plan). members y d after) plan ∙ deepest ∙ sym component ∙ ap (component_of q) y;
-      numbered = λ j e f. subst (λ (y : Plan). Numbered y d after) (sym plan) numbers;
+          ap (λ (y : Plan). members y d) plan ∙ deepest ∙ sym component ∙ ap (component_of q) y;
+      numbered = λ j e f. subst (λ (y : Plan). Numbered y d) (sym plan) numbers;
     }
 
   -- as the code enters it
-  module _ (old : CodeLevel.Level) (e : Entered) (after : List ℕ) (g : Enters p.plan S old k x e after) where
-    pub entered_charts : Formed (entering p i S k x) → length c.surveys ≡ level_count → Charts (entering p i S k x) (chart_with c i e) after
-    entered_charts v full = go e.sends refl
+  module _ (old : CodeLevel.Level) (m : CodeLevel.Level) (after : Chart) (g : Enters p.plan S old k x i c m after) where
+    pub entered_charts : Formed (entering p i S k x) → length c.surveys ≡ level_count → Charts (entering p i S k x) after
+    entered_charts v full = go (dec_lt (size_of p.plan S) 3)
       where
-        go : (b : Bool) → e.sends ≡ b → Charts (entering p i S k x) (pick b (record { sending = i + 1; surveys = set c.surveys i e.survey; deepest = e.span }) c) after
-        go true t =
-            more_charts v full (leb-true 3 (size_of p.plan S) (sym g.sends ∙ t)) e.survey (g.surveys t).is e.span after (g.surveys t).same (g.surveys t).numbers
-        go false t = small_charts after (leb-false 3 (size_of p.plan S) (sym g.sends ∙ t))
+        go : Dec (size_of p.plan S < 3) → Charts (entering p i S k x) after
+        go (yes l) =
+            let f = g.small l in
+            let e : record { sending = c.sending; surveys = c.surveys; deepest = after.deepest } ≡ after =
+            λ z. record { sending = sym f.sending z; surveys = sym f.surveys z; deepest = after.deepest } in
+            subst (Charts (entering p i S k x)) e (small_charts after.deepest l)
+        go (no l) =
+            let f = g.large (omega arith) in
+            let e : record { sending = i + 1; surveys = set c.surveys i (survey_of p.plan S x); deepest = after.deepest } ≡ after =
+            λ z. record { sending = sym f.sending z; surveys = sym f.surveys z; deepest = after.deepest } in
+            subst (Charts (entering p i S k x)) e (more_charts v full (omega arith) after.deepest f.deepest f.numbers)
+
+-- the chart has a place for each level as before
+enters_full : (p : Plan) (S : Set) (old : CodeLevel.Level) (k x i : ℕ) (c : Chart) (m : CodeLevel.Level) (after : Chart) → Enters p S old k x i c m after
+    → length c.surveys ≡ level_count → length after.surveys ≡ level_count
+enters_full p S old k x i c m after g full = go (dec_lt (size_of p S) 3)
+  where
+    go : Dec (size_of p S < 3) → length after.surveys ≡ level_count
+    go (yes l) = ap length (g.small l).surveys ∙ full
+    go (no l) = ap length (g.large (omega arith)).surveys ∙ length-set c.surveys i (survey_of p S x) ∙ full
+
+pub stepped_full : (p : Plan) (c : Chart) (position : ℕ) (next : CodeLevel.Level) (i : ℕ) (o : Option Way) (m : CodeLevel.Level) (after : Chart)
+    → Stepped p c position next i o m after → length c.surveys ≡ level_count → length after.surveys ≡ level_count
+stepped_full p c position next i None m after g full = ap (λ (z : Chart). length z.surveys) g.1 ∙ full
+stepped_full p c position next i (Some w) m after g full =
+    enters_full p (side_of p (members p c.deepest) w.side) next w.side (place p (members p c.deepest) w.side w.keep position) i c m after g full
 
 -- the record that the code stores is the definition's
 pub entered_party : (p : Party) (i : ℕ) (S : Set) (k x : ℕ) (sets : List ℕ) (old : CodeLevel.Level) → level_at p i ≡ as_level sets old
-    → (e : Entered) (after : List ℕ) → Enters p.plan S old k x e after → with_level p i (as_level sets e.level) ≡ entering p i S k x
+    → (c : Chart) (m : CodeLevel.Level) (after : Chart) → Enters p.plan S old k x i c m after → with_level p i (as_level sets m) ≡ entering p i S k x
 unfolding entering
-entered_party p i S k x sets old q e after g =
+entered_party p i S k x sets old q c m after g =
     ap (with_level p i)
     (g.level sets ∙ ap (λ (l : Level). with_entry l k x (pick (leb 3 (size_of p.plan S)) l.output x)) (sym q))

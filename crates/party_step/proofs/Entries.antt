@@ -2,53 +2,53 @@
 use mathlib.Core.Path.{◌≡◌, refl, sym, ap, ◌∙◌, subst}
 use mathlib.Core.Bool.{Bool, true, false}
 use mathlib.Core.List.{List}
-use Prim.Native.Nat.{ℕ, ◌≤◌, ◌<◌}
+use Prim.Native.Nat.{ℕ, ◌+◌, ◌≤◌, ◌<◌}
+use native.Mathlib.Omega.{arith}
 use lib.Dec.{T, leb}
 use lib.ListN.{set}
 use borrow.Author.Tests.{le-leb, lt-leb}
 use Rattle.base.specs.Pick.{pick}
 use Rattle.base.specs.Sets.{Set}
-use Rattle.base.proofs.Bools.{true→T, false→not-T}
 use Rattle.plan.specs.Plan.{Plan}
-use Rattle.component.specs.declared.Span.{Span}
+use Rattle.component.specs.declared.Component.{Component}
+use Rattle.component.specs.declared.Survey.{Survey}
 use Rattle.component.specs.Component.{size_of}
-use Rattle.component.specs.Inner.{members, Lent, OfPlan, Enterable, Surveys, Holds}
+use Rattle.component.specs.Inner.{members, Lent, OfPlan, Enterable, Surveys, Holds, survey_of}
 use Rattle.level.specs.Level.{with_entry}
 use Rattle.level.specs.declared.Level.{Level}
 use Rattle.level.specs.Tie.{as_level}
-use Rattle.party_step.specs.declared.Entered.{Entered}
-use Rattle.party_step.specs.declared.Way.{Way}
-use Rattle.party_step.specs.Inner.{silent_as, Enters, Descends, Steps, Below, Stepped}
+use Rattle.party.specs.declared.Chart.{Chart}
+use Rattle.party.specs.Inner.{Sends, Keeps}
+use Rattle.party_step.specs.Inner.{Enters}
 
 -- ---- a level entered
 
-module _ (p : Plan) (S : Set) (old : Level) (k x : ℕ) (e : Entered) (ports : List ℕ) where
-  by_size : (b : Bool) → leb 3 (size_of p S) ≡ b → ((sets : List ℕ) → as_level sets e.level ≡ with_entry (as_level sets old) k x (pick b old.output x))
-      → (sets : List ℕ) → as_level sets e.level ≡ with_entry (as_level sets old) k x (pick (leb 3 (size_of p S)) old.output x)
+module _ (p : Plan) (S : Set) (old : Level) (k x i : ℕ) (m : Level) where
+  by_size : (b : Bool) → leb 3 (size_of p S) ≡ b → ((sets : List ℕ) → as_level sets m ≡ with_entry (as_level sets old) k x (pick b old.output x))
+      → (sets : List ℕ) → as_level sets m ≡ with_entry (as_level sets old) k x (pick (leb 3 (size_of p S)) old.output x)
   by_size b q h sets = h sets ∙ ap (λ (y : Bool). with_entry (as_level sets old) k x (pick y old.output x)) (sym q)
 
   -- over one or two positions
-  pub small_enters : size_of p S < 3 → e.sends ≡ false → ((sets : List ℕ) → as_level sets e.level ≡ with_entry (as_level sets old) k x x)
-      → Enters p S old k x e ports
-  small_enters l f m =
-      let b : leb 3 (size_of p S) ≡ false = lt-leb 3 (size_of p S) l in
-      record {
-        level = by_size false b m;
-        sends = f ∙ sym b;
-        surveys = λ t. absurd (false→not-T f (true→T t));
-      }
+  pub small_enters : (c : Chart) → size_of p S < 3 → ((sets : List ℕ) → as_level sets m ≡ with_entry (as_level sets old) k x x) → Enters p S old k x i c m c
+  small_enters c l h = record {
+    level = by_size false (lt-leb 3 (size_of p S) l) h;
+    small = λ _. record { sending = refl; surveys = refl };
+    large = λ n. absurd (omega arith);
+  }
 
   -- over three or more
-  pub large_enters : 3 ≤ size_of p S → e.sends ≡ true → ((sets : List ℕ) → as_level sets e.level ≡ with_entry (as_level sets old) k x old.output)
-      → Surveys p e.span S x ports e.survey → Enters p S old k x e ports
-  large_enters l f m s =
-      let b : leb 3 (size_of p S) ≡ true = le-leb 3 (size_of p S) l in
-      record { level = by_size true b m; sends = f ∙ sym b; surveys = λ _. s }
+  pub large_enters : (c : Chart) (d : Component) (s : Survey) → 3 ≤ size_of p S → ((sets : List ℕ) → as_level sets m ≡ with_entry (as_level sets old) k x old.output)
+      → Surveys p S x d s → Enters p S old k x i c m (record { sending = i + 1; surveys = set c.surveys i s; deepest = d })
+  large_enters c d s l h f = record {
+    level = by_size true (le-leb 3 (size_of p S) l) h;
+    small = λ n. absurd (omega arith);
+    large = λ _. record { sending = refl; surveys = ap (set c.surveys i) f.is; deepest = f.same; numbers = f.numbers };
+  }
 
--- ---- a set as it is lent
+-- ---- a set as it is kept
 
-module _ (p : Plan) (s : Span) (ports : List ℕ) (S : Set) (h : Holds p s ports S) where
-  pub holds_enterable : (x : ℕ) → OfPlan p S → T (S x) → Lent p → Enterable p s ports x
+module _ (p : Plan) (c : Component) (S : Set) (h : Holds p c S) where
+  pub holds_enterable : (x : ℕ) → OfPlan p S → T (S x) → Lent p → Enterable p c x
   holds_enterable x o t r = record {
     rows = r;
     of = subst (OfPlan p) (sym h.is) o;
@@ -56,29 +56,15 @@ module _ (p : Plan) (s : Span) (ports : List ℕ) (S : Set) (h : Holds p s ports
     place = subst (λ (y : Set). T (y x)) (sym h.is) t;
   }
 
-  -- what is entered over the array's component is entered over S
-  pub holds_enters : (old : Level) (k x : ℕ) (e : Entered) (after : List ℕ) → Enters p (members p s ports) old k x e after → Enters p S old k x e after
-  holds_enters old k x e after g = subst (λ (y : Set). Enters p y old k x e after) h.is g
-
--- ---- a rule's step
-
--- by the way that the code found
-module _ (p : Plan) (s : Span) (before : List ℕ) (centre position : ℕ) (w v : Way) (same : v ≡ w) where
-  pub steps_descends : Steps p s before centre position w → v.enters ≡ true → Descends p s before centre position v.side v.keep
-  steps_descends h = subst (Steps p s before centre position) (sym same) h
-
-  module _ (next : Level) where
-    to : (e : Entered) (after : List ℕ) → Stepped p s before position next v e after → Stepped p s before position next w e after
-    to e after h = subst (λ (y : Way). Stepped p s before position next y e after) same h
-
-    -- no level is entered
-    pub stepped_stays : v.enters ≡ false → (e : Entered) → e ≡ silent_as next s → Stepped p s before position next w e before
-    stepped_stays f e q =
-        to e before (record {
-          stays = λ _. (ap (λ (y : Entered). y.level) q, ap (λ (y : Entered). y.sends) q, refl);
-          enters = λ t. absurd (false→not-T f (true→T t));
-        })
-
-    -- the next one is
-    pub stepped_enters : v.enters ≡ true → (e : Entered) (after : List ℕ) → Below p s before position next v e after → Stepped p s before position next w e after
-    stepped_enters t e after b = to e after (record { stays = λ n. absurd (false→not-T n (true→T t)); enters = λ _. b })
+-- what is entered over the component that is kept is entered over S; before the side was put there the chart was another, with the same surveys
+pub side_enters : (p : Plan) (S : Set) (old : Level) (k x i : ℕ) (c d : Chart) (m : Level) (after : Chart) → members p d.deepest ≡ S → Keeps c d
+    → Enters p (members p d.deepest) old k x i d m after → Enters p S old k x i c m after
+side_enters p S old k x i c d m after e q g =
+    let h : Enters p S old k x i d m after = subst (λ (y : Set). Enters p y old k x i d m after) e g in
+    record {
+      level = h.level;
+      small = λ l. record { sending = (h.small l).sending ∙ q.sending; surveys = (h.small l).surveys ∙ q.surveys };
+      large = λ l.
+          let f = h.large l in
+          record { sending = f.sending; surveys = f.surveys ∙ ap (λ (l : List Survey). set l i (survey_of p S x)) q.surveys; deepest = f.deepest; numbers = f.numbers };
+    }

@@ -34,12 +34,12 @@ closed_start p j l o = omega arith
 
 -- ---- at level i
 
-module _ (p : Party) (c : Chart) (ports : List ℕ) (w : Formed p) (h : Charts p c ports) where
+module _ (p : Party) (c : Chart) (w : Formed p) (h : Charts p c) where
   -- no level from c.sending on sends
   pub closed_end : (i : ℕ) → Closed p i → c.sending ≤ i → open_level p ≡ level_count
   closed_end i n l = levels_quiescent p (λ j o.
       let s = open_sending p j o in
-      let k : j < c.sending = sends_charted p c ports h j (omega (arith, (sending_level p w j s).next)) s in
+      let k : j < c.sending = sends_charted p c h j (omega (arith, (sending_level p w j s).next)) s in
       n j (omega arith) o)
 
   module _ (i : ℕ) (l : i < c.sending) where
@@ -47,7 +47,7 @@ module _ (p : Party) (c : Chart) (ports : List ℕ) (w : Formed p) (h : Charts p
     below = omega (arith, h.last)
 
     sends : T (sending p i)
-    sends = charted_sends p c ports h i below l
+    sends = charted_sends p c h i below l
 
     -- the rules at level i see what the survey and the next level tell
     module _ (x : Context) (e : x ≡ seen p.n p.t (get_or c.surveys i no_survey) (level_at p (i + 1)).entered (level_at p (i + 1)).output) where

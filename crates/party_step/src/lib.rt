@@ -1,25 +1,17 @@
 // One rule's step: a level entered, and the next level after a rule.
 #![tactic(auto)]
 
-ghost use Rattle.std.specs.Prelude.{◌≡◌};
-ghost use Rattle.plan.specs.Tie.{shaped};
+ghost use Rattle.std.specs.Prelude.{◌≡◌, ◌<◌};
+ghost use Rattle.base.specs.Limits.{level_count};
+ghost use Rattle.plan.specs.Tie.{as_plan};
+ghost use Rattle.level.specs.Tie.{as_effect};
 ghost use Rattle.component.specs.Component.{side_of};
 ghost use Rattle.component.specs.Inner.{Lent, Enterable, HasSide, members};
-ghost use Rattle.party_step.specs.Inner.{seen, silent_as, no_entry, entry_by, way_of, place, Enters, Descends, Steps, Stepped};
+ghost use Rattle.party_step.specs.Inner.{seen, way_of, place, Enters, Descends, Steps, Stepped};
 
-// A level entered, or left as it is: its record; whether it was entered just now and sends; and then its survey and where its component lies.
-#[derive(Clone, Copy)]
-pub struct Entered {
-    pub level: level::Level,
-    pub sends: bool,
-    pub survey: component::Survey,
-    pub span: component::Span,
-}
-
-// Whether a rule enters the next level, by which side, and whether at the old position.
+// How a rule enters the next level: by which side, and whether at the old position.
 #[derive(Clone, Copy)]
 pub struct Way {
-    pub enters: bool,
     pub side: u8,
     pub keep: bool,
 }
@@ -29,8 +21,8 @@ pub fn context(n: u32, t: u32, s: component::Survey, next: level::Level) -> leve
     ensures { result ≡ seen n t s next.entered next.output }
 {
     level::Context {
-        n: n,
-        t: t,
+        n,
+        t,
         degree: s.degree,
         port: s.port,
         centre: s.centre,
@@ -39,151 +31,94 @@ pub fn context(n: u32, t: u32, s: component::Survey, next: level::Level) -> leve
     }
 }
 
-// A level with this record of which nothing is surveyed.
-fn silent(level: level::Level, span: component::Span) -> Entered
-    ensures { result ≡ silent_as level span }
-{
-    let none = component::Survey {
-        centre: 0,
-        degree: 0,
-        port: 0,
-    };
-    Entered {
-        level: level,
-        sends: false,
-        survey: none,
-        span: span,
-    }
-}
-
-// A level is entered over a component by side k at x.
+// Level i is entered over the component that is kept, by side k at x. Where it sends, the chart has its survey.
 pub fn enter(
-    shape: plan::Shape,
-    ps: &[u16],
-    cs: &[u16],
-    span: component::Span,
-    ports: &mut [u8; base::MAX_VERTICES],
+    plan: &plan::Plan,
+    chart: &mut party::Chart,
+    i: usize,
     level: level::Level,
     k: u8,
     x: base::Position,
-) -> Entered
-    requires { Enterable (shaped shape ps.now cs.now) span ports.old x }
-    ensures { Enters (shaped shape ps.now cs.now) (members (shaped shape ps.now cs.now) span ports.old) level k x result ports.new }
+) -> level::Level
+    requires { Enterable (as_plan plan.now) chart.old.deepest x × (i < level_count) }
+    ensures { Enters (as_plan plan.now) (members (as_plan plan.now) chart.old.deepest) level k x i chart.old result chart.new }
 {
     let mut l = level;
     l.entered = true;
     l.side = k;
     l.position = x;
-    if component::size(shape, ps, cs, span, ports) < 3 {
+    if chart.deepest.size(plan) < 3 {
         l.output = x;
-        return silent(l, span);
+        return l;
     }
-    let s = component::survey_at(shape, ps, cs, span, ports, x);
-    Entered {
-        level: l,
-        sends: true,
-        survey: s,
-        span: span,
-    }
+    let s = chart.deepest.survey_at(plan, x);
+    chart.surveys[i] = s;
+    chart.sending = i + 1;
+    l
 }
 
-// Where side k is entered: at the old position where `keep`, else at neighbour k.
+// Where a side of a component is entered: at the old position where the way keeps it, else at the side's neighbour of the centre.
 fn gate(
-    shape: plan::Shape,
-    ps: &[u16],
-    cs: &[u16],
-    span: component::Span,
-    ports: &[u8; base::MAX_VERTICES],
+    plan: &plan::Plan,
+    part: &component::Component,
     centre: base::Position,
-    k: u8,
-    keep: bool,
+    w: Way,
     position: base::Position,
 ) -> base::Position
-    requires { Lent (shaped shape ps.now cs.now) × HasSide (shaped shape ps.now cs.now) span ports.now centre k }
-    ensures { result ≡ place (shaped shape ps.now cs.now) (members (shaped shape ps.now cs.now) span ports.now) k keep position }
+    requires { Lent (as_plan plan.now) × HasSide (as_plan plan.now) part.now centre w.side }
+    ensures { result ≡ place (as_plan plan.now) (members (as_plan plan.now) part.now) w.side w.keep position }
 {
-    if keep {
+    if w.keep {
         return position;
     }
-    component::neighbour(shape, ps, cs, span, ports, centre, k as u32)
+    part.neighbour(plan, centre, w.side)
 }
 
-// The next level is entered by side k, at the old position where `keep`, else at neighbour k.
+// Level i is entered so from the level before it, which has this centre and position.
 fn descend(
-    shape: plan::Shape,
-    ps: &[u16],
-    cs: &[u16],
-    deepest: component::Span,
-    ports: &mut [u8; base::MAX_VERTICES],
+    plan: &plan::Plan,
+    chart: &mut party::Chart,
     centre: base::Position,
     position: base::Position,
+    i: usize,
     next: level::Level,
-    k: u8,
-    keep: bool,
-) -> Entered
-    requires { Descends (shaped shape ps.now cs.now) deepest ports.old centre position k keep }
-    ensures { Enters (shaped shape ps.now cs.now) (side_of (shaped shape ps.now cs.now) (members (shaped shape ps.now cs.now) deepest ports.old) k) next k (place (shaped shape ps.now cs.now) (members (shaped shape ps.now cs.now) deepest ports.old) k keep position) result ports.new }
+    w: Way,
+) -> level::Level
+    requires { Descends (as_plan plan.now) chart.old.deepest centre position w × (i < level_count) }
+    ensures { Enters (as_plan plan.now) (side_of (as_plan plan.now) (members (as_plan plan.now) chart.old.deepest) w.side) next w.side (place (as_plan plan.now) (members (as_plan plan.now) chart.old.deepest) w.side w.keep position) i chart.old result chart.new }
 {
-    let x = gate(shape, ps, cs, deepest, ports, centre, k, keep, position);
-    let span = component::side(shape, ps, cs, deepest, ports, centre, k as u32);
-    enter(shape, ps, cs, span, ports, next, k, x)
-}
-
-// A rule enters no level.
-fn no_entry() -> Way
-    ensures { result ≡ no_entry }
-{
-    Way {
-        enters: false,
-        side: 0,
-        keep: false,
-    }
-}
-
-// A rule enters the next level by side k.
-fn entry_by(k: u8, keep: bool) -> Way
-    ensures { result ≡ entry_by k keep }
-{
-    Way {
-        enters: true,
-        side: k,
-        keep: keep,
-    }
+    let x = gate(plan, &chart.deepest, centre, w, position);
+    chart.deepest.enter_side(plan, centre, w.side);
+    enter(plan, chart, i, next, w.side, x)
 }
 
 // What a rule with this effect enters.
-fn way_of(e: level::Effect) -> Way
-    ensures { result ≡ way_of e }
+fn way_of(e: level::Effect) -> Option<Way>
+    ensures { result ≡ way_of (as_effect e) }
 {
     match e {
-        level::Effect::Nothing => no_entry(),
-        level::Effect::Quiet => no_entry(),
-        level::Effect::Send(_) => no_entry(),
-        level::Effect::Enter { side: k, keep } => entry_by(k, keep),
-        level::Effect::SendEnter { side: k } => entry_by(k, false),
+        level::Effect::Quiet => None,
+        level::Effect::Send(_) => None,
+        level::Effect::Enter { side, keep } => Some(Way { side, keep }),
+        level::Effect::SendEnter { side } => Some(Way { side, keep: false }),
     }
 }
 
-// The next level after a rule with this effect at a level with this centre and position: entered where the rule does so.
+// Level i after a rule with this effect at the level before it, which has this centre and position: entered where the rule does so.
 pub fn step(
-    shape: plan::Shape,
-    ps: &[u16],
-    cs: &[u16],
-    deepest: component::Span,
-    ports: &mut [u8; base::MAX_VERTICES],
+    plan: &plan::Plan,
+    chart: &mut party::Chart,
     centre: base::Position,
     position: base::Position,
+    i: usize,
     next: level::Level,
     e: level::Effect,
-) -> Entered
-    requires { Steps (shaped shape ps.now cs.now) deepest ports.old centre position (way_of e) }
-    ensures { Stepped (shaped shape ps.now cs.now) deepest ports.old position next (way_of e) result ports.new }
+) -> level::Level
+    requires { Steps (as_plan plan.now) chart.old.deepest centre position (way_of (as_effect e)) × (i < level_count) }
+    ensures { Stepped (as_plan plan.now) chart.old position next i (way_of (as_effect e)) result chart.new }
 {
-    let w = way_of(e);
-    if !w.enters {
-        return silent(next, deepest);
+    match way_of(e) {
+        None => next,
+        Some(w) => descend(plan, chart, centre, position, i, next, w),
     }
-    descend(
-        shape, ps, cs, deepest, ports, centre, position, next, w.side, w.keep,
-    )
 }

@@ -4,14 +4,14 @@ use mathlib.Core.List.{List, [], ◌∷◌, ◌++◌, append_assoc}
 use mathlib.Core.Bool.{Bool, true, false, not, ◌&&◌}
 use Prim.Native.Nat.{ℕ, zero, suc, ◌+◌, ◌≤◌, ◌<◌, ◌^◌}
 use native.Mathlib.Omega.{arith}
+use Rattle.std.specs.Prelude.{Ok, Err}
 use lib.Dec.{T, eqb, ltb, ltb→lt, lt→ltb, T_not, not_T}
 use lib.ListN.{length, length-append}
 use borrow.Author.Tests.{eq-eqb, ne_eqb}
 use Rattle.base.specs.Limits.{max_degree}
 use Rattle.base.proofs.Bools.{T_and, T-left, T-right, true→T, false→not-T}
-use Rattle.varint.specs.declared.VarintRead.{VarintRead}
 use Rattle.varint.specs.Varint.{varint_bytes}
-use Rattle.varint.specs.Reading.{varint_at}
+use Rattle.varint.specs.Reading.{VarintRead, value, varint_at}
 use Rattle.varint.proofs.RoundTrip.{varint_read_at}
 use Rattle.tree.specs.Edges.{Edges, joined, all, edges_at, Below}
 use Rattle.tree.specs.Inner.{Acyclic}
@@ -34,10 +34,9 @@ ask_yes true number place go h = refl
 ask_yes false number place go h = absurd h
 
 -- and past a group that is whole
-pub grouped : {A : Type 0} (at : ℕ) (r : VarintRead) (f : ℕ → ℕ → Found A) (x : A) → onward at r f ≡ found x → (v : ℕ) × (next : ℕ) × (r ≡ VarintRead.Value v next) × (f v next ≡ found x)
-grouped at (VarintRead.Value v next) f x e = (v, next, refl, e)
-grouped at (VarintRead.Short least) f x e = let z : ◌≡◌ {A = ℕ} 0 1 = cc in absurd (omega arith)
-grouped at VarintRead.Malformed f x e = let z : ◌≡◌ {A = ℕ} 0 1 = cc in absurd (omega arith)
+pub grouped : {A : Type 0} (at : ℕ) (r : VarintRead) (f : ℕ → ℕ → Found A) (x : A) → onward at r f ≡ found x → (v : ℕ) × (next : ℕ) × (r ≡ value v next) × (f v next ≡ found x)
+grouped at (Ok r) f x e = (r.value, r.next, refl, e)
+grouped at (Err d) f x e = let z : ◌≡◌ {A = ℕ} 0 1 = cc in absurd (omega arith)
 
 -- ---- edges one after the other
 
@@ -127,7 +126,7 @@ after {A} v s done x (suc k) at E h e =
 
 -- the next edge is read from its bytes
 next_read : {A : Type 0} (v k : ℕ) (s : List ℕ) (at : ℕ) (E : Edges) (done : Edges → ℕ → Found A) (a b second next : ℕ) → Next v E a b
-    → varint_at s at ≡ VarintRead.Value a second → varint_at s second ≡ VarintRead.Value b next
+    → varint_at s at ≡ value a second → varint_at s second ≡ value b next
     → edges_from v (suc k) s at E done ≡ edges_from v k s next (edge a b ∷ E) done
 unfolding edges_from
 next_read v k s at E done a b second next n i j =
@@ -170,9 +169,8 @@ made (refused number place) f = refused number place
 
 made_onward : {A : Type 0} (at : ℕ) (r : VarintRead) (f : ℕ → ℕ → Found Listed) (g : ℕ → ℕ → Found A) (done : Edges → ℕ → Found A) → ((v next : ℕ) → g v next ≡ made (f v next) done)
     → onward at r g ≡ made (onward at r f) done
-made_onward at (VarintRead.Value v next) f g done h = h v next
-made_onward at (VarintRead.Short least) f g done h = refl
-made_onward at VarintRead.Malformed f g done h = refl
+made_onward at (Ok r) f g done h = h r.value r.next
+made_onward at (Err e) f g done h = refl
 
 made_ask : {A : Type 0} (t : Bool) (number place : ℕ) (f : Found Listed) (g : Found A) (done : Edges → ℕ → Found A) → g ≡ made f done → ask t number place g ≡ made (ask t number place f) done
 made_ask true number place f g done h = h

@@ -4,7 +4,7 @@ use Rattle.base.specs.Pick.{pick}
 use Rattle.signed.specs.Signed.{offset_of_zigzag}
 use Rattle.tree.specs.Growth.{growth_order}
 use Rattle.base.specs.Found.{Found, found, refused, ask}
-use Rattle.base.specs.declared.Verdict.{Verdict}
+use Rattle.base.specs.Verdict.{Verdict}
 use Rattle.edges.specs.Reading.{varint_then, edges_from}
 use Rattle.plan.specs.Plan.{Plan}
 use Rattle.base.specs.Limits.{max_vertices, max_width, max_reading}

@@ -1,17 +1,16 @@
 -- How the code's records stand for the definitions': this file and the code change where a plan is kept in another form.
-use Rattle.std.specs.Prelude.{List, ℕ}
+use Rattle.std.specs.Prelude.{Result, Ok, Err}
+use Rattle.base.specs.Verdict.{Verdict, refused_by}
+use Rattle.base.specs.declared.Refusal.{Refusal}
+use Rattle.plan.specs.Positions.{no_plan}
 use Rattle.plan.specs.Plan.{Plan}
 use Rattle.plan.specs.Reading.{PlanRead}
 use Rattle.plan.specs.declared.Plan as Code
-use Rattle.plan.specs.declared.Shape.{Shape}
-use Rattle.plan.specs.declared.PlanRead as CodeRead
-
--- a plan whose rows are lent beside it
-abbrev pub shaped : Shape → List ℕ → List ℕ → Plan
-shaped s parent child = record { kind = s.kind; count = s.count; low = s.low; parent = parent; child = child }
 
 abbrev pub as_plan : Code.Plan → Plan
 as_plan c = record { kind = c.kind; count = c.count; low = c.low; parent = c.parent; child = c.child }
 
-abbrev pub as_plan_read : CodeRead.PlanRead → PlanRead
-as_plan_read r = record { verdict = r.verdict; plan = as_plan r.plan }
+-- what reading gives: no plan comes with a refusal
+abbrev pub as_plan_read : Result Code.Plan Refusal → PlanRead
+as_plan_read (Ok p) = record { verdict = Verdict.Accepted; plan = as_plan p }
+as_plan_read (Err r) = record { verdict = refused_by r; plan = no_plan }

@@ -9,9 +9,8 @@ use lib.ListN.{length, get_or, length-append}
 use lib.Seq.{get_or-append_seam}
 use Rattle.base.specs.Limits.{max_vertices}
 use Rattle.base.specs.Found.{refused}
-use Rattle.varint.specs.declared.VarintRead.{VarintRead}
 use Rattle.varint.specs.Varint.{pieces, varint_bytes}
-use Rattle.varint.specs.Reading.{pieces_at, varint_at, past_of}
+use Rattle.varint.specs.Reading.{VarintRead, value, pieces_at, varint_at, past_of}
 use Rattle.varint.proofs.Laws.{at_more, pieces_more, prefixed_inverse}
 use Rattle.varint.proofs.RoundTrip.{varint_read_at}
 use Rattle.plan.specs.Reading.{plan_of}
@@ -22,8 +21,8 @@ use Rattle.plan_cycle.proofs.Opening.{begin, opened}
 -- ---- a number that is read as a vertex count is small
 
 -- a byte of 128 or more stands before the bytes of a part of the value
-byte_more : (f : ℕ) (p : List ℕ) (b : ℕ) (q : List ℕ) (w next : ℕ) → 128 ≤ b → pieces_at (suc f) (p ++ (b ∷ q)) (length p) ≡ VarintRead.Value w next
-    → (high : ℕ) × (pieces_at f (p ++ (b ∷ q)) (length p + 1) ≡ VarintRead.Value high next) × (0 < high) × (128 * high ≤ w)
+byte_more : (f : ℕ) (p : List ℕ) (b : ℕ) (q : List ℕ) (w next : ℕ) → 128 ≤ b → pieces_at (suc f) (p ++ (b ∷ q)) (length p) ≡ value w next
+    → (high : ℕ) × (pieces_at f (p ++ (b ∷ q)) (length p + 1) ≡ value high next) × (0 < high) × (128 * high ≤ w)
 byte_more f p b q w next h e =
     let s : List ℕ = p ++ (b ∷ q) in
     let g : get_or s (length p) 0 ≡ b = get_or-append_seam p b q 0 in
@@ -31,11 +30,11 @@ byte_more f p b q w next h e =
     let i = prefixed_inverse (get_or s (length p) 0) (pieces_at f s (length p + 1)) w next (sym (rw sub-one at (at_more (suc f) s (length p) (omega arith) l (omega arith))) ∙ e) in
     (i.0, i.1, i.2, omega (arith, i.4))
 
-two_more : (p : List ℕ) (b c : ℕ) (q : List ℕ) (w next : ℕ) → 128 ≤ b → 128 ≤ c → varint_at (p ++ (b ∷ (c ∷ q))) (length p) ≡ VarintRead.Value w next → 128 * 128 ≤ w
+two_more : (p : List ℕ) (b c : ℕ) (q : List ℕ) (w next : ℕ) → 128 ≤ b → 128 ≤ c → varint_at (p ++ (b ∷ (c ∷ q))) (length p) ≡ value w next → 128 * 128 ≤ w
 two_more p b c q w next h k e =
     let i = byte_more 4 p b (c ∷ q) w next h e in
     let u : List ℕ = p ++ (b ∷ []) in
-    let a : pieces_at 4 (u ++ (c ∷ q)) (length u) ≡ VarintRead.Value i.0 next = simp (append_assoc, length-append) i.1 in
+    let a : pieces_at 4 (u ++ (c ∷ q)) (length u) ≡ value i.0 next = simp (append_assoc, length-append) i.1 in
     let j = byte_more 3 u c q i.0 next k a in
     omega (arith, i.3, j.2, j.3)
 

@@ -10,7 +10,6 @@ pub mod Unique
 pub mod Collected
 pub mod Lists
 pub mod Marked
-pub mod Verdicts
 pub mod Theorem
 pub mod Minimal
 pub mod Examples

@@ -13,7 +13,7 @@ use Rattle.base.proofs.Bools.{T-left, T-right}
 use Rattle.varint.specs.Reading.{varint_at}
 use Rattle.edges.specs.Reading.{edges_from}
 use Rattle.plan.specs.Reading.{tree_from, range_from, plan_from, plan_of}
-use Rattle.plan_groups.specs.Inner.{tree_end}
+use Rattle.plan_groups.specs.Groups.{tree_end}
 use Rattle.plan_cycle.specs.Cycle.{value_at, past_at}
 use Rattle.plan_cycle.proofs.Refusals.{passed, Whole, whole, range_never}
 use Rattle.plan_cycle.proofs.Turn.{Refuses}

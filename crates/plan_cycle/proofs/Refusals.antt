@@ -9,8 +9,8 @@ use lib.Dec.{T, eqb, leb}
 use lib.ListN.{length}
 use Rattle.base.specs.Found.{Found, found, refused, ask}
 use Rattle.base.specs.Limits.{max_width, max_reading}
-use Rattle.varint.specs.declared.VarintRead.{VarintRead}
-use Rattle.varint.specs.Reading.{varint_at, value_of, past_of}
+use Rattle.std.specs.Prelude.{Ok, Err}
+use Rattle.varint.specs.Reading.{VarintRead, value, varint_at, value_of, past_of}
 use Rattle.varint.proofs.RoundTrip.{value_place}
 use Rattle.signed.specs.Signed.{offset_of_zigzag}
 use Rattle.tree.specs.Edges.{Edges}
@@ -18,7 +18,7 @@ use Rattle.tree.specs.Growth.{growth_order}
 use Rattle.edges.specs.Reading.{onward, varint_then}
 use Rattle.plan.specs.Positions.{tree_plan, range_plan}
 use Rattle.plan.specs.Reading.{ended, range_from}
-use Rattle.plan_groups.specs.Inner.{tree_end, width_then}
+use Rattle.plan_groups.specs.Groups.{tree_end, width_then}
 use Rattle.plan_cycle.specs.Cycle.{value_at, past_at}
 
 -- a question of another number was answered by yes
@@ -33,14 +33,13 @@ eighth false at go e = inl ((λ x. x), (cc))
 
 -- a group was whole
 pub whole : {A : Type 0} (at : ℕ) (r : VarintRead) (f : ℕ → ℕ → Found A) {place : ℕ} → onward at r f ≡ refused 8 place
-    → (r ≡ VarintRead.Value (value_of r) (past_of r at)) × (f (value_of r) (past_of r at) ≡ refused 8 place)
-whole at (VarintRead.Value v next) f e = (refl, e)
-whole at (VarintRead.Short least) f e = let z : ◌≡◌ {A = ℕ} 4 8 = cc in absurd (omega arith)
-whole at VarintRead.Malformed f e = let z : ◌≡◌ {A = ℕ} 4 8 = cc in absurd (omega arith)
+    → (r ≡ value (value_of r) (past_of r at)) × (f (value_of r) (past_of r at) ≡ refused 8 place)
+whole at (Ok r) f e = (refl, e)
+whole at (Err d) f e = let z : ◌≡◌ {A = ℕ} 4 8 = cc in absurd (omega arith)
 
 -- one stands at `at`
 abbrev pub Whole : List ℕ → ℕ → Type 0
-Whole s at = varint_at s at ≡ VarintRead.Value (value_at s at) (past_at s at)
+Whole s at = varint_at s at ≡ value (value_at s at) (past_at s at)
 
 -- and the place past it is further on
 pub further_on : (s : List ℕ) (at : ℕ) → Whole s at → at < past_at s at

@@ -7,9 +7,8 @@ use native.Mathlib.Omega.{arith}
 use lib.Dec.{eqb}
 use lib.ListN.{length, length-append}
 use Rattle.base.specs.Pick.{pick}
-use Rattle.varint.specs.declared.VarintRead.{VarintRead}
 use Rattle.varint.specs.Varint.{varint_bytes}
-use Rattle.varint.specs.Reading.{varint_at}
+use Rattle.varint.specs.Reading.{value, varint_at}
 use Rattle.varint.proofs.RoundTrip.{varint_read_at}
 use Rattle.tree.specs.Edges.{Edge, Edges, Below}
 use Rattle.plan.specs.Bytes.{edge_bytes}
@@ -40,7 +39,7 @@ up_to_first (suc k) j s place at = go (eqb (past_at s (place_after s at j)) plac
 
 -- ---- edges that were written
 
-edge_read : (s : List ℕ) (at a b second next : ℕ) → varint_at s at ≡ VarintRead.Value a second → varint_at s second ≡ VarintRead.Value b next
+edge_read : (s : List ℕ) (at a b second next : ℕ) → varint_at s at ≡ value a second → varint_at s second ≡ value b next
     → (edge_at s at ≡ record { one = a; two = b }) × (past_at s (past_at s at) ≡ next)
 edge_read s at a b second next i j = rw (i, j) (refl, refl)
 

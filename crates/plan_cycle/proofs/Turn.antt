@@ -12,7 +12,7 @@ use Rattle.varint.specs.Reading.{varint_at}
 use Rattle.tree.specs.Edges.{Edges, all, joined}
 use Rattle.edges.specs.Reading.{varint_then, ends_apart, not_joined, room_at_ends, edges_from}
 use Rattle.plan.specs.Plan.{Plan}
-use Rattle.plan_groups.specs.Inner.{tree_end}
+use Rattle.plan_groups.specs.Groups.{tree_end}
 use Rattle.plan_cycle.specs.Cycle.{value_at, past_at, edge_at}
 use Rattle.plan_cycle.proofs.Refusals.{passed, eighth, Whole, whole, further_on, tree_never}
 

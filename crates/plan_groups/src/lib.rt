@@ -1,133 +1,69 @@
-// A plan group by group: which group comes next. What a group that was read makes of the plan so far is crate plan_take, and its end plan_finish.
+// The plan's reader: the lent plan bytes and the offset reached, together; and what the first numbers of a plan say: its kind, and a range's limits.
 #![tactic(auto)]
 
 ghost use Rattle.std.specs.Prelude.{◌≡◌};
-ghost use Rattle.varint.specs.Reading.{past_of};
-ghost use Rattle.plan_groups.specs.declared.Next.{Next};
-ghost use Rattle.plan_groups.specs.Inner.{wanting, kind_next, width_next, after_edges};
+ghost use Rattle.varint.specs.Reading.{varint_at, past_of};
+ghost use Rattle.plan_groups.specs.Groups.{value_read, limits_of};
 
-// Which group comes next, or how the plan ended.
+use base::Question;
+use varint::VarintError;
+
 #[derive(Clone, Copy)]
-pub enum Next {
-    Kind,
-    // a tree's vertex count
-    Count,
-    // the first end of an edge, and the second after the first
-    First,
-    Second { first: u32 },
-    // a range's low reading, and the width after the low reading's group
-    Low,
-    Width { low: u32 },
-    // no group: all edges are read
+pub struct PlanReader<'a> {
+    pub bytes: &'a [u8],
+    pub at: usize,
+}
+
+impl<'a> PlanReader<'a> {
+    // A reader at the first byte.
+    pub fn new(bytes: &'a [u8]) -> PlanReader<'a>
+        ensures { (result.bytes ≡ bytes.entry) × (result.at ≡ 0) }
+    {
+        PlanReader { bytes, at: 0 }
+    }
+
+    // The varint that stands at the offset: the reader moves past it.
+    pub fn next_varint(&mut self) -> Result<u32, VarintError>
+        ensures value { result ≡ value_read (varint_at self.old.bytes.now self.old.at) }
+        ensures moved { (self.new.bytes ≡ self.old.bytes) × (self.new.at ≡ past_of (varint_at self.old.bytes.now self.old.at) self.old.at) }
+    {
+        let read = varint::read(self.bytes, self.at)?;
+        self.at = read.next;
+        Ok(read.value)
+    }
+}
+
+// The kinds of plans.
+#[derive(Clone, Copy, Debug, PartialEq, Eq)]
+pub enum Kind {
     Tree,
-    // no group: the low reading, in offset binary, and the width
-    Range { low: u32, width: u32 },
-    // no group: a question was answered by no
-    Refused { number: u8, place: usize },
+    Range,
 }
 
-#[derive(Clone, Copy)]
-pub struct PlanSoFar {
-    pub next: Next,
-    pub edges: edges::EdgeCount,
-}
+// Question 5.
+impl TryFrom<u32> for Kind {
+    type Error = Question;
 
-// The place past a group that was read at `at`.
-pub fn past(found: varint::VarintRead, at: usize) -> usize
-    ensures { result ≡ past_of found at }
-{
-    match found {
-        varint::VarintRead::Value { value: _, next } => next,
-        varint::VarintRead::Short { least: _ } => at,
-        varint::VarintRead::Malformed => at,
+    ghost use Rattle.plan_groups.specs.Kinds.{NamesKind};
+
+    ghost try_from_gives = { NamesKind };
+
+    fn try_from(number: u32) -> Result<Self, Question> {
+        match number {
+            1 => Ok(Kind::Tree),
+            2 => Ok(Kind::Range),
+            _ => Err(Question::PlanKind),
+        }
     }
 }
 
-// Before the first group.
-pub fn begin() -> PlanSoFar
-    ensures { result.next ≡ Next.Kind }
-{
-    let k = Next::Kind;
-    let n = edges::EdgeCount {
-        vertices: 0,
-        edges: 0,
-    };
-    PlanSoFar { next: k, edges: n }
-}
-
-fn wants_next(n: Next) -> bool
-    ensures { result ≡ wanting n }
-{
-    match n {
-        Next::Kind => true,
-        Next::Count => true,
-        Next::First => true,
-        Next::Second { first: _ } => true,
-        Next::Low => true,
-        Next::Width { low: _ } => true,
-        Next::Tree => false,
-        Next::Range { low: _, width: _ } => false,
-        Next::Refused {
-            number: _,
-            place: _,
-        } => false,
-    }
-}
-
-// Does a further group belong to the plan?
-pub fn wants(p: PlanSoFar) -> bool
-    ensures { result ≡ wanting p.next }
-{
-    let n = p.next;
-    wants_next(n)
-}
-
-// The question that was answered by no, and its place.
-pub fn refused(number: u8, place: usize) -> Next
-    ensures { result ≡ Next.Refused number place }
-{
-    Next::Refused { number, place }
-}
-
-// Question 5: the kind k, read at `at`.
-pub fn after_kind(k: u32, at: usize) -> Next
-    ensures { result ≡ kind_next k at }
-{
-    if k == 1 {
-        return Next::Count;
-    }
-    if k == 2 {
-        return Next::Low;
-    }
-    refused(5, at)
-}
-
-// Question 10: the width, read at `at`, after the low reading's group.
-pub fn after_width(low: u32, width: u32, at: usize) -> Next
-    ensures { result ≡ width_next low width at }
+// Question 10 of a range's low reading, as it is written, and its width: the low reading in offset binary.
+pub fn low_within(low: u32, width: u32) -> Result<u32, Question>
+    ensures { result ≡ limits_of low width }
 {
     let reading = signed::offset_of_zigzag(low);
-    if base::MAX_WIDTH < width {
-        return refused(10, at);
+    if base::MAX_WIDTH < width || base::MAX_READING - reading < width {
+        return Err(Question::RangeLimits);
     }
-    if base::MAX_READING - reading < width {
-        return refused(10, at);
-    }
-    Next::Range {
-        low: reading,
-        width,
-    }
-}
-
-// A further edge, or the end of the tree.
-pub fn after_edges(n: edges::EdgeCount) -> Next
-    ensures { result ≡ after_edges n.edges n.vertices }
-{
-    if n.vertices <= 1 {
-        return Next::Tree;
-    }
-    if n.edges < n.vertices - 1 {
-        return Next::First;
-    }
-    Next::Tree
+    Ok(reading)
 }

@@ -7,20 +7,21 @@ use Prim.Native.Nat.{ℕ, zero, suc, ◌+◌, ◌-◌, ◌≤◌, ◌<◌}
 use native.Mathlib.Decide.{ℕ_discrete}
 use native.Mathlib.Numerals.{add-one}
 use native.Mathlib.Omega.{arith}
-use lib.Dec.{T, eqb, eqb→eq, eqb_refl}
+use lib.Dec.{T, eqb, eqb_refl}
 use lib.ListN.{length, get_or, set, replicate, length-set, length-replicate, get_or-replicate}
 use lib.Seq.{get_or-set_same, get_or-set_other}
 use borrow.Author.Tests.{eq-eqb, ne_eqb}
+use Rattle.base.specs.Limits.{max_vertices}
 use Rattle.base.specs.Pick.{pick}
-use Rattle.base.proofs.Bools.{true→T, false→not-T}
+use Rattle.base.proofs.Bools.{false→not-T}
 use Rattle.tree.specs.Edges.{Edge, Edges, Below}
 use Rattle.tree.specs.Growth.{reached, others, branched, target, extended, absorbed, growth_order}
+use Rattle.tree.proofs.Edges.{below_more}
 use Rattle.tree.proofs.GrowthRows.{target_reached}
-use Rattle.tree.proofs.GrowthOrder.{branched_old, absorbed_step, absorbed_done, absorbed_enough, order_none, order_more, order_few}
+use Rattle.tree.proofs.GrowthOrder.{branched_old, absorbed_step, absorbed_done, absorbed_enough, order_none, order_more, order_few, order_below}
 use Rattle.edges.specs.Rows.{rows}
-use Rattle.edges.proofs.Rows.{rows_length, row_below}
-use Rattle.plan_growth.specs.Inner.{edge, Laid, At, Latest, Hung}
-use Rattle.plan_growth.proofs.Columns.{laid_rows, laid_named, laid_short}
+use Rattle.edges.proofs.Rows.{rows_length, row_below, rows_below}
+use Rattle.plan_growth.specs.Inner.{edge, Laid, At, Latest, Hung, Columns, NextFits}
 
 -- where row i of the columns leads
 rows_target : (ps cs : List ℕ) (k i : ℕ) → i < k → target (rows ps cs k) i ≡ get_or cs i 0
@@ -57,142 +58,104 @@ module _ (one two : List ℕ) where
   others_off x e d = rw (ne_eqb x (get_or one e 0) (λ i. d (inl i)), ne_eqb x (get_or two e 0) (λ i. d (inr i)))
 
 module _ {v i : ℕ} {one two latest before1 before2 : List ℕ} (h : Hung v i one two latest before1 before2) where
-  -- the edge before
-  pub earlier : (x e : ℕ) → e < i → At one two x e → Latest one two x e (pick (eqb x (get_or one e 0)) (get_or before1 e 0) (get_or before2 e 0))
-  earlier x e l a = go (eqb x (get_or one e 0)) refl a
-    where
-      go : (b : Bool) → eqb x (get_or one e 0) ≡ b → At one two x e → Latest one two x e (pick b (get_or before1 e 0) (get_or before2 e 0))
-      go true k a = rw (eqb→eq x (get_or one e 0) (true→T k)) (h.ones e l)
-      go false k (inl j) = absurd (false→not-T k (subst (λ (z : ℕ). T (eqb x z)) j (eqb_refl x)))
-      go false k (inr j) = rw j (h.twos e l)
+  -- the other end of an edge that hangs at x, if x is its first end
+  pub along_first : (x e : ℕ) → e < i → x ≡ get_or one e 0 → (others x (rows one two (e + 1)) ≡ get_or two e 0 ∷ others x (rows one two e)) × (get_or two e 0 < v)
+  along_first x e l k = (
+    ap (λ (m : ℕ). others x (rows one two m)) (add-one e)
+        ∙ others_at one two x e (inl k)
+        ∙ ap (λ (b : Bool). pick b (get_or two e 0) (get_or one e 0) ∷ others x (rows one two e)) (eq-eqb x (get_or one e 0) k),
+    (row_below v one two i e l h.below).1,
+  )
 
-  -- ends of the edges
-  pub hung_below : (e : ℕ) → e < i → (get_or one e 0 < v) × (get_or two e 0 < v)
-  hung_below e l = row_below v one two i e l h.below
+  -- else
+  pub along_second : (x e : ℕ) → e < i → (x ≡ get_or one e 0 → ⊥) → At one two x e
+      → (others x (rows one two (e + 1)) ≡ get_or one e 0 ∷ others x (rows one two e)) × (get_or one e 0 < v)
+  along_second x e l d a = (
+    ap (λ (m : ℕ). others x (rows one two m)) (add-one e)
+        ∙ others_at one two x e a
+        ∙ ap (λ (b : Bool). pick b (get_or two e 0) (get_or one e 0) ∷ others x (rows one two e)) (ne_eqb x (get_or one e 0) d),
+    (row_below v one two i e l h.below).0,
+  )
 
 -- ---- a walk along the chain at x
 
--- the rows so far, and those that the chain from n on adds, are those that the whole chain of the first i edges adds to F
-pub record Walking (v : ℕ) (one two : List ℕ) (i x : ℕ) (F : Edges) (parent child seen : List ℕ) (count n : ℕ) : Type 0 where
-  pub laid : Laid v (rows parent child count) parent child seen count
-  pub from : T (reached (rows parent child count) x)
+-- the rows G so far, and those that the chain from n on adds, are those that the whole chain of the first i edges adds to F
+pub record Walking (one two : List ℕ) (i x : ℕ) (F G : Edges) (n : ℕ) : Type 0 where
+  pub from : T (reached G x)
   pub most : n ≤ i
   pub there : (e : ℕ) → n ≡ suc e → At one two x e
-  pub rest : branched x (others x (rows one two n)) (rows parent child count) ≡ branched x (others x (rows one two i)) F
+  pub rest : branched x (others x (rows one two n)) G ≡ branched x (others x (rows one two i)) F
 
--- from the latest on
-pub walk_start : {v i x y n k : ℕ} {one two latest before1 before2 parent child seen : List ℕ} → Hung v i one two latest before1 before2 → x < v
-    → Laid v (rows parent child k) parent child seen k → T (reached (rows parent child k) x) → y ≡ x → n ≡ get_or latest y 0
-    → Walking v one two i x (rows parent child k) parent child seen k n
-walk_start {v} {i} {x} {y} {n} {k} {one} {two} {latest} {before1} {before2} {parent} {child} h b l r e f =
-    let t : Latest one two x i n = rw (f, e) (h.last x b) in
-    record { laid = l; from = r; most = t.most; there = t.there; rest = ap (λ (m : List ℕ). branched x m (rows parent child k)) t.same }
-
-module _ {v i x k n : ℕ} {F : Edges} {one two latest before1 before2 parent child seen : List ℕ} (h : Hung v i one two latest before1 before2)
-    (w : Walking v one two i x F parent child seen k n) where
-  -- the edge at hand
-  pub walk_at : (n ≡ 0 → ⊥) → (n - 1 < i) × At one two x (n - 1)
-  walk_at d = (omega (arith, w.most), w.there (n - 1) (omega arith))
-
-  -- its other end
-  pub walk_other : {y : ℕ} → (n ≡ 0 → ⊥) → y ≡ pick (eqb x (get_or one (n - 1) 0)) (get_or two (n - 1) 0) (get_or one (n - 1) 0) → y < v
-  walk_other {y} d e = let b = hung_below h (n - 1) (walk_at d).0 in rw e (go (eqb x (get_or one (n - 1) 0)) b.0 b.1)
-    where
-      go : (c : Bool) → get_or one (n - 1) 0 < v → get_or two (n - 1) 0 < v → pick c (get_or two (n - 1) 0) (get_or one (n - 1) 0) < v
-      go true a b = b
-      go false a b = a
-
-  -- one edge of the chain
-  pub walk_step : {y m r : ℕ} {parent' child' seen' : List ℕ} → (n ≡ 0 → ⊥) → y ≡ pick (eqb x (get_or one (n - 1) 0)) (get_or two (n - 1) 0) (get_or one (n - 1) 0)
-      → m ≡ pick (eqb x (get_or one (n - 1) 0)) (get_or before1 (n - 1) 0) (get_or before2 (n - 1) 0) → Laid v (branched x (y ∷ []) (rows parent child k)) parent' child' seen' r
-      → (m < n) × Walking v one two i x F parent' child' seen' r m
-  unfolding branched
-  walk_step {y} {m} {r} {parent'} {child'} {seen'} d ey em g =
-      let a = walk_at d in
-      let l : Latest one two x (n - 1) m = rw em (earlier h x (n - 1) a.0 a.1) in
-      let e : rows parent' child' r ≡ branched x (y ∷ []) (rows parent child k) = laid_rows g in
-      let s : n ≡ suc (n - 1) = omega arith in (
-        omega (arith, l.most),
-        record {
-          laid = laid_named g;
-          from = subst (λ (G : Edges). T (reached G x)) (sym e) (branched_old x (y ∷ []) (rows parent child k) x w.from);
-          most = omega (arith, l.most, a.0);
-          there = l.there;
-          rest = ap (λ (q : List ℕ). branched x q (rows parent' child' r)) l.same
-              ∙ ap (branched x (others x (rows one two (n - 1)))) e
-              ∙ ap (λ (z : ℕ). branched x (z ∷ others x (rows one two (n - 1))) (rows parent child k)) ey
-              ∙ ap (λ (q : List ℕ). branched x q (rows parent child k)) (sym (others_at one two x (n - 1) a.1))
-              ∙ ap (λ (z : ℕ). branched x (others x (rows one two z)) (rows parent child k)) (sym s)
-              ∙ w.rest;
-        },
-      )
+-- one edge of the chain, to its other end y
+pub walk_step : {i x n y m b : ℕ} {F G H : Edges} {one two : List ℕ} → Walking one two i x F G n → (n ≡ 0 → ⊥)
+    → others x (rows one two (n - 1 + 1)) ≡ y ∷ others x (rows one two (n - 1)) → m ≡ b → Latest one two x (n - 1) b → H ≡ branched x (y ∷ []) G → Walking one two i x F H m
+unfolding branched
+walk_step {i} {x} {n} {y} {m} {b} {F} {G} {H} {one} {two} w d ey em h e =
+    let l : Latest one two x (n - 1) m = rw em h in
+    let s : n ≡ n - 1 + 1 = omega arith in
+    record {
+      from = subst (λ (K : Edges). T (reached K x)) (sym e) (branched_old x (y ∷ []) G x w.from);
+      most = omega (arith, l.most, w.most);
+      there = l.there;
+      rest = ap (λ (q : List ℕ). branched x q H) l.same
+          ∙ ap (branched x (others x (rows one two (n - 1)))) e
+          ∙ ap (λ (q : List ℕ). branched x q G) (sym ey)
+          ∙ ap (λ (z : ℕ). branched x (others x (rows one two z)) G) (sym s)
+          ∙ w.rest;
+    }
 
 -- the chain's end
-pub walk_end : {v i x k n : ℕ} {F : Edges} {one two parent child seen : List ℕ} → Walking v one two i x F parent child seen k n → n ≡ 0
-    → Laid v (branched x (others x (rows one two i)) F) parent child seen k
+pub walk_end : {i x n : ℕ} {F G : Edges} {one two : List ℕ} → Walking one two i x F G n → n ≡ 0 → G ≡ branched x (others x (rows one two i)) F
 unfolding branched others rows
-walk_end {v} {i} {x} {k} {n} {F} {one} {two} {parent} {child} {seen} w e =
-    subst (λ (G : Edges). Laid v G parent child seen k) (ap (λ (m : ℕ). branched x (others x (rows one two m)) (rows parent child k)) (sym e) ∙ w.rest) w.laid
+walk_end {i} {x} {n} {F} {G} {one} {two} w e = ap (λ (m : ℕ). branched x (others x (rows one two m)) G) (sym e) ∙ w.rest
 
 -- ---- row after row
 
--- the rows so far, and those that row `row` and the later ones bring along, are those that the rows of F from row `from` on bring along
-pub record Absorbing (v : ℕ) (E : Edges) (from : ℕ) (F : Edges) (parent child seen : List ℕ) (row count : ℕ) : Type 0 where
-  pub laid : Laid v (rows parent child count) parent child seen count
+-- what row `row` of G and the later ones bring along is what the rows of F from row `from` on bring along
+pub record Absorbing (v : ℕ) (E : Edges) (from : ℕ) (F G : Edges) (row : ℕ) : Type 0 where
   pub past : from ≤ row
-  pub rest : absorbed (v - (row - from)) E row (rows parent child count) ≡ absorbed v E from F
+  pub rest : absorbed (v - (row - from)) E row G ≡ absorbed v E from F
 
-pub absorb_start : {v from k : ℕ} {parent child seen : List ℕ} (E : Edges) → Laid v (rows parent child k) parent child seen k
-    → Absorbing v E from (rows parent child k) parent child seen from k
-absorb_start {v} {from} {k} {parent} {child} E h =
-    let e : v - (from - from) ≡ v = omega arith in
-    record { laid = h; past = omega arith; rest = ap (λ (m : ℕ). absorbed m E from (rows parent child k)) e }
+-- where a row leads
+pub row_leads : {v k : ℕ} {parent child seen : List ℕ} (row : ℕ) → Laid v (rows parent child k) parent child seen k → row < k
+    → (get_or child row 0 < v) × T (reached (rows parent child k) (get_or child row 0))
+row_leads {v} {k} {parent} {child} row h l = (
+  (row_below v parent child k row l h.below).1,
+  subst (λ (x : ℕ). T (reached (rows parent child k) x)) (rows_target parent child k row l) (target_reached (rows parent child k) row (omega (arith, rows_length parent child k))),
+)
 
-module _ {v from row k : ℕ} {E F : Edges} {parent child seen : List ℕ} (w : Absorbing v E from F parent child seen row k) where
-  -- where the row at hand leads
-  pub absorb_at : row < k → (get_or child row 0 < v) × T (reached (rows parent child k) (get_or child row 0))
-  absorb_at l = (
-    (row_below v parent child k row l w.laid.below).1,
-    subst (λ (x : ℕ). T (reached (rows parent child k) x)) (rows_target parent child k row l) (target_reached (rows parent child k) row (omega (arith, rows_length parent child k))),
-  )
+-- one row more brings along what hangs where it leads
+pub absorb_step : {v from k row : ℕ} {E F H : Edges} (parent child : List ℕ) → Absorbing v E from F (rows parent child k) row → row < k → k < v
+    → H ≡ branched (get_or child row 0) (others (get_or child row 0) E) (rows parent child k) → Absorbing v E from F H (row + 1)
+absorb_step {v} {from} {k} {row} {E} {F} {H} parent child w l m e =
+    let s : v - (row - from) ≡ suc (v - (row + 1 - from)) = omega (arith, w.past) in
+    record {
+      past = omega (arith, w.past);
+      rest = ap (λ (K : Edges). absorbed (v - (row + 1 - from)) E (row + 1) K) e
+          ∙ ap (λ (x : ℕ). absorbed (v - (row + 1 - from)) E (row + 1) (branched x (others x E) (rows parent child k))) (sym (rows_target parent child k row l))
+          ∙ ap (λ (j : ℕ). absorbed (v - (row + 1 - from)) E j (branched (target (rows parent child k) row) (others (target (rows parent child k) row) E) (rows parent child k))) (add-one row)
+          ∙ sym (absorbed_step (v - (row + 1 - from)) E row (rows parent child k) (omega (arith, rows_length parent child k)))
+          ∙ ap (λ (j : ℕ). absorbed j E row (rows parent child k)) (sym s)
+          ∙ w.rest;
+    }
 
-  pub absorb_step : {r : ℕ} {parent' child' seen' : List ℕ} → row < k → Laid v (branched (get_or child row 0) (others (get_or child row 0) E) (rows parent child k)) parent' child' seen' r
-      → Absorbing v E from F parent' child' seen' (row + 1) r
-  absorb_step {r} {parent'} {child'} l g =
-      let s : v - (row - from) ≡ suc (v - (row + 1 - from)) = omega (arith, w.past, laid_short w.laid) in
-      record {
-        laid = laid_named g;
-        past = omega (arith, w.past);
-        rest = ap (λ (G : Edges). absorbed (v - (row + 1 - from)) E (row + 1) G) (laid_rows g)
-            ∙ ap (λ (x : ℕ). absorbed (v - (row + 1 - from)) E (row + 1) (branched x (others x E) (rows parent child k))) (sym (rows_target parent child k row l))
-            ∙ ap (λ (m : ℕ). absorbed (v - (row + 1 - from)) E m (branched (target (rows parent child k) row) (others (target (rows parent child k) row) E) (rows parent child k))) (add-one row)
-            ∙ sym (absorbed_step (v - (row + 1 - from)) E row (rows parent child k) (omega (arith, rows_length parent child k)))
-            ∙ ap (λ (m : ℕ). absorbed m E row (rows parent child k)) (sym s)
-            ∙ w.rest;
-      }
-
-  pub absorb_end : k ≤ row → Laid v (absorbed v E from F) parent child seen k
-  absorb_end l =
-      subst (λ (G : Edges). Laid v G parent child seen k)
-      (sym (absorbed_done (v - (row - from)) E row (rows parent child k) (omega (arith, rows_length parent child k))) ∙ w.rest) w.laid
+-- the last row
+pub absorb_end : {v from row : ℕ} {E F G : Edges} → Absorbing v E from F G row → length G ≤ row → G ≡ absorbed v E from F
+absorb_end {v} {from} {row} {E} {F} {G} w l = sym (absorbed_done (v - (row - from)) E row G l) ∙ w.rest
 
 -- ---- edge after edge
 
--- after an edge is added as a row, or not
-pub take_step : {v n r : ℕ} {F : Edges} {p c s p' c' s' : List ℕ} (E : Edges) (k : ℕ) → Laid v F p c s n → Laid v (absorbed v E k (rows p c n)) p' c' s' r → Laid v (absorbed v E k F) p' c' s' r
-take_step {v} {r = r} {p' = p'} {c' = c'} {s' = s'} E k h g = subst (λ (G : Edges). Laid v (absorbed v E k G) p' c' s' r) (laid_rows h) g
-
 -- before the first edge
-pub order_start : {v : ℕ} {p c s : List ℕ} (one two : List ℕ) → Laid v [] p c s 0 → Laid v (growth_order (rows one two 0)) p c s 0
+pub order_start : {G : Edges} (one two : List ℕ) → G ≡ [] → G ≡ growth_order (rows one two 0)
 unfolding rows
-order_start {v} {p} {c} {s} one two h = subst (λ (G : Edges). Laid v G p c s 0) (sym order_none) h
+order_start one two e = e ∙ sym order_none
 
 -- one edge more
-pub order_step : {v k r : ℕ} {p c s p' c' s' : List ℕ} (one two : List ℕ) (i : ℕ) → i < v → Laid v (growth_order (rows one two i)) p c s k
-    → Laid v (absorbed v (rows one two i) k (extended (edge (get_or one i 0) (get_or two i 0)) (rows p c k))) p' c' s' r → Laid v (growth_order (rows one two (i + 1))) p' c' s' r
+pub order_step : {v k : ℕ} {G H : Edges} (one two : List ℕ) (i : ℕ) → i < v → G ≡ growth_order (rows one two i) → k ≡ length G
+    → H ≡ absorbed v (rows one two i) k (extended (edge (get_or one i 0) (get_or two i 0)) G) → H ≡ growth_order (rows one two (i + 1))
 unfolding rows
-order_step {v} {k} {r} {p} {c} {s} {p'} {c'} {s'} one two i l h g =
-    subst (λ (G : Edges). Laid v G p' c' s' r) (named ∙ counted ∙ fuel ∙ sym (order_more d E) ∙ ap (λ (m : ℕ). growth_order (rows one two m)) (sym (add-one i))) g
+order_step {v} {k} {G} {H} one two i l g n h =
+    h ∙ named ∙ fuel ∙ sym (order_more d E) ∙ ap (λ (m : ℕ). growth_order (rows one two m)) (sym (add-one i))
   where
     d : Edge
     d = edge (get_or one i 0) (get_or two i 0)
@@ -203,11 +166,8 @@ order_step {v} {k} {r} {p} {c} {s} {p'} {c'} {s'} one two i l h g =
     F : Edges
     F = growth_order E
 
-    named : absorbed v E k (extended d (rows p c k)) ≡ absorbed v E k (extended d F)
-    named = ap (λ (G : Edges). absorbed v E k (extended d G)) (laid_rows h)
-
-    counted : absorbed v E k (extended d F) ≡ absorbed v E (length F) (extended d F)
-    counted = ap (λ (m : ℕ). absorbed v E m (extended d F)) h.many
+    named : absorbed v E k (extended d G) ≡ absorbed v E (length F) (extended d F)
+    named = ap (λ (m : ℕ). absorbed v E m (extended d G)) n ∙ ap (λ (K : Edges). absorbed v E (length K) (extended d K)) g
 
     few : length (absorbed (suc (length E)) E (length F) (extended d F)) ≤ length F + suc (length E)
     few = omega (arith, order_few (d ∷ E), ap length (order_more d E))
@@ -215,11 +175,37 @@ order_step {v} {k} {r} {p} {c} {s} {p'} {c'} {s'} one two i l h g =
     fuel : absorbed v E (length F) (extended d F) ≡ absorbed (suc (length E)) E (length F) (extended d F)
     fuel = absorbed_enough (suc (length E)) v E (length F) (extended d F) (omega (arith, rows_length one two i)) few
 
--- after the last edge
-pub order_end : {v : ℕ} {p c s : List ℕ} {k : ℕ} (one two : List ℕ) (i m : ℕ) → i ≡ m → Laid v (growth_order (rows one two i)) p c s k → Laid v (growth_order (rows one two m)) p c s k
-order_end one two i m e h = rw (← e) h
+-- after the last edge: the rows are laid among as many vertices as the edges speak of
+pub order_end : {n v k : ℕ} {p c s : List ℕ} (E : Edges) → 0 < n → n ≤ v → Below n E → rows p c k ≡ growth_order E → Laid v (rows p c k) p c s k
+    → Laid n (growth_order E) p c s k
+order_end {n} {v} {k} {p} {c} {s} E a l b e g =
+    let h : Laid v (growth_order E) p c s k = rw e at g in
+    record {
+      some = a;
+      many = h.many;
+      parents = h.parents;
+      children = h.children;
+      places = (omega (arith, h.places.0), omega (arith, h.places.1), omega (arith, h.places.2));
+      grown = h.grown;
+      below = order_below n E b;
+      marks = λ x m. h.marks x (omega arith);
+    }
 
 -- ---- one edge more hangs
+
+-- the ends of the next edge
+pub next_below : {s : Columns} → NextFits s → (get_or s.one s.count 0 < max_vertices) × (get_or s.two s.count 0 < max_vertices)
+next_below {s} h = row_below max_vertices s.one s.two (s.count + 1) s.count (omega arith) h.below
+
+-- there is one while not all m edges of the columns hang
+pub next_fits : (one two : List ℕ) (m i : ℕ) → i < m → Below (m + 1) (rows one two m) → (m ≤ length one) × (m ≤ length two) × (m + 1 ≤ max_vertices)
+    → NextFits (record { one = one; two = two; count = i })
+next_fits one two m i l b n =
+    record {
+      columns = (omega (arith, n.0), omega (arith, n.1));
+      room = omega (arith, n.2);
+      below = rows_below max_vertices one two m (i + 1) (omega arith) (below_more (m + 1) max_vertices (rows one two m) n.2 b);
+    }
 
 -- no edge hangs anywhere
 pub hung_none : (v n m : ℕ) (one two : List ℕ) → v ≤ n → Hung v 0 one two (replicate n 0) (replicate m 0) (replicate m 0)

@@ -19,7 +19,7 @@ use Rattle.tree.specs.Growth.{reached, turned, extended, branched}
 use Rattle.tree.proofs.GrowthComplete.{reached_count, grown_short}
 use Rattle.edges.specs.Rows.{rows, column}
 use Rattle.edges.proofs.Rows.{column_length, column_rows, store}
-use Rattle.plan_growth.specs.Inner.{edge, filled, Laid}
+use Rattle.plan_growth.specs.Inner.{edge, filled, Laid, Listed, rows_of}
 
 -- ---- how many rows
 
@@ -41,16 +41,16 @@ one_bit true h = refl
 one_bit false h = absurd h
 
 module _ {v : ℕ} {F : Edges} {parent child seen : List ℕ} {k : ℕ} (h : Laid v F parent child seen k) where
-  pub marked : (x : ℕ) → x < v → get_or seen x 0 ≡ 1 → T (reached F x)
+  marked : (x : ℕ) → x < v → get_or seen x 0 ≡ 1 → T (reached F x)
   marked x l e = bit_one (reached F x) (sym (h.marks x l) ∙ e)
 
   unmarked : (x : ℕ) → x < v → (get_or seen x 0 ≡ 1 → ⊥) → T (reached F x) → ⊥
   unmarked x l d r = d (h.marks x l ∙ one_bit (reached F x) r)
 
-  -- where a position below v is not marked, there is a place for a row
-  pub laid_room : (b : ℕ) → b < v → (get_or seen b 0 ≡ 1 → ⊥) → (k < length parent) × (k < length child)
+  -- where a position below v is not reached, there is a place for a row
+  pub laid_room : (b : ℕ) → b < v → (T (reached F b) → ⊥) → (k < length parent) × (k < length child)
   laid_room b l d =
-      let m : suc (suc (length F)) ≤ v = room v F b h.some h.grown h.below l (unmarked b l d) in
+      let m : suc (suc (length F)) ≤ v = room v F b h.some h.grown h.below l d in
       (omega (arith, h.many, h.places.0), omega (arith, h.many, h.places.1))
 
   column_more : (f : Edge → ℕ) (l : List ℕ) (e : Edge) → k < length l → l ≡ filled (length l) (column f F) → set l k (f e) ≡ filled (length (set l k (f e))) (column f (e ∷ F))
@@ -66,7 +66,7 @@ module _ {v : ℕ} {F : Edges} {parent child seen : List ℕ} {k : ℕ} (h : Lai
   mark_more b lb x l false i = get_or-set_other seen b x 1 0 (λ e. false→not-T i (subst (λ (z : ℕ). T (eqb x z)) e (eqb_refl x))) ∙ h.marks x l
 
   -- a row more, from a position that is reached to one that is not
-  laid_more : (a b : ℕ) → a < v → b < v → T (reached F a) → (get_or seen b 0 ≡ 1 → ⊥) → Laid v (edge a b ∷ F) (set parent k a) (set child k b) (set seen b 1) (k + 1)
+  pub laid_more : (a b : ℕ) → a < v → b < v → T (reached F a) → (T (reached F b) → ⊥) → Laid v (edge a b ∷ F) (set parent k a) (set child k b) (set seen b 1) (k + 1)
   unfolding reached
   laid_more a b la lb r d =
       let w = laid_room b lb d in
@@ -76,40 +76,10 @@ module _ {v : ℕ} {F : Edges} {parent child seen : List ℕ} {k : ℕ} (h : Lai
         parents = column_more (λ e. e.one) parent (edge a b) w.0 h.parents;
         children = column_more (λ e. e.two) child (edge a b) w.1 h.children;
         places = simp length-set h.places;
-        grown = (r, unmarked b lb d, h.grown);
+        grown = (r, d, h.grown);
         below = (la, lb, h.below);
         marks = λ x l. mark_more b lb x l (eqb x b) refl;
       }
-
-  -- from a to b, by b's mark
-  pub branch_old : (a b : ℕ) → b < v → get_or seen b 0 ≡ 1 → Laid v (branched a (b ∷ []) F) parent child seen k
-  unfolding branched
-  branch_old a b lb s = rw (T→true (reached F b) (marked b lb s)) h
-
-  pub branch_new : (a b : ℕ) {parent' child' seen' : List ℕ} → a < v → b < v → T (reached F a) → (get_or seen b 0 ≡ 1 → ⊥)
-      → parent' ≡ set parent k a → child' ≡ set child k b → seen' ≡ set seen b 1 → Laid v (branched a (b ∷ []) F) parent' child' seen' (k + 1)
-  unfolding branched
-  branch_new a b la lb r s e f g = rw (e, f, g, not-T→false (reached F b) (unmarked b lb s)) (laid_more a b la lb r s)
-
-  -- the edge a-b, by the marks of its ends
-  pub extend_on : (a b : ℕ) {parent' child' seen' : List ℕ} {r : ℕ} → a < v → get_or seen a 0 ≡ 1 → Laid v (branched a (b ∷ []) F) parent' child' seen' r
-      → Laid v (extended (edge a b) F) parent' child' seen' r
-  unfolding branched
-  extend_on a b {parent'} {child'} {seen'} {r} la s g = rw (T→true (reached F a) (marked a la s)) (go (reached F b) g)
-    where
-      go : (c : Bool) → Laid v (pick c F (edge a b ∷ F)) parent' child' seen' r → Laid v (turned true c (edge a b) F) parent' child' seen' r
-      go true g = g
-      go false g = g
-
-  pub extend_back : (a b : ℕ) {parent' child' seen' : List ℕ} {r : ℕ} → a < v → b < v → (get_or seen a 0 ≡ 1 → ⊥) → get_or seen b 0 ≡ 1
-      → Laid v (branched b (a ∷ []) F) parent' child' seen' r → Laid v (extended (edge a b) F) parent' child' seen' r
-  unfolding branched
-  extend_back a b la lb d s g =
-      let no : reached F a ≡ false = not-T→false (reached F a) (unmarked a la d) in
-      rw (no, T→true (reached F b) (marked b lb s)) (rw no at g)
-
-  pub extend_none : (a b : ℕ) → a < v → b < v → (get_or seen a 0 ≡ 1 → ⊥) → (get_or seen b 0 ≡ 1 → ⊥) → Laid v (extended (edge a b) F) parent child seen k
-  extend_none a b la lb r s = rw (not-T→false (reached F a) (unmarked a la r), not-T→false (reached F b) (unmarked b lb s)) h
 
   -- fewer rows than positions
   pub laid_short : k < v
@@ -124,6 +94,40 @@ laid_rows {v} {F} {parent} {child} {seen} {k} h =
 -- so they can be named by the columns
 pub laid_named : {v : ℕ} {F : Edges} {parent child seen : List ℕ} {k : ℕ} → Laid v F parent child seen k → Laid v (rows parent child k) parent child seen k
 laid_named h = rw (laid_rows h) h
+
+-- ---- the marks of a list
+
+module _ {v k x m : ℕ} {parent child seen : List ℕ} {l : Listed} (h : Laid v (rows parent child k) parent child seen k)
+    (e : record { parent = parent; child = child; seen = seen; count = k } ≡ l) (b : x < v) (i : m ≡ x) where
+  pub marked_in : get_or seen m 0 ≡ 1 → T (reached (rows_of l) x)
+  marked_in s = subst (λ (l : Listed). T (reached (rows_of l) x)) e (marked h x b (rw i at s))
+
+  pub unmarked_in : (get_or seen m 0 ≡ 1 → ⊥) → T (reached (rows_of l) x) → ⊥
+  unmarked_in d = subst (λ (l : Listed). T (reached (rows_of l) x) → ⊥) e (unmarked h x b (rw i at d))
+
+-- ---- which rows: by what is reached
+
+module _ (F : Edges) (a b : ℕ) where
+  pub branch_old : T (reached F b) → branched a (b ∷ []) F ≡ F
+  unfolding branched
+  branch_old h = rw (T→true (reached F b) h) refl
+
+  pub branch_new : (T (reached F b) → ⊥) → branched a (b ∷ []) F ≡ edge a b ∷ F
+  unfolding branched
+  branch_new d = rw (not-T→false (reached F b) d) refl
+
+  -- the edge a-b
+  pub extend_on : T (reached F a) → extended (edge a b) F ≡ branched a (b ∷ []) F
+  unfolding branched
+  extend_on h = rw (T→true (reached F a) h) (go (reached F b))
+    where
+      go : (c : Bool) → turned true c (edge a b) F ≡ pick c F (edge a b ∷ F)
+      go true = refl
+      go false = refl
+
+  pub extend_back : (T (reached F a) → ⊥) → T (reached F b) → extended (edge a b) F ≡ branched b (a ∷ []) F
+  unfolding branched
+  extend_back d h = rw (not-T→false (reached F a) d, T→true (reached F b) h) refl
 
 -- ---- no rows
 

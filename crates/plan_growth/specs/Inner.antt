@@ -1,6 +1,7 @@
 -- Edges in growth order, kept in two lent columns, with a mark at each position that they reach, and edges that hang at their ends in chains: serves
 -- proofs only.
-use Rattle.std.specs.Prelude.{◌≡◌, ◌⊎◌, List, ◌++◌, ℕ, suc, ◌-◌, ◌≤◌, ◌<◌, length, get_or, replicate}
+use Rattle.std.specs.Prelude.{◌≡◌, ◌⊎◌, List, ◌++◌, ℕ, suc, ◌+◌, ◌-◌, ◌≤◌, ◌<◌, length, get_or, replicate}
+use Rattle.base.specs.Limits.{max_vertices, max_rows}
 use Rattle.base.specs.Sets.{bit}
 use Rattle.tree.specs.Edges.{Edge, Edges, Below}
 use Rattle.tree.specs.Inner.{Grown}
@@ -43,3 +44,30 @@ pub record Hung (v i : ℕ) (one two latest before1 before2 : List ℕ) : Type 0
   pub last : (x : ℕ) → x < v → Latest one two x i (get_or latest x 0)
   pub ones : (e : ℕ) → e < i → Latest one two (get_or one e 0) e (get_or before1 e 0)
   pub twos : (e : ℕ) → e < i → Latest one two (get_or two e 0) e (get_or before2 e 0)
+
+-- the first `count` edges of two columns of ends
+pub record Columns : Type 0 where
+  pub one : List ℕ
+  pub two : List ℕ
+  pub count : ℕ
+
+-- these edges, the latest first
+abbrev pub edges_of : Columns → Edges
+edges_of s = rows s.one s.two s.count
+
+-- there is an edge after them, whose ends are vertices, and room for it
+pub record NextFits (s : Columns) : Type 0 where
+  pub columns : (s.count < length s.one) × (s.count < length s.two)
+  pub room : s.count < max_rows
+  pub below : Below max_vertices (rows s.one s.two (s.count + 1))
+
+-- rows in two columns, how many, and a mark at each position that they reach
+pub record Listed : Type 0 where
+  pub parent : List ℕ
+  pub child : List ℕ
+  pub seen : List ℕ
+  pub count : ℕ
+
+-- these rows, the latest first
+abbrev pub rows_of : Listed → Edges
+rows_of l = rows l.parent l.child l.count

@@ -1,1 +1,3 @@
 pub mod Inner
+pub mod Hanging
+pub mod Holding

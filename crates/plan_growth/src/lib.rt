@@ -2,195 +2,222 @@
 // in chains, the latest first, and the chain at a vertex is walked once, when a row reaches it.
 #![tactic(auto)]
 
-ghost use Rattle.std.specs.Prelude.{◌≡◌, [], ◌∷◌, ◌+◌, ◌<◌, ◌≤◌, T, eqb, length, get_or, set};
-ghost use Rattle.base.specs.Limits.{max_vertices, max_rows};
-ghost use Rattle.base.specs.Pick.{pick};
+ghost use Rattle.std.specs.Prelude.{◌≡◌, [], ◌∷◌, ◌+◌, ◌<◌, ◌≤◌, T, length, get_or};
+ghost use Rattle.base.specs.Limits.{max_vertices};
 ghost use Rattle.tree.specs.Edges.{Below};
 ghost use Rattle.tree.specs.Growth.{reached, extended, others, branched, absorbed, growth_order};
 ghost use Rattle.edges.specs.Rows.{rows};
-ghost use Rattle.plan_growth.specs.Inner.{edge, Laid, Hung};
+ghost use Rattle.plan_growth.specs.Inner.{edge, Laid, At, Latest, edges_of, rows_of, NextFits};
 
-// Row k leads from `from` to `to`, which is marked.
-fn append(parent: &mut [u16], child: &mut [u16], seen: &mut [u8], k: usize, from: u16, to: u16)
-    requires { (k < length parent.old) × (k < length child.old) × (to < length seen.old) }
-    ensures { (parent.new ≡ set parent.old k from) × (child.new ≡ set child.old k to) × (seen.new ≡ set seen.old to 1) }
-{
-    parent[k] = from;
-    child[k] = to;
-    seen[to as usize] = 1;
+use std::marker::Model;
+
+// The first `count` edges of two lent columns of ends, which hang in chains. Edges are numbered from 1 here: the latest at each vertex, and the one
+// before each edge at its first and at its second end; 0 where there is none.
+#[derive(Drop)]
+struct Hanging<'a> {
+    one: &'a [u16],
+    two: &'a [u16],
+    count: usize,
+    latest: [u16; base::MAX_VERTICES],
+    before1: [u16; base::MAX_ROWS],
+    before2: [u16; base::MAX_ROWS],
 }
 
-// A row from x, which is reached, to y where that is not. How many rows there are then.
-fn branch(
-    parent: &mut [u16],
-    child: &mut [u16],
-    seen: &mut [u8],
-    v: usize,
-    k: usize,
-    x: u16,
-    y: u16,
-) -> usize
-    requires { Laid v (rows parent.old child.old k) parent.old child.old seen.old k × (x < v) × (y < v) × T (reached (rows parent.old child.old k) x) }
-    ensures { Laid v (branched x (y ∷ []) (rows parent.old child.old k)) parent.new child.new seen.new result }
-{
-    if seen[y as usize] == 1 {
-        return k;
+// Clauses see the two columns and how many edges hang.
+impl<'a> Model for Hanging<'a> {
+    ghost use Rattle.plan_growth.specs.Inner.{Columns};
+
+    ghost Value = { Columns };
+
+    ghost use Rattle.plan_growth.specs.Hanging.{columns, Hangs};
+
+    ghost view = { columns };
+
+    ghost invariant = { Hangs };
+}
+
+impl<'a> Hanging<'a> {
+    // No edge of the columns hangs yet.
+    fn new(one: &'a [u16], two: &'a [u16]) -> Self
+        ensures { result ≡ record { one = one.now; two = two.now; count = 0 } }
+    {
+        Hanging {
+            one,
+            two,
+            count: 0,
+            latest: [0; base::MAX_VERTICES],
+            before1: [0; base::MAX_ROWS],
+            before2: [0; base::MAX_ROWS],
+        }
     }
-    append(parent, child, seen, k, x, y);
-    k + 1
-}
 
-// The edge a-b becomes a row, turned so that it leads on, where just one end is reached. How many rows there are then.
-fn extend(
-    parent: &mut [u16],
-    child: &mut [u16],
-    seen: &mut [u8],
-    v: usize,
-    k: usize,
-    a: u16,
-    b: u16,
-) -> usize
-    requires { Laid v (rows parent.old child.old k) parent.old child.old seen.old k × (a < v) × (b < v) }
-    ensures { Laid v (extended (edge a b) (rows parent.old child.old k)) parent.new child.new seen.new result }
-{
-    if seen[a as usize] == 1 {
-        return branch(parent, child, seen, v, k, a, b);
+    // The ends of the edge after those that hang.
+    fn next(&self) -> (u16, u16)
+        requires { NextFits self.now }
+        ensures { (result.0 ≡ get_or self.now.one self.now.count 0) × (result.1 ≡ get_or self.now.two self.now.count 0) }
+    {
+        (self.one[self.count], self.two[self.count])
     }
-    if seen[b as usize] == 1 {
-        return branch(parent, child, seen, v, k, b, a);
+
+    // It hangs at both its ends, before those that hang there.
+    fn hang(&mut self)
+        requires { NextFits self.old }
+        ensures { self.new ≡ record { one = self.old.one; two = self.old.two; count = self.old.count + 1 } }
+    {
+        let i = self.count;
+        let a = usize::from(self.one[i]);
+        let b = usize::from(self.two[i]);
+        self.before1[i] = self.latest[a];
+        self.before2[i] = self.latest[b];
+        self.latest[a] = (i + 1) as u16;
+        self.latest[b] = (i + 1) as u16;
+        self.count = i + 1;
     }
-    k
-}
 
-// Edge i, from a to b, hangs at both its ends, before those that hang there.
-fn hang(latest: &mut [u16], before1: &mut [u16], before2: &mut [u16], i: usize, a: u16, b: u16)
-    requires { (a < length latest.old) × (b < length latest.old) × (i < length before1.old) × (i < length before2.old) × (i < max_rows) }
-    ensures { (latest.new ≡ set (set latest.old a (i + 1)) b (i + 1)) × (before1.new ≡ set before1.old i (get_or latest.old a 0)) × (before2.new ≡ set before2.old i (get_or latest.old b 0)) }
-{
-    before1[i] = latest[a as usize];
-    before2[i] = latest[b as usize];
-    latest[a as usize] = (i + 1) as u16;
-    latest[b as usize] = (i + 1) as u16;
-}
-
-// At edge e, whose first ends are in `ends`: what p has for it where x is its first end, else what q has.
-fn at_end(ends: &[u16], p: &[u16], q: &[u16], e: usize, x: u16) -> u16
-    requires { (e < length ends.now) × (e < length p.now) × (e < length q.now) }
-    ensures { result ≡ pick (eqb x (get_or ends.now e 0)) (get_or p.now e 0) (get_or q.now e 0) }
-{
-    if x == ends[e] {
-        return p[e];
+    // The latest edge that hangs at x.
+    fn last(&self, x: u16) -> u16
+        requires { x < max_vertices }
+        ensures { Latest self.now.one self.now.two x self.now.count result }
+    {
+        self.latest[usize::from(x)]
     }
-    q[e]
-}
 
-// A row from x, which is reached, to the other end of each of the first i edges that hangs at x, where that end is not reached. How many rows there are then.
-fn branch_all(
-    one: &[u16],
-    two: &[u16],
-    i: usize,
-    latest: &[u16],
-    before1: &[u16],
-    before2: &[u16],
-    parent: &mut [u16],
-    child: &mut [u16],
-    seen: &mut [u8],
-    v: usize,
-    k: usize,
-    x: u16,
-) -> usize
-    requires { Laid v (rows parent.old child.old k) parent.old child.old seen.old k × Hung v i one.now two.now latest.now before1.now before2.now × (x < v) × T (reached (rows parent.old child.old k) x) }
-    ensures { Laid v (branched x (others x (rows one.now two.now i)) (rows parent.old child.old k)) parent.new child.new seen.new result }
-{
-    let mut count = k;
-    let mut n = base::wide(latest[base::wide(x)]);
-    while n != 0 {
-        let e = n - 1;
-        let y = at_end(one, two, one, e, x);
-        count = branch(parent, child, seen, v, count, x, y);
-        n = base::wide(at_end(one, before1, before2, e, x));
+    // Of edge e, which hangs at x: its other end, and the edge before it at x.
+    fn along(&self, e: usize, x: u16) -> (u16, u16)
+        requires { (e < self.now.count) × At self.now.one self.now.two x e }
+        ensures other { (others x (rows self.now.one self.now.two (e + 1)) ≡ result.0 ∷ others x (rows self.now.one self.now.two e)) × (result.0 < max_vertices) }
+        ensures before { Latest self.now.one self.now.two x e result.1 }
+    {
+        let (one, two) = (self.one, self.two);
+        if x == one[e] {
+            return (two[e], self.before1[e]);
+        }
+        (one[e], self.before2[e])
     }
-    count
 }
 
-// The rows from row `from` on, k in all, bring along what of the first i edges hangs where they lead. How many rows there are then.
-fn absorb(
-    one: &[u16],
-    two: &[u16],
-    i: usize,
-    latest: &[u16],
-    before1: &[u16],
-    before2: &[u16],
-    parent: &mut [u16],
-    child: &mut [u16],
-    seen: &mut [u8],
-    v: usize,
-    from: usize,
-    k: usize,
-) -> usize
-    requires { Laid v (rows parent.old child.old k) parent.old child.old seen.old k × Hung v i one.now two.now latest.now before1.now before2.now }
-    ensures { Laid v (absorbed v (rows one.now two.now i) from (rows parent.old child.old k)) parent.new child.new seen.new result }
-{
-    let mut count = k;
-    let mut row = from;
-    while row < count {
-        let x = child[row];
-        count = branch_all(
-            one, two, i, latest, before1, before2, parent, child, seen, v, count, x,
-        );
-        row += 1;
+// Rows in growth order: row i leads from parent[i], which is reached, to child[i]. 1 stands in `seen` at each vertex that is reached. Unused places are 0.
+#[derive(Drop)]
+pub struct RowList {
+    pub parent: [u16; base::MAX_ROWS],
+    pub child: [u16; base::MAX_ROWS],
+    pub seen: [u8; base::MAX_VERTICES],
+    pub count: usize,
+}
+
+// Clauses see the fields, since `grow` promises what they hold. That they hold rows in growth order is true of every value.
+impl Model for RowList {
+    ghost use Rattle.plan_growth.specs.Inner.{Listed};
+
+    ghost Value = { Listed };
+
+    ghost use Rattle.plan_growth.specs.Holding.{listed, Holds};
+
+    ghost view = { listed };
+
+    ghost invariant = { Holds };
+}
+
+impl RowList {
+    // No rows yet: vertex 0 alone is reached.
+    fn new() -> Self
+        ensures { rows_of result ≡ [] }
+    {
+        let mut seen = [0; base::MAX_VERTICES];
+        seen[0] = 1;
+        RowList {
+            parent: [0; base::MAX_ROWS],
+            child: [0; base::MAX_ROWS],
+            seen,
+            count: 0,
+        }
     }
-    count
-}
 
-// Edge i, before which i edges are taken and hang: if it leads on it becomes a row, and brings along what hangs on it. How many rows there are then.
-fn take_edge(
-    one: &[u16],
-    two: &[u16],
-    i: usize,
-    latest: &[u16],
-    before1: &[u16],
-    before2: &[u16],
-    parent: &mut [u16],
-    child: &mut [u16],
-    seen: &mut [u8],
-    v: usize,
-    k: usize,
-) -> usize
-    requires { Laid v (rows parent.old child.old k) parent.old child.old seen.old k × Hung v i one.now two.now latest.now before1.now before2.now × Below v (rows one.now two.now (i + 1)) × (i < length one.now) × (i < length two.now) }
-    ensures { Laid v (absorbed v (rows one.now two.now i) k (extended (edge (get_or one.now i 0) (get_or two.now i 0)) (rows parent.old child.old k))) parent.new child.new seen.new result }
-{
-    let next = extend(parent, child, seen, v, k, one[i], two[i]);
-    absorb(
-        one, two, i, latest, before1, before2, parent, child, seen, v, k, next,
-    )
-}
-
-// The m edges of the columns `one` and `two` become rows in growth order, in columns that are all 0. How many rows there are.
-pub fn grow(
-    one: &[u16],
-    two: &[u16],
-    m: usize,
-    parent: &mut [u16],
-    child: &mut [u16],
-    seen: &mut [u8],
-    v: usize,
-) -> usize
-    requires { Laid v [] parent.old child.old seen.old 0 × Below v (rows one.now two.now m) × (m ≤ length one.now) × (m ≤ length two.now) × (m + 1 ≡ v) × (v ≤ max_vertices) }
-    ensures { Laid v (growth_order (rows one.now two.now m)) parent.new child.new seen.new result }
-{
-    // Edges are numbered from 1 here: the latest at each vertex, and the one before each edge at its first and at its second end; 0 where there is none.
-    let mut latest = [0u16; base::MAX_VERTICES];
-    let mut before1 = [0u16; base::MAX_ROWS];
-    let mut before2 = [0u16; base::MAX_ROWS];
-    let mut k = 0;
-    let mut i = 0;
-    while i < m {
-        k = take_edge(
-            one, two, i, &latest, &before1, &before2, parent, child, seen, v, k,
-        );
-        hang(&mut latest, &mut before1, &mut before2, i, one[i], two[i]);
-        i += 1;
+    // A further row, from a vertex that is reached to one that is not.
+    fn append(&mut self, from: u16, to: u16)
+        requires { (from < max_vertices) × (to < max_vertices) × T (reached (rows_of self.old) from) × (T (reached (rows_of self.old) to) → ⊥) }
+        ensures { rows_of self.new ≡ edge from to ∷ rows_of self.old }
+    {
+        self.parent[self.count] = from;
+        self.child[self.count] = to;
+        self.seen[usize::from(to)] = 1;
+        self.count += 1;
     }
-    k
+
+    // A row from x, which is reached, to y where that is not.
+    fn branch(&mut self, x: u16, y: u16)
+        requires { (x < max_vertices) × (y < max_vertices) × T (reached (rows_of self.old) x) }
+        ensures { rows_of self.new ≡ branched x (y ∷ []) (rows_of self.old) }
+    {
+        if self.seen[usize::from(y)] == 1 {
+            return;
+        }
+        self.append(x, y);
+    }
+
+    // The edge a-b becomes a row, turned so that it leads on, where just one end is reached.
+    fn extend(&mut self, a: u16, b: u16)
+        requires { (a < max_vertices) × (b < max_vertices) }
+        ensures { rows_of self.new ≡ extended (edge a b) (rows_of self.old) }
+    {
+        if self.seen[usize::from(a)] == 1 {
+            self.branch(a, b);
+        } else if self.seen[usize::from(b)] == 1 {
+            self.branch(b, a);
+        }
+    }
+
+    // A row from x, which is reached, to the other end of each edge that hangs at x, where that end is not reached.
+    fn branch_all(&mut self, hanging: &Hanging, x: u16)
+        requires { (x < max_vertices) × T (reached (rows_of self.old) x) }
+        ensures { rows_of self.new ≡ branched x (others x (edges_of hanging.now)) (rows_of self.old) }
+    {
+        let mut n = usize::from(hanging.last(x));
+        // No `for`: it follows the chain, to the edge before which there is none.
+        while n != 0 {
+            let (y, before) = hanging.along(n - 1, x);
+            self.branch(x, y);
+            n = usize::from(before);
+        }
+    }
+
+    // The rows from row `from` on bring along what hangs where they lead.
+    fn absorb(&mut self, hanging: &Hanging, from: usize)
+        ensures { rows_of self.new ≡ absorbed max_vertices (edges_of hanging.now) from (rows_of self.old) }
+    {
+        let mut row = from;
+        // No `for`: the rows that are still to come grow in number as the loop goes.
+        while row < self.count {
+            let x = self.child[row];
+            self.branch_all(hanging, x);
+            row += 1;
+        }
+    }
+
+    // The edge after those that hang: if it leads on it becomes a row, and brings along what hangs on it.
+    fn take_edge(&mut self, hanging: &Hanging)
+        requires { NextFits hanging.now }
+        ensures { rows_of self.new ≡ absorbed max_vertices (edges_of hanging.now) self.old.count (extended (edge (get_or hanging.now.one hanging.now.count 0) (get_or hanging.now.two hanging.now.count 0)) (rows_of self.old)) }
+    {
+        let from = self.count;
+        let (a, b) = hanging.next();
+        self.extend(a, b);
+        self.absorb(hanging, from);
+    }
+}
+
+// The m edges of the columns `one` and `two` as rows in growth order.
+pub fn grow(one: &[u16], two: &[u16], m: usize) -> RowList
+    requires { Below (m + 1) (rows one.now two.now m) × (m ≤ length one.now) × (m ≤ length two.now) × (m + 1 ≤ max_vertices) }
+    ensures { Laid (m + 1) (growth_order (rows one.now two.now m)) result.parent result.child result.seen result.count }
+{
+    let mut list = RowList::new();
+    let mut hanging = Hanging::new(one, two);
+    for _ in 0..m {
+        list.take_edge(&hanging);
+        hanging.hang();
+    }
+    // What is true of every list is known where a field is used.
+    let _ = &list.count;
+    list
 }

@@ -8,15 +8,14 @@ use Prim.Native.Nat.{ℕ, ◌+◌, ◌-◌, ◌^◌, ◌≤◌, ◌<◌}
 use native.Mathlib.Omega.{arith}
 use lib.Dec.{eqb, leb, leb→le, eqb→eq}
 use lib.IntN.{ℤ, pos, ◌+ℤ◌}
+use Rattle.std.specs.Prelude.{Ok}
 use lib.ListN.{length, replicate}
 use Rattle.base.specs.Pick.{pick}
 use Rattle.base.specs.Limits.{max_rows, max_vertices, max_width, max_reading}
 use Rattle.base.proofs.Bools.{T-left, true→T}
-use Rattle.varint.specs.declared.VarintRead.{VarintRead}
 use Rattle.varint.specs.Varint.{AllBytes}
-use Rattle.varint.specs.Reading.{varint_at}
+use Rattle.varint.specs.Reading.{value, varint_at}
 use Rattle.varint.proofs.RoundTrip.{varint_was_written}
-use Rattle.signed.specs.declared.SignedRead.{SignedRead}
 use Rattle.signed.specs.Signed.{unzigzag, signed_of, signed_at, from_offset, offset_of_zigzag}
 use Rattle.signed.proofs.RoundTrip.{zigzag_unzigzag, unzigzag_mag}
 use Rattle.tree.specs.Edges.{Edges, Adjacent}
@@ -40,8 +39,8 @@ pub record Drawn (s : List ℕ) (p : Plan) : Type 0 where
   pub third : ℕ
   pub listed : Edges
   -- kind 1, then the vertex count
-  pub kind : varint_at s 0 ≡ VarintRead.Value 1 second
-  pub count : varint_at s second ≡ VarintRead.Value p.count third
+  pub kind : varint_at s 0 ≡ value 1 second
+  pub count : varint_at s second ≡ value p.count third
   -- then these edges, to the end of the bytes
   pub edges : edges_of_tree p.count s third ≡ found (record { edges = listed; past = length s })
   -- they join two positions where the plan's edges do, and nowhere else
@@ -66,7 +65,7 @@ same_found : {A : Type 0} {x y : A} → found x ≡ found y → x ≡ y
 same_found e = cc
 
 -- a listed tree, from its vertex count on
-tree_drawn : (s : List ℕ) (at : ℕ) (p : Plan) → varint_at s 0 ≡ VarintRead.Value 1 at → tree_from s at ≡ found p → Drawn s p
+tree_drawn : (s : List ℕ) (at : ℕ) (p : Plan) → varint_at s 0 ≡ value 1 at → tree_from s at ≡ found p → Drawn s p
 tree_drawn s at p k e =
     let one = grouped at (varint_at s at) _ p e in
     let v = one.0 in
@@ -74,7 +73,7 @@ tree_drawn s at p k e =
     go v one.1 one.2 (leb→le 1 v (T-left (leb 1 v) (leb v max_vertices) six.0)) (edges_of_tree v s one.1) refl
     (sym (edges_made v (v - 1) s one.1 [] (λ E end. ended s end (tree_plan v (growth_order E)))) ∙ six.1)
   where
-    drawn_by : (v next : ℕ) → varint_at s at ≡ VarintRead.Value v next → 1 ≤ v → (E : Edges) (end : ℕ) → edges_of_tree v s next ≡ found (record { edges = E; past = end })
+    drawn_by : (v next : ℕ) → varint_at s at ≡ value v next → 1 ≤ v → (E : Edges) (end : ℕ) → edges_of_tree v s next ≡ found (record { edges = E; past = end })
         → end ≡ length s → Passing v E → length E ≡ v - 1 → Drawn s (tree_plan v (growth_order E))
     drawn_by v next c a E end i last h m = record {
       second = at;
@@ -86,7 +85,7 @@ tree_drawn s at p k e =
       same = same_adjacent v E a h m;
     }
 
-    go : (v next : ℕ) → varint_at s at ≡ VarintRead.Value v next → 1 ≤ v → (l : Found Listed) → edges_of_tree v s next ≡ l
+    go : (v next : ℕ) → varint_at s at ≡ value v next → 1 ≤ v → (l : Found Listed) → edges_of_tree v s next ≡ l
         → made l (λ E end. ended s end (tree_plan v (growth_order E))) ≡ found p → Drawn s p
     go v next c a (refused number place) i x = let z : ◌≡◌ {A = ℕ} 0 1 = cc in absurd (omega arith)
     go v next c a (found l) i x =
@@ -100,14 +99,14 @@ tree_drawn s at p k e =
 
 -- what a range that is found is made of: the varint of its low reading, where that ends, and its width
 range_read : (s : List ℕ) (at : ℕ) (p : Plan) → range_from s at ≡ found p
-    → (v : ℕ) × (next : ℕ) × (width : ℕ) × (varint_at s at ≡ VarintRead.Value v next) × (varint_at s next ≡ VarintRead.Value width (length s)) × (range_plan (offset_of_zigzag v) width ≡ p)
+    → (v : ℕ) × (next : ℕ) × (width : ℕ) × (varint_at s at ≡ value v next) × (varint_at s next ≡ value width (length s)) × (range_plan (offset_of_zigzag v) width ≡ p)
 range_read s at p e =
     let one = grouped at (varint_at s at) _ p e in
     let two = grouped one.1 (varint_at s one.1) _ p one.3 in
     let low = offset_of_zigzag one.0 in
     let ten = asked (leb two.0 max_width && leb (low + two.0) max_reading) 10 one.1 _ p two.3 in
     let eleven = asked (eqb two.1 (length s)) 11 two.1 (found (range_plan low two.0)) p ten.1 in
-    (one.0, one.1, two.0, one.2, two.2 ∙ ap (VarintRead.Value two.0) (eqb→eq two.1 (length s) eleven.0), same_found eleven.1)
+    (one.0, one.1, two.0, one.2, two.2 ∙ ap (value two.0) (eqb→eq two.1 (length s) eleven.0), same_found eleven.1)
 
 -- a range is not a tree
 range_kind : (s : List ℕ) (at : ℕ) (p : Plan) → range_from s at ≡ found p → p.kind ≡ 2
@@ -125,8 +124,8 @@ tree_kind s at p e =
 
 -- what a plan that is found was read as, by the kind that stands first
 data ReadAs (s : List ℕ) (p : Plan) : Type 0 where
-  tree : (next : ℕ) → varint_at s 0 ≡ VarintRead.Value 1 next → tree_from s next ≡ found p → ReadAs s p
-  range : (next : ℕ) → varint_at s 0 ≡ VarintRead.Value 2 next → range_from s next ≡ found p → ReadAs s p
+  tree : (next : ℕ) → varint_at s 0 ≡ value 1 next → tree_from s next ≡ found p → ReadAs s p
+  range : (next : ℕ) → varint_at s 0 ≡ value 2 next → range_from s next ≡ found p → ReadAs s p
 
 read_as : (s : List ℕ) (p : Plan) → plan_of s ≡ found p → ReadAs s p
 unfolding plan_from
@@ -134,10 +133,10 @@ read_as s p e =
     let one = grouped 0 (varint_at s 0) _ p e in
     go one.0 one.1 one.2 (eqb one.0 1) refl (eqb one.0 2) refl one.3
   where
-    at : (kind next k : ℕ) → varint_at s 0 ≡ VarintRead.Value kind next → eqb kind k ≡ true → varint_at s 0 ≡ VarintRead.Value k next
-    at kind next k i t = i ∙ ap (λ (z : ℕ). VarintRead.Value z next) (eqb→eq kind k (true→T t))
+    at : (kind next k : ℕ) → varint_at s 0 ≡ value kind next → eqb kind k ≡ true → varint_at s 0 ≡ value k next
+    at kind next k i t = i ∙ ap (λ (z : ℕ). value z next) (eqb→eq kind k (true→T t))
 
-    go : (kind next : ℕ) → varint_at s 0 ≡ VarintRead.Value kind next → (a : Bool) → eqb kind 1 ≡ a → (b : Bool) → eqb kind 2 ≡ b
+    go : (kind next : ℕ) → varint_at s 0 ≡ value kind next → (a : Bool) → eqb kind 1 ≡ a → (b : Bool) → eqb kind 2 ≡ b
         → pick a (tree_from s next) (pick b (range_from s next) (refused 5 0)) ≡ found p → ReadAs s p
     go kind next i true t b r e = tree next (at kind next 1 i t) e
     go kind next i false t true r e = range next (at kind next 2 i r) e
@@ -160,9 +159,9 @@ pub record DrawnRange (s : List ℕ) (p : Plan) : Type 0 where
   pub low : ℤ
   pub width : ℕ
   -- kind 2, then the signed low reading, then the width, to the end of the bytes
-  pub kind : varint_at s 0 ≡ VarintRead.Value 2 second
-  pub first : signed_at s second ≡ SignedRead.Value low third
-  pub last : varint_at s third ≡ VarintRead.Value width (length s)
+  pub kind : varint_at s 0 ≡ value 2 second
+  pub first : signed_at s second ≡ Ok (record { value = low; next = third })
+  pub last : varint_at s third ≡ value width (length s)
   -- positions 0 to width; "Position p of a range is reading low + p"
   pub count : p.count ≡ width + 1
   pub readings : (x : ℕ) → reading_of p x ≡ low +ℤ pos x
@@ -171,10 +170,10 @@ pub record DrawnRange (s : List ℕ) (p : Plan) : Type 0 where
 low_number : (v : ℕ) → v < 2 ^ 32 → from_offset (offset_of_zigzag v) ≡ unzigzag v
 low_number v h = ap (λ (u : ℕ). from_offset (offset_of_zigzag u)) (sym (zigzag_unzigzag v)) ∙ low_reading (unzigzag v) (unzigzag_mag v h)
 
-range_drawn : (s : List ℕ) (at : ℕ) (p : Plan) → AllBytes s → varint_at s 0 ≡ VarintRead.Value 2 at → range_from s at ≡ found p → DrawnRange s p
+range_drawn : (s : List ℕ) (at : ℕ) (p : Plan) → AllBytes s → varint_at s 0 ≡ value 2 at → range_from s at ≡ found p → DrawnRange s p
 range_drawn s at p all k e = go (range_read s at p e)
   where
-    go : (v : ℕ) × (next : ℕ) × (width : ℕ) × (varint_at s at ≡ VarintRead.Value v next) × (varint_at s next ≡ VarintRead.Value width (length s)) × (range_plan (offset_of_zigzag v) width ≡ p)
+    go : (v : ℕ) × (next : ℕ) × (width : ℕ) × (varint_at s at ≡ value v next) × (varint_at s next ≡ value width (length s)) × (range_plan (offset_of_zigzag v) width ≡ p)
         → DrawnRange s p
     go (v, next, width, i, j, f) =
         subst (DrawnRange s) f

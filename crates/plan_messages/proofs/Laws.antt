@@ -7,18 +7,21 @@ use native.Mathlib.Omega.{arith}
 use lib.Dec.{T}
 use lib.ListN.{length}
 use Rattle.base.specs.Limits.{sending_levels, level_messages, max_vertices, max_rows, max_width}
-use Rattle.base.specs.declared.Verdict.{Verdict}
-use Rattle.base.specs.Found.{found, refused}
+use Rattle.base.specs.Verdict.{Verdict}
+use Rattle.base.specs.declared.Refusal.{Refusal}
+use Rattle.std.specs.Prelude.{Ok, Err}
 use Rattle.tree.specs.Edges.{Edges}
 use Rattle.tree_rounds.specs.Inner.{Rounds}
 use Rattle.edges.specs.Rows.{rows}
 use Rattle.tree_pass.specs.Inner.{Rows}
 use Rattle.plan.specs.Plan.{Plan}
-use Rattle.plan.specs.Reading.{PlanRead, plan_of, answered}
+use Rattle.plan.specs.Reading.{plan_of, answered}
+use Rattle.plan.specs.Tie.{as_plan, as_plan_read}
+use Rattle.plan.specs.declared.Plan as Code
 use Rattle.plan.specs.Valid.{plan_valid}
 use Rattle.plan_laws.proofs.Shape.{Kinds, tree, range, kinds, shape, edges_tree}
 use Rattle.plan_laws.proofs.Given.{found_good}
-use Rattle.plan_reader.proofs.Answers.{verdict_refused, verdict_accepted}
+use Rattle.plan_reader.proofs.Answers.{read_refused, read_accepted}
 use Rattle.component.proofs.Members.{tree_most, tree_rows}
 use Rattle.component_laws.proofs.Laws.{rows_lent}
 use Rattle.plan_levels.specs.Levels.{levels_of}
@@ -27,8 +30,8 @@ use Rattle.plan_levels.proofs.Chains.{deep_level}
 use Rattle.plan_levels.proofs.Theorem.{deepest, deepest_unique}
 use Rattle.plan_levels.proofs.Rounds.{rounds_deepest}
 use Rattle.plan_levels.proofs.Ranges.{range_levels}
-use Rattle.plan_messages.specs.declared.Bound.{Bound}
-use Rattle.plan_messages.specs.Bound.{bound_by, bound_of}
+use Rattle.plan_messages.specs.Bound.{Bound, bound_by, bound_of}
+use Rattle.plan_messages.specs.Tie.{as_bound}
 
 module _ (p : Plan) (v : T (plan_valid p)) where
   -- a tree's rows are in growth order
@@ -61,16 +64,12 @@ module _ (p : Plan) (v : T (plan_valid p)) where
 
 -- ---- the call's answer
 
--- a plan that passes, whose rows are lent beside its shape
-pub bound_is : (p q : Plan) (k : ℕ) → q ≡ p → k ≡ levels_of q → ◌≡◌ {A = Bound} (record { verdict = Verdict.Accepted; levels = k; messages = level_messages * k }) (bound_by (found p))
-bound_is p q k e i = ap (λ (n : ℕ). record { verdict = Verdict.Accepted; levels = n; messages = level_messages * n }) (i ∙ ap levels_of e)
+module _ (s : List ℕ) {p : Code.Plan} (e : as_plan_read (Ok p) ≡ answered (plan_of s)) where
+  pub read_valid : T (plan_valid (as_plan p))
+  read_valid = (found_good s (as_plan p) (read_accepted (plan_of s) e)).passes
 
-module _ (s : List ℕ) (r : PlanRead) (e : r ≡ answered (plan_of s)) where
-  pub read_valid : r.verdict ≡ Verdict.Accepted → T (plan_valid r.plan)
-  read_valid v = (found_good s r.plan (verdict_accepted (plan_of s) r e v)).passes
+  pub bound_accepted : (k : ℕ) → k ≡ levels_of (as_plan p) → ◌≡◌ {A = Bound} (record { verdict = Verdict.Accepted; levels = k; messages = level_messages * k }) (bound_of s)
+  bound_accepted k i = ap (λ (n : ℕ). record { verdict = Verdict.Accepted; levels = n; messages = level_messages * n }) i ∙ ap bound_by (sym (read_accepted (plan_of s) e))
 
-  pub bound_accepted : r.verdict ≡ Verdict.Accepted → bound_by (found r.plan) ≡ bound_of s
-  bound_accepted v = ap bound_by (sym (verdict_accepted (plan_of s) r e v))
-
-  pub bound_refused : {number place : ℕ} → r.verdict ≡ Verdict.Refused number place → bound_by (refused number place) ≡ bound_of s
-  bound_refused v = ap bound_by (sym (verdict_refused (plan_of s) r e v))
+pub bound_refused : (s : List ℕ) (r : Refusal) → as_plan_read (Err r) ≡ answered (plan_of s) → as_bound (Err r) ≡ bound_of s
+bound_refused s r e = ap bound_by (sym (read_refused (plan_of s) r e))

@@ -1,95 +1,89 @@
-// What a group that was read makes of the plan so far. The edges' columns are lent (crate edges).
+// What each group of a plan says, asked in the order of reading: questions 4 to 10. A refusal's place is that of the group that it speaks of.
 #![tactic(auto)]
 
-ghost use Rattle.std.specs.Prelude.{ℕ, T};
-ghost use Rattle.varint.specs.declared.VarintRead.{VarintRead};
-ghost use Rattle.edges.specs.Inner.{list_in};
-ghost use Rattle.plan_groups.specs.declared.Next.{Next};
-ghost use Rattle.plan_groups.specs.Inner.{wanting, Sound, Taken};
+ghost use Rattle.std.specs.Prelude.{◌≡◌, [], ℕ, suc, ◌+◌, ◌-◌, ◌≤◌, ◌<◌, length, OnOk, IfOk};
+ghost use Rattle.base.specs.Limits.{max_vertices};
+ghost use Rattle.edges.specs.Reading.{varint_then, edges_from};
+ghost use Rattle.plan.specs.Reading.{ended, tree_from, range_from, plan_from};
+ghost use Rattle.plan.specs.Tie.{as_plan};
+ghost use Rattle.plan_groups.specs.Groups.{After, and_then, tree_end};
+ghost use Rattle.plan_groups.specs.Kinds.{plan_by};
 
-use plan_groups::{Next, PlanSoFar};
+use base::{Question, Refusal};
+use edges::EdgeList;
+use plan::Plan;
+use plan_groups::{Kind, PlanReader};
 
-// Question 6: the vertex count v, read at `at`.
-fn take_count(n: edges::EdgeCount, v: u32, at: usize, up: &mut [u16], room: &mut [u16]) -> PlanSoFar
-    requires { Sound Next.Count (list_in n up.old room.old) }
-    ensures { (next : ℕ) → Taken Next.Count (list_in n up.old room.old) (VarintRead.Value v next) at result.next (list_in result.edges up.new room.new) }
+// Question 4: a whole and well formed group.
+fn take_group(reader: &mut PlanReader) -> Result<u32, Refusal>
+    ensures group { (f : After) → varint_then reader.old.bytes.now reader.old.at f ≡ and_then result (λ x. f x reader.new.at) }
+    ensures bytes { reader.new.bytes ≡ reader.old.bytes }
 {
-    if v < 1 {
-        let next = plan_groups::refused(6, at);
-        return PlanSoFar { next, edges: n };
-    }
-    if base::MAX_VERTICES < v as usize {
-        let next = plan_groups::refused(6, at);
-        return PlanSoFar { next, edges: n };
-    }
-    let m = edges::no_edges(v as usize, up, room);
-    let next = plan_groups::after_edges(m);
-    PlanSoFar { next, edges: m }
+    let place = reader.at;
+    reader.next_varint().map_err(|_| Refusal {
+        question: Question::PlanVarint,
+        place,
+    })
 }
 
-// Questions 7 to 9: the second end b of an edge from a, read at `at`.
-fn take_second(
-    n: edges::EdgeCount,
-    a: u32,
-    b: u32,
-    at: usize,
-    up: &mut [u16],
-    room: &mut [u16],
-) -> PlanSoFar
-    requires { Sound (Next.Second a) (list_in n up.old room.old) }
-    ensures { (next : ℕ) → Taken (Next.Second a) (list_in n up.old room.old) (VarintRead.Value b next) at result.next (list_in result.edges up.new room.new) }
+// Question 5: the kind.
+#[tactic(auto, unfolding(plan::specs::Reading::plan_from))]
+pub fn take_kind(reader: &mut PlanReader) -> Result<Kind, Refusal>
+    ensures kind { plan_from reader.old.bytes.now reader.old.at ≡ and_then result (λ kind. plan_by kind reader.old.bytes.now reader.new.at) }
+    ensures bytes { reader.new.bytes ≡ reader.old.bytes }
 {
-    let fault = edges::fault(n, up, room, a as usize, b as usize);
-    if fault != 0 {
-        let next = plan_groups::refused(fault, at);
-        return PlanSoFar { next, edges: n };
-    }
-    let m = edges::add_edge(n, up, room, a as usize, b as usize);
-    let next = plan_groups::after_edges(m);
-    PlanSoFar { next, edges: m }
+    let place = reader.at;
+    let number = take_group(reader)?;
+    Kind::try_from(number).map_err(|question| Refusal { question, place })
 }
 
-// A group that was found at `at`.
-pub fn take(
-    p: PlanSoFar,
-    found: varint::VarintRead,
-    at: usize,
-    up: &mut [u16],
-    room: &mut [u16],
-) -> PlanSoFar
-    requires { Sound p.next (list_in p.edges up.old room.old) }
-    ensures { T (wanting p.next) → Taken p.next (list_in p.edges up.old room.old) found at result.next (list_in result.edges up.new room.new) }
+// Question 6: a tree's vertex count.
+pub fn take_count(reader: &mut PlanReader) -> Result<EdgeList, Refusal>
+    ensures count { tree_from reader.old.bytes.now reader.old.at ≡ and_then result (λ t. edges_from t.vertices (t.vertices - 1) reader.old.bytes.now reader.new.at [] (tree_end t.vertices reader.old.bytes.now)) }
+    ensures none { IfOk result (λ t. (t.edges ≡ []) × (1 ≤ t.vertices)) }
+    ensures bytes { reader.new.bytes ≡ reader.old.bytes }
 {
-    let n = p.edges;
-    let next = p.next;
-    let varint::VarintRead::Value { value: x, next: _ } = found else {
-        let k = plan_groups::refused(4, at);
-        return PlanSoFar { next: k, edges: n };
-    };
-    match next {
-        Next::Kind => {
-            let k = plan_groups::after_kind(x, at);
-            PlanSoFar { next: k, edges: n }
-        }
-        Next::Count => take_count(n, x, at, up, room),
-        Next::First => {
-            let k = Next::Second { first: x };
-            PlanSoFar { next: k, edges: n }
-        }
-        Next::Second { first } => take_second(n, first, x, at, up, room),
-        Next::Low => {
-            let k = Next::Width { low: x };
-            PlanSoFar { next: k, edges: n }
-        }
-        Next::Width { low } => {
-            let k = plan_groups::after_width(low, x, at);
-            PlanSoFar { next: k, edges: n }
-        }
-        Next::Tree => p,
-        Next::Range { low: _, width: _ } => p,
-        Next::Refused {
-            number: _,
-            place: _,
-        } => p,
+    let place = reader.at;
+    let count = take_group(reader)? as usize;
+    if count < 1 || base::MAX_VERTICES < count {
+        return Err(Refusal {
+            question: Question::VertexCount,
+            place,
+        });
     }
+    Ok(EdgeList::new(count))
+}
+
+// Questions 7 to 9: a further edge. Both its ends are read before they are asked.
+#[tactic(auto, unfolding(edges::specs::Reading::edges_from))]
+pub fn take_edge(reader: &mut PlanReader, edges: &mut EdgeList) -> Result<(), Refusal>
+    requires { length edges.old.edges + 1 < edges.old.vertices }
+    ensures edge { (k : ℕ) → edges_from edges.old.vertices (suc k) reader.old.bytes.now reader.old.at edges.old.edges (tree_end edges.old.vertices reader.old.bytes.now)
+        ≡ and_then result (λ _. edges_from edges.old.vertices k reader.old.bytes.now reader.new.at edges.new.edges (tree_end edges.old.vertices reader.old.bytes.now)) }
+    ensures more { OnOk result (length edges.new.edges ≡ length edges.old.edges + 1) }
+    ensures same { (edges.new.vertices ≡ edges.old.vertices) × (reader.new.bytes ≡ reader.old.bytes) }
+{
+    let one = take_group(reader)? as usize;
+    let place = reader.at;
+    let two = take_group(reader)? as usize;
+    if let Err(question) = edges.check(one, two) {
+        return Err(Refusal { question, place });
+    }
+    edges.add(one, two);
+    Ok(())
+}
+
+// Question 10: a range's low reading and its width. Both are read before they are asked.
+pub fn take_range(reader: &mut PlanReader) -> Result<Plan, Refusal>
+    ensures range { range_from reader.old.bytes.now reader.old.at ≡ and_then result (λ p. ended reader.old.bytes.now reader.new.at (as_plan p)) }
+    ensures bytes { reader.new.bytes ≡ reader.old.bytes }
+{
+    let low = take_group(reader)?;
+    let place = reader.at;
+    let width = take_group(reader)?;
+    let reading = plan_groups::low_within(low, width).map_err(|question| Refusal {
+        question,
+        place,
+    })?;
+    Ok(Plan::range(reading, width))
 }

@@ -1,53 +1,56 @@
-// Bytes of both implementations in one array: the first's and, so many places on, the second's.
+// The buffers that calls are lent, of both implementations.
 #![tactic(auto)]
 
-use second_wire::num;
+use random_calls::part;
 
-// An outgoing buffer, with more bytes than a call asks for; the two of both implementations.
+// How many bytes are kept for a journal, and for an outgoing buffer: more than a call asks for.
+pub const JOURNAL: usize = 16384;
+
 pub const OUTGOING: usize = 2700;
 
-pub type Out = [u8; 2 * OUTGOING];
-
-// A byte is written, if it lies within.
-fn poke(bytes: &mut [u8], at: usize, value: usize) {
-    if at < bytes.len() {
-        bytes[at] = (value % 256) as u8;
-    }
+// How many bytes of the journal and of the outgoing buffer are lent to a call.
+#[derive(Clone, Copy, Debug, PartialEq, Eq)]
+pub struct Lent {
+    pub journal: usize,
+    pub out: usize,
 }
 
-// Both get the same byte.
-pub fn poke_both(bytes: &mut [u8], on: usize, at: usize, value: usize) {
-    poke(bytes, at, value);
-    poke(bytes, num::add(at, on), value);
+// The buffers of one implementation.
+#[derive(Clone, Copy)]
+pub struct Buffers {
+    pub journal: [u8; JOURNAL],
+    pub out: [u8; OUTGOING],
 }
 
-// Both outgoing buffers get the same rubbish.
-pub fn fill(out: &mut Out, from: usize) {
-    for i in 0..OUTGOING {
-        poke_both(out, OUTGOING, i, num::add(from % 256, i));
-    }
-}
-
-// Whether both are the same from `from` to before `to`.
-pub fn is_same(bytes: &[u8], on: usize, from: usize, to: usize) -> bool {
-    for i in from..to {
-        if num::byte_at(bytes, i) != num::byte_at(bytes, num::add(i, on)) {
-            return false;
+impl Buffers {
+    // Buffers of some rubbish.
+    pub fn new() -> Buffers {
+        Buffers {
+            journal: [7; JOURNAL],
+            out: [7; OUTGOING],
         }
     }
-    true
-}
 
-// So many bytes are copied within.
-fn move_within(bytes: &mut [u8], from: usize, to: usize, count: usize) {
-    for i in 0..count {
-        let x = num::byte_at(bytes, num::add(from, i));
-        poke(bytes, num::add(to, i), x);
+    // Whether what was lent of the journals, and the whole outgoing buffers, are the same.
+    pub fn is_same(&self, other: &Buffers, lent: Lent) -> bool {
+        part(&self.journal, 0, lent.journal) == part(&other.journal, 0, lent.journal)
+            && self.out == other.out
     }
 }
 
-// The same of both.
-pub fn move_both(bytes: &mut [u8], on: usize, from: usize, to: usize, count: usize) {
-    move_within(bytes, from, to, count);
-    move_within(bytes, num::add(from, on), num::add(to, on), count);
+// Those of the library and those of the second implementation.
+#[derive(Clone, Copy)]
+pub struct Both {
+    pub first: Buffers,
+    pub second: Buffers,
+}
+
+impl Both {
+    // Both hold the same rubbish.
+    pub fn new() -> Both {
+        Both {
+            first: Buffers::new(),
+            second: Buffers::new(),
+        }
+    }
 }

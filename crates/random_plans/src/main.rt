@@ -7,13 +7,12 @@ mod compare;
 mod report;
 mod tally;
 
-use random_calls::first_of;
-use random_plans_draw::state::State;
-use random_plans_draw::{passing, plans, state};
-use second_cycle::cycle::Cycle;
-use second_cycle::{cycle, path};
-use second_wire::num;
+use random_calls::is_same_verdict;
+use random_plans_draw::Drawing;
+use second_cycle::{path, sets};
+use second_plan::table::PlanKind;
 use std::io;
+use tally::Tally;
 
 // How many plans a run has, and the states of the pseudo-random numbers before each run's first.
 const PLANS: usize = 4000;
@@ -24,72 +23,46 @@ const SEED: usize = 88172645463325252;
 
 const OTHER_SEED: usize = 362436069123456789;
 
-// Verdicts and cycles are compared.
-fn compare_plan(bytes: &[u8], c: &Cycle, s: &mut State) {
-    let read = plan_reader::read(bytes);
-    let verdict = read.verdict;
-    let same_verdict = compare::is_same_verdict(verdict, c);
-    state::count_if(s, state::DIFFERENCES, !same_verdict);
-    let same_cycle = compare::is_same(plan_cycle::cycle_of(bytes), c);
-    state::count_if(s, state::DIFFERENCES, !same_cycle);
-}
-
-// Sending levels and messages are compared.
-fn compare_bound(bytes: &[u8], s: &mut State) {
-    let second = second_levels::find(bytes);
-    let same = compare::is_same_bound(plan_messages::bound_of(bytes), second);
-    state::count_if(s, state::DIFFERENCES, !same);
-    tally::count_levels(s, second.number, second.levels);
-}
-
 // A plan is read by both.
-fn try_plan(bytes: &[u8], s: &mut State) {
-    let mut c = cycle::none();
-    path::find(bytes, &mut c);
-    compare_plan(bytes, &c, s);
-    compare::try_sets(bytes, &c, s);
-    tally::count(s, &c);
-    compare_bound(bytes, s);
-}
-
-// A plan is drawn and tried.
-fn run_one(s: &mut State) {
-    let mut room = num::empty_room();
-    plans::draw(s, &mut room);
-    try_plan(first_of(&room, state::get(s, state::LENGTH)), s);
-}
-
-// A plan of a kind that passes is drawn and tried.
-fn run_passing_one(s: &mut State, kind: usize) {
-    let mut room = num::empty_room();
-    passing::draw(s, &mut room, kind);
-    try_plan(first_of(&room, state::get(s, state::LENGTH)), s);
+fn try_plan(bytes: &[u8], tally: &mut Tally) {
+    let found = path::find(bytes);
+    let bound = second_levels::find(bytes);
+    tally.compare(is_same_verdict(&plan_reader::read(bytes), &found.verdict));
+    tally.compare(compare::is_same_cycle(&plan_cycle::cycle_of(bytes), &found.cycle));
+    tally.compare(compare::is_same_bound(&plan_messages::bound_of(bytes), &bound));
+    if let Some(is_only_smallest) = sets::check(bytes, &found.cycle) {
+        tally.count_small(is_only_smallest);
+    }
+    tally.count(&found);
+    tally.count_levels(&bound);
 }
 
 // A run of plans from a seed.
-fn run(rt: &impl Print, seed: usize) -> io::Result<()> {
-    let mut s = state::begin(seed);
-    report::write_seed(rt, &s)?;
+fn run(rt: &(impl Print + AllocGlobal), seed: usize) -> io::Result<()> {
+    let mut drawing = Drawing::new(rt.alloc(), seed);
+    let mut tally = Tally::new();
+    println!(rt; "seed {seed}")?;
     for _ in 0..PLANS {
-        run_one(&mut s);
+        try_plan(drawing.plan()?.as_slice(), &mut tally);
     }
-    report::write(rt, &s)
+    report::write(rt, &tally)
 }
 
 // A run of plans of a kind that pass.
-fn run_passing(rt: &impl Print, kind: usize, words: &[u8]) -> io::Result<()> {
-    let mut s = state::begin(SEED);
-    report::write_seed(rt, &s)?;
+fn run_passing(rt: &(impl Print + AllocGlobal), kind: PlanKind, name: &str) -> io::Result<()> {
+    let mut drawing = Drawing::new(rt.alloc(), SEED);
+    let mut tally = Tally::new();
+    println!(rt; "seed {SEED}")?;
     for _ in 0..PASSING {
-        run_passing_one(&mut s, kind);
+        try_plan(drawing.passing_plan(kind)?.as_slice(), &mut tally);
     }
-    report::write_passing(rt, &s, words)
+    report::write_passing(rt, &tally, name)
 }
 
 // Two runs of any plans, one of trees and one of ranges.
 fn main(rt: HostRuntime) -> io::Result<()> {
     run(&rt, SEED)?;
     run(&rt, OTHER_SEED)?;
-    run_passing(&rt, passing::TREE, b"trees")?;
-    run_passing(&rt, passing::RANGE, b"ranges")
+    run_passing(&rt, PlanKind::Tree, "trees")?;
+    run_passing(&rt, PlanKind::Range, "ranges")
 }

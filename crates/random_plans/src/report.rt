@@ -1,81 +1,43 @@
 // What the run came to, in lines.
-use random_plans_draw::state;
-use random_plans_draw::state::State;
-use random_report::{line, lines, row};
+use crate::tally::Tally;
+use random_report::Row;
 use std::io;
 
-// The seed of a run.
-pub fn write_seed(rt: &impl Print, s: &State) -> io::Result<()> {
-    line(rt, s, b"seed", state::SEED)
-}
-
 // The plans, after a name of them.
-fn write_plans(rt: &impl Print, s: &State, words: &[u8]) -> io::Result<()> {
-    line(rt, s, words, state::PLANS)?;
-    row(
-        rt,
-        s,
-        b"accepted or refused by question:",
-        state::REFUSED,
-        0,
-        12,
-    )?;
-    row(
-        rt,
-        s,
-        b"plans that pass by sending levels:",
-        state::SENDING,
-        0,
-        16,
-    )
+fn write_plans(rt: &impl Print, t: &Tally, name: &str) -> io::Result<()> {
+    let refused = Row::new(&t.refused, 0, 12);
+    let sending = Row::new(&t.sending, 0, 16);
+    println!(rt; "{name} {}", t.plans)?;
+    println!(rt; "accepted or refused by question:{refused}")?;
+    println!(rt; "plans that pass by sending levels:{sending}")
 }
 
-// The cycles by length.
-fn write_lengths(rt: &impl Print, s: &State) -> io::Result<()> {
-    row(
-        rt,
-        s,
-        b"cycles by the binary digits of their length:",
-        state::LENGTHS,
-        2,
-        9,
-    )
+// The cycles, and what must be 0.
+fn write_cycles(rt: &impl Print, t: &Tally) -> io::Result<()> {
+    let lengths = Row::new(&t.lengths, 2, 9);
+    println!(rt; "cycles by the binary digits of their length:{lengths}")?;
+    println!(rt; "cycles of two edges {}", t.double)?;
+    println!(rt; "longest cycle {}", t.longest)?;
+    println!(rt; "cycles without vertex 0 {}", t.without_zero)?;
+    println!(rt; "cycles without the plan's first edge {}", t.without_first)?;
+    println!(rt; "cycles with other edges between theirs {}", t.gaps)?;
+    println!(rt; "small plans of which all sets were tried {}", t.small)
 }
 
-// What else is counted of the cycles, and what must be 0.
-fn write_cycles(rt: &impl Print, s: &State) -> io::Result<()> {
-    let places = [
-        state::DOUBLE,
-        state::LONGEST,
-        state::WITHOUT_ZERO,
-        state::WITHOUT_FIRST,
-        state::GAPS,
-        state::SMALL,
-        state::DIFFERENCES,
-    ];
-    lines(
-        rt,
-        s,
-        b"cycles of two edges\n\
-        longest cycle\n\
-        cycles without vertex 0\n\
-        cycles without the plan's first edge\n\
-        cycles with other edges between theirs\n\
-        small plans of which all sets were tried\n\
-        differences",
-        &places,
-    )
+// What must be 0.
+fn write_differences(rt: &impl Print, t: &Tally) -> io::Result<()> {
+    println!(rt; "differences {}", t.differences)
 }
 
 // The run of plans that pass.
-pub fn write_passing(rt: &impl Print, s: &State, words: &[u8]) -> io::Result<()> {
-    write_plans(rt, s, words)?;
-    line(rt, s, b"differences", state::DIFFERENCES)
+pub fn write_passing(rt: &impl Print, t: &Tally, name: &str) -> io::Result<()> {
+    write_plans(rt, t, name)?;
+    write_differences(rt, t)
 }
 
 // The run.
-pub fn write(rt: &impl Print, s: &State) -> io::Result<()> {
-    write_plans(rt, s, b"plans")?;
-    write_lengths(rt, s)?;
-    write_cycles(rt, s)
+pub fn write(rt: &impl Print, t: &Tally) -> io::Result<()> {
+    write_plans(rt, t, "plans")?;
+    write_cycles(rt, t)?;
+    write_differences(rt, t)
 }

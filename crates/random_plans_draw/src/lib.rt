@@ -2,11 +2,11 @@
 // no tree; and plans that pass.
 #![tactic(auto)]
 
-mod edges;
-mod names;
+mod drawing;
 mod order;
-pub mod passing;
-pub mod plans;
+mod passing;
+mod plans;
 mod shape;
-pub mod state;
 mod write;
+
+pub use drawing::Drawing;

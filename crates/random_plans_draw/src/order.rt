@@ -1,65 +1,60 @@
-// The order and the direction of the edges drawn.
-use crate::state::State;
-use crate::{edges, state};
-use second_wire::num;
+// The names of vertices, and the order and the direction of the edges drawn.
+use crate::drawing::Drawing;
+use second_plan::table::Edge;
+use std::alloc::AllocError;
 
-// All are shuffled.
-fn shuffle(s: &mut State) {
-    let count = edges::count(s);
-    for i in 0..count {
-        let j = state::below(s, i + 1);
-        edges::swap(s, i, j);
+// Names by number, from the first or from the last, or shuffled.
+fn draw_names(d: &mut Drawing) -> Result<(), AllocError> {
+    let is_turned = d.random.once_in(2);
+    d.names.clear();
+    for k in 0..d.vertices {
+        d.names.push(k)?;
+    }
+    if is_turned {
+        d.names.reverse();
+    }
+    if d.random.once_in(2) {
+        d.random.shuffle(&mut d.names);
+    }
+    Ok(())
+}
+
+// The last edge and any other change places.
+fn move_last(d: &mut Drawing) {
+    let count = d.edges.len();
+    let i = d.random.below(count);
+    if 0 < count {
+        d.edges.swap(i, count - 1);
     }
 }
 
-// The last becomes the first, and so on.
-fn reverse(s: &mut State) {
-    let count = edges::count(s);
-    let half = count / 2;
-    for i in 0..half {
-        edges::swap(s, i, num::less(count, num::next(i)));
-    }
-}
-
-// The last and any other change places.
-fn move_last(s: &mut State) {
-    let i = edges::any(s);
-    let last = edges::last(s);
-    edges::swap(s, i, last);
-}
-
-// Edge i is turned, or not.
-fn turn_or_not(s: &mut State, i: usize) {
-    if state::once_in(s, 2) {
-        edges::turn(s, i);
-    }
-}
-
-// Each is turned, or not.
-fn turn_some(s: &mut State) {
-    let count = edges::count(s);
-    for i in 0..count {
-        turn_or_not(s, i);
+// Each edge is turned, or not.
+fn turn_some(d: &mut Drawing) {
+    for edge in d.edges.iter_mut() {
+        if d.random.once_in(2) {
+            *edge = Edge {
+                a: edge.b,
+                b: edge.a,
+            };
+        }
     }
 }
 
 // From the last to the first; shuffled; or with the last somewhere.
-fn arrange(s: &mut State) {
-    let how = state::below(s, 8);
-    match how {
-        0 => reverse(s),
-        1 => shuffle(s),
-        2 => shuffle(s),
-        3 => shuffle(s),
-        _ => move_last(s),
+fn arrange(d: &mut Drawing) {
+    match d.random.below(8) {
+        0 => d.edges.reverse(),
+        1..=3 => d.random.shuffle(&mut d.edges),
+        _ => move_last(d),
     }
 }
 
-// In some order, and each in either direction.
-pub fn draw(s: &mut State) {
-    turn_some(s);
-    if state::once_in(s, 6) {
-        return;
+// Names are drawn, and the edges get some order, each in either direction.
+pub fn draw(d: &mut Drawing) -> Result<(), AllocError> {
+    draw_names(d)?;
+    turn_some(d);
+    if !d.random.once_in(6) {
+        arrange(d);
     }
-    arrange(s);
+    Ok(())
 }

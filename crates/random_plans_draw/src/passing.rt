@@ -1,75 +1,68 @@
 // Plans that pass: trees of all shapes, and ranges.
-use crate::state::State;
-use crate::{plans, shape, state};
-use second_wire::num::Room;
-use second_wire::{group, num};
-
-// The kinds of plans.
-pub const TREE: usize = 1;
-
-pub const RANGE: usize = 2;
+use crate::drawing::Drawing;
+use crate::shape::{Parts, Shape};
+use crate::{plans, shape, write};
+use random_numbers::Random;
+use second_plan::table::PlanKind;
+use second_wire::room::Room;
+use std::alloc::AllocError;
 
 // How many vertices: any number, few more often than many.
-fn vertices(s: &mut State) -> usize {
-    let most = num::next(state::below(s, 255));
-    num::next(state::below(s, most))
+fn vertices(random: &mut Random) -> usize {
+    let most = random.below(255).saturating_add(1);
+    random.below(most).saturating_add(1)
 }
 
-// A shape for plans that pass: a broom instead of a star, since no vertex may have more than fifteen edges. Any tree may, but hardly ever has.
-fn any_shape(s: &mut State) -> usize {
-    let drawn = state::below(s, 6);
-    if drawn == shape::STAR {
-        return shape::BROOM;
+// A shape for plans that pass: a broom instead of a star, since no vertex may have more than fifteen
+// edges. Any tree may, but hardly ever has.
+fn any_shape(random: &mut Random) -> Shape {
+    match Shape::draw(random) {
+        Shape::Star => Shape::Broom,
+        drawn => drawn,
     }
-    drawn
 }
 
-// A tree in the room; its length.
-fn tree(s: &mut State, room: &mut Room) -> usize {
-    let count = vertices(s);
-    plans::begin(s, count);
-    let drawn = any_shape(s);
-    shape::grow(s, drawn, 0);
-    plans::spell(s, room)
+// A tree.
+fn tree(d: &mut Drawing) -> Result<Room, AllocError> {
+    let count = vertices(&mut d.random);
+    d.begin(count);
+    let drawn = any_shape(&mut d.random);
+    shape::grow(d, drawn, Parts::None)?;
+    plans::spell(d)
 }
 
 // The fewest positions of which 15 levels send, 14, and so on to one; then two, of which none does.
 fn border(fewer: usize) -> usize {
-    if fewer < 15 {
-        return 49152 >> fewer;
-    }
-    2
+    if fewer < 15 { 49152 >> fewer } else { 2 }
 }
 
 // The last position: of the widest range, any, or the last before or at a border, or any before it.
-fn last(s: &mut State) -> usize {
-    let any = state::below(s, 65536);
-    let fewer = state::below(s, 16);
-    let next = border(fewer);
-    let before = state::below(s, next);
-    let back = num::next(state::below(s, 2));
-    let how = state::below(s, 8);
-    match how {
+fn last(random: &mut Random) -> usize {
+    let any = random.below(65536);
+    let next = border(random.below(16));
+    let before = random.below(next);
+    let back = random.below(2).saturating_add(1);
+    match random.below(8) {
         0 => 65535,
         1 => any,
         2 => before,
-        _ => num::less(next, back),
+        _ => next.saturating_sub(back),
     }
 }
 
-// A range in the room, its high reading within its limit; its length.
-fn range(s: &mut State, room: &mut Room) -> usize {
-    let at = group::write(room, 0, RANGE);
-    let next = group::write(room, at, state::below(s, 4294836226));
-    group::write(room, next, last(s))
+// A range, its high reading within its limit.
+fn range(random: &mut Random) -> Room {
+    let low = random.below(4294836226);
+    let width = last(random);
+    write::range(low, width)
 }
 
-// A plan of a kind in the room; its length is kept.
-pub fn draw(s: &mut State, room: &mut Room, kind: usize) {
-    let length = if kind == TREE {
-        tree(s, room)
-    } else {
-        range(s, room)
-    };
-    state::set(s, state::LENGTH, length);
+impl Drawing {
+    // A plan of a kind that passes.
+    pub fn passing_plan(&mut self, kind: PlanKind) -> Result<Room, AllocError> {
+        match kind {
+            PlanKind::Tree => tree(self),
+            PlanKind::Range => Ok(range(&mut self.random)),
+        }
+    }
 }

@@ -1,110 +1,138 @@
 // Trees and forests, and further edges, which close cycles.
-use crate::state::State;
-use crate::{edges, state};
-use second_wire::num;
+use crate::drawing::Drawing;
+use random_numbers::Random;
+use second_plan::table::Edge;
+use std::alloc::AllocError;
 
-// The shapes with one vertex of many edges: all of them, or the last fifteen at most.
-pub const STAR: usize = 5;
-
-pub const BROOM: usize = 6;
-
-// The vertex to which the one after the last is joined in a broom: the last or, from there on, that to
-// which the last fourteen are joined.
-fn handle(s: &State, last: usize) -> usize {
-    let end = num::less(state::get(s, state::VERTICES), 15);
-    num::less(last, num::less(last, end))
+// A path; each vertex joined near to the one before; any tree; two at each; fifteen edges at each; a
+// star; a broom, whose last vertex but fifteen has all that follow.
+#[derive(Clone, Copy, Debug, PartialEq, Eq)]
+pub enum Shape {
+    Path,
+    Near,
+    Any,
+    Two,
+    Fifteen,
+    Star,
+    Broom,
 }
 
-// The vertex to which vertex k is joined: a path; near to one; any tree; two at each; fifteen edges
-// at each; a star; a broom.
-fn parent(s: &mut State, shape: usize, k: usize) -> usize {
-    let last = num::less(k, 1);
-    let back = state::below(s, 4);
-    let any = state::below(s, k);
-    match shape {
-        0 => last,
-        1 => num::less(last, back),
-        2 => any,
-        3 => last / 2,
-        4 => last / 14,
-        STAR => 0,
-        _ => handle(s, last),
+impl Shape {
+    // Any shape but a broom.
+    pub fn draw(random: &mut Random) -> Shape {
+        match random.below(6) {
+            0 => Shape::Path,
+            1 => Shape::Near,
+            2 => Shape::Any,
+            3 => Shape::Two,
+            4 => Shape::Fifteen,
+            _ => Shape::Star,
+        }
     }
 }
 
-// Whether vertex k begins a part of its own: never; the last alone; now and then.
-fn is_first(s: &mut State, parts: usize, k: usize) -> bool {
-    let last = num::less(state::get(s, state::VERTICES), 1);
+// Which vertices begin a part of their own: none, which makes a tree; the last alone; or some.
+#[derive(Clone, Copy, Debug, PartialEq, Eq)]
+pub enum Parts {
+    None,
+    Last,
+    Some,
+}
+
+impl Parts {
+    // Any of them.
+    pub fn draw(random: &mut Random) -> Parts {
+        match random.below(3) {
+            0 => Parts::None,
+            1 => Parts::Last,
+            _ => Parts::Some,
+        }
+    }
+}
+
+// The vertex to which the one after the last is joined in a broom: the last or, from there on, that to
+// which the last fourteen are joined.
+fn handle(d: &Drawing, last: usize) -> usize {
+    last.min(d.vertices.saturating_sub(15))
+}
+
+// The vertex to which vertex k is joined.
+fn parent(d: &mut Drawing, shape: Shape, k: usize) -> usize {
+    let last = k.saturating_sub(1);
+    let back = d.random.below(4);
+    let any = d.random.below(k);
+    match shape {
+        Shape::Path => last,
+        Shape::Near => last.saturating_sub(back),
+        Shape::Any => any,
+        Shape::Two => last / 2,
+        Shape::Fifteen => last / 14,
+        Shape::Star => 0,
+        Shape::Broom => handle(d, last),
+    }
+}
+
+// Whether vertex k begins a part of its own.
+fn is_first(d: &mut Drawing, parts: Parts, k: usize) -> bool {
     match parts {
-        0 => false,
-        1 => k == last,
-        _ => state::once_in(s, 8),
+        Parts::None => false,
+        Parts::Last => k == d.vertices.saturating_sub(1),
+        Parts::Some => d.random.once_in(8),
     }
 }
 
 // Joins vertex k, unless it begins a part.
-fn join(s: &mut State, shape: usize, parts: usize, k: usize) {
-    let first = is_first(s, parts, k);
-    let to = parent(s, shape, k);
-    if !first {
-        edges::add(s, to, k);
-    }
+fn join(d: &mut Drawing, shape: Shape, parts: Parts, k: usize) -> Result<(), AllocError> {
+    let is_first = is_first(d, parts, k);
+    let to = parent(d, shape, k);
+    if is_first { Ok(()) } else { d.add(to, k) }
 }
 
 // A tree or a forest.
-pub fn grow(s: &mut State, shape: usize, parts: usize) {
-    let vertices = state::get(s, state::VERTICES);
-    for k in 1..vertices {
-        join(s, shape, parts, k);
+pub fn grow(d: &mut Drawing, shape: Shape, parts: Parts) -> Result<(), AllocError> {
+    for k in 1..d.vertices {
+        join(d, shape, parts, k)?;
     }
+    Ok(())
 }
 
 // An edge that is there is given again, if there is one.
-fn add_again(s: &mut State) {
-    if edges::count(s) == 0 {
-        return;
+fn add_again(d: &mut Drawing) -> Result<(), AllocError> {
+    match d.any_edge() {
+        Some(Edge { a, b }) => d.add(a, b),
+        None => Ok(()),
     }
-    let i = edges::any(s);
-    let a = edges::one(s, i);
-    let b = edges::two(s, i);
-    edges::add(s, a, b);
 }
 
 // An edge of any two vertices, seldom the same.
-fn add_any(s: &mut State, vertices: usize) {
-    let a = state::below(s, vertices);
-    let b = state::below(s, vertices);
-    edges::add(s, a, b);
+fn add_any(d: &mut Drawing) -> Result<(), AllocError> {
+    let one = d.random.below(d.vertices);
+    let two = d.random.below(d.vertices);
+    d.add(one, two)
 }
 
 // An edge between vertices drawn soon after each other.
-fn add_near(s: &mut State, vertices: usize) {
-    let a = state::below(s, vertices);
-    let back = num::next(state::below(s, 12));
-    edges::add(s, a, num::less(a, back));
+fn add_near(d: &mut Drawing) -> Result<(), AllocError> {
+    let one = d.random.below(d.vertices);
+    let back = d.random.below(12).saturating_add(1);
+    d.add(one, one.saturating_sub(back))
 }
 
 // An edge of the first and of one of the last two vertices.
-pub fn add_closing(s: &mut State, vertices: usize) {
-    let back = num::next(state::below(s, 2));
-    edges::add(s, 0, num::less(vertices, back));
-}
-
-// A further edge.
-fn add_one(s: &mut State) {
-    let vertices = state::get(s, state::VERTICES);
-    let how = state::below(s, 5);
-    match how {
-        0 => add_again(s),
-        1 => add_near(s, vertices),
-        2 => add_closing(s, vertices),
-        _ => add_any(s, vertices),
-    }
+pub fn add_closing(d: &mut Drawing) -> Result<(), AllocError> {
+    let back = d.random.below(2).saturating_add(1);
+    d.add(0, d.vertices.saturating_sub(back))
 }
 
 // So many further edges.
-pub fn add_some(s: &mut State, count: usize) {
+pub fn add_some(d: &mut Drawing, count: usize) -> Result<(), AllocError> {
     for _ in 0..count {
-        add_one(s);
+        match d.random.below(5) {
+            0 => add_again(d)?,
+            1 => add_near(d)?,
+            2 => add_closing(d)?,
+            _ => add_any(d)?,
+        }
     }
+    Ok(())
 }

@@ -1,69 +1,74 @@
 // The bytes of plans, whole and spoilt.
-use crate::state::State;
-use crate::{edges, names, state};
-use second_wire::num::Room;
-use second_wire::{group, num};
+use crate::drawing::Drawing;
+use random_numbers::{Random, byte};
+use second_plan::table::PlanKind;
+use second_wire::room::Room;
+use second_wire::{group, room};
 
-// Writes edge i and gives the place after it.
-fn write_edge(s: &State, room: &mut Room, at: usize, i: usize) -> usize {
-    let next = group::write(room, at, names::of(s, edges::one(s, i)));
-    group::write(room, next, names::of(s, edges::two(s, i)))
-}
-
-// Writes the edges and gives the place after them.
-fn write_edges(s: &State, room: &mut Room, from: usize) -> usize {
-    let count = edges::count(s);
-    let mut at = from;
-    for i in 0..count {
-        at = write_edge(s, room, at, i);
+// The tree drawn.
+pub fn tree(d: &Drawing) -> Room {
+    let mut room = Room::new();
+    group::write(&mut room, PlanKind::Tree.number());
+    group::write(&mut room, d.vertices);
+    for edge in &d.edges {
+        group::write(&mut room, d.name(edge.a));
+        group::write(&mut room, d.name(edge.b));
     }
-    at
+    room
 }
 
-// Writes the tree and gives its length.
-pub fn tree(s: &State, room: &mut Room) -> usize {
-    let at = group::write(room, 0, 1);
-    let from = group::write(room, at, state::get(s, state::VERTICES));
-    write_edges(s, room, from)
+// A range of these groups.
+pub fn range(low: usize, width: usize) -> Room {
+    let mut room = Room::new();
+    group::write(&mut room, PlanKind::Range.number());
+    group::write(&mut room, low);
+    group::write(&mut room, width);
+    room
 }
 
-// Writes a range, of any low reading and width, and gives its length.
-pub fn range(s: &mut State, room: &mut Room) -> usize {
-    let at = group::write(room, 0, 2);
-    let next = group::write(room, at, state::below(s, 4294967296));
-    group::write(room, next, state::below(s, 70000))
+// A range of any low reading and width.
+pub fn any_range(random: &mut Random) -> Room {
+    let low = random.below(4294967296);
+    let width = random.below(70000);
+    range(low, width)
 }
 
-// Writes so many bytes below a number.
-fn write_bytes(s: &mut State, room: &mut Room, length: usize, high: usize) {
-    for i in 0..length {
-        num::put(room, i, state::below(s, high));
+// So many bytes below a number.
+fn bytes(random: &mut Random, length: usize, high: usize) -> Room {
+    let mut room = Room::new();
+    for _ in 0..length {
+        room::put(&mut room, byte(random.below(high)));
+    }
+    room
+}
+
+// Any bytes, at times small numbers only.
+pub fn any(random: &mut Random) -> Room {
+    let length = random.below(40);
+    let high = random.below(256).saturating_add(1);
+    bytes(random, length, high)
+}
+
+// A byte becomes another, if it is there.
+fn replace(room: &mut Room, at: usize, value: usize) {
+    if let Some(cell) = room.get_mut(at) {
+        *cell = byte(value);
     }
 }
 
-// Writes any bytes, at times small numbers only, and gives how many.
-pub fn any(s: &mut State, room: &mut Room) -> usize {
-    let length = state::below(s, 40);
-    let high = num::next(state::below(s, 256));
-    write_bytes(s, room, length, high);
-    length
-}
-
-// Writes a tree whose edges have any ends, and gives its length.
-pub fn any_tree(s: &mut State, room: &mut Room) -> usize {
-    let vertices = num::add(2, state::below(s, 120));
-    let length = num::add(vertices, vertices);
-    write_bytes(s, room, length, vertices);
-    num::put(room, 0, 1);
-    num::put(room, 1, vertices);
-    length
+// A tree whose edges have any ends.
+pub fn any_tree(random: &mut Random) -> Room {
+    let vertices = random.below(120).saturating_add(2);
+    let mut room = bytes(random, vertices.saturating_mul(2), vertices);
+    replace(&mut room, 0, PlanKind::Tree.number());
+    replace(&mut room, 1, vertices);
+    room
 }
 
 // The place of a byte to be spoilt: the kind's, the vertex count's, or any.
-fn spoilt_place(s: &mut State, length: usize) -> usize {
-    let any = state::below(s, length);
-    let how = state::below(s, 8);
-    match how {
+fn spoilt_place(random: &mut Random, length: usize) -> usize {
+    let any = random.below(length);
+    match random.below(8) {
         0 => 0,
         1 => 1,
         _ => any,
@@ -71,41 +76,42 @@ fn spoilt_place(s: &mut State, length: usize) -> usize {
 }
 
 // What it becomes: the first byte of a longer group, 0, one more than the last vertex, or any.
-fn spoilt_value(s: &mut State) -> usize {
-    let any = state::below(s, 256);
-    let how = state::below(s, 6);
-    match how {
+fn spoilt_value(d: &mut Drawing) -> usize {
+    let any = d.random.below(256);
+    match d.random.below(6) {
         0 => 128,
         1 => 0,
-        2 => state::get(s, state::VERTICES),
+        2 => d.vertices,
         _ => any,
     }
 }
 
 // Some byte becomes another.
-fn spoil_byte(s: &mut State, room: &mut Room, length: usize) -> usize {
-    let at = spoilt_place(s, length);
-    num::put(room, at, spoilt_value(s));
-    length
+fn spoil_byte(d: &mut Drawing, room: &mut Room) {
+    let at = spoilt_place(&mut d.random, room.len());
+    let value = spoilt_value(d);
+    replace(room, at, value);
 }
 
 // Some two bytes become a needlessly long group of 0.
-fn spoil_group(s: &mut State, room: &mut Room, length: usize) -> usize {
-    let at = state::below(s, num::less(length, 1));
-    num::put(room, at, 128);
-    num::put(room, num::next(at), 0);
-    length
+fn spoil_group(random: &mut Random, room: &mut Room) {
+    let at = random.below(room.len().saturating_sub(1));
+    replace(room, at, 128);
+    replace(room, at.saturating_add(1), 0);
 }
 
-// Spoils the bytes and gives how many there are then.
-pub fn spoil(s: &mut State, room: &mut Room, length: usize) -> usize {
-    let fewer = state::below(s, length);
-    let more = state::below(s, 3);
-    let how = state::below(s, 6);
-    match how {
-        0 => fewer,
-        1 => num::add(length, num::next(more)),
-        2 => spoil_group(s, room, length),
-        _ => spoil_byte(s, room, length),
+// Spoils the bytes: fewer, more, or others.
+pub fn spoil(d: &mut Drawing, room: &mut Room) {
+    let fewer = d.random.below(room.len());
+    let more = d.random.below(3);
+    match d.random.below(6) {
+        0 => room.truncate(fewer),
+        1 => {
+            for _ in 0..=more {
+                room::put(room, 0);
+            }
+        }
+        2 => spoil_group(&mut d.random, room),
+        _ => spoil_byte(d, room),
     }
 }

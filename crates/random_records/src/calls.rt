@@ -1,120 +1,99 @@
-// A call as the state describes it, made on the library and on the second implementation.
+// A call, made on the library and on the second implementation.
+use board::Called;
 use party::Party;
-use random_buffers::OUTGOING;
-use random_calls::{first_of, lent, word};
-use random_records_draw::state;
-use random_records_draw::state::State;
-use second::record::{Done, idle};
+use random_buffers::Buffers;
+use random_calls::{Refused, lent, wide, word};
+use random_records_draw::vote::{Action, Call};
+use second::reading::lowered;
+use second::record::Done;
+use second_plan::question::{Question, Refusal};
 use second_plan::table::Table;
-use second_wire::num::Room;
-use second_wire::{num, wire};
+use second_wire::room::Room;
+use second_wire::wire;
+use second_wire::wire::Message;
 
-// A start's input: the reading of its position.
-fn input(s: &State) -> i64 {
-    let base = state::get(s, state::BASE);
-    second::reading::lowered(num::add(base, state::get(s, state::POSITION)))
+// What a call gave: its verdict, the journal's used length, how many bytes of messages and how many
+// rules. The used length comes with a refusal too, so the verdict stands beside it.
+#[derive(Clone, Copy, Debug, PartialEq, Eq)]
+pub struct Outcome {
+    pub verdict: Result<(), Refused>,
+    pub used: usize,
+    pub sent: usize,
+    pub rules: usize,
 }
 
-// The message to be taken, in the room; its length.
-fn write_message(s: &State, room: &mut Room) -> usize {
-    wire::write_message(
-        room,
-        0,
-        state::get(s, state::CALL_NUMBER),
-        state::get(s, state::LEVEL),
-        state::get(s, state::KIND),
-        state::get(s, state::VALUE),
-    )
-}
-
-// ---- the library
-
-// A start on lent buffers.
-fn first_start(p: Party, s: &State, journal: &mut [u8], out: &mut [u8]) -> board::Called {
-    board::start(p, input(s), journal, state::get(s, state::USED), out)
-}
-
-// A take of the message on lent buffers.
-fn first_take(
-    p: Party,
-    s: &State,
-    message: &[u8],
-    journal: &mut [u8],
-    out: &mut [u8],
-) -> board::Called {
-    let sender = word(state::get(s, state::SENDER));
-    board::take(p, sender, message, journal, state::get(s, state::USED), out)
-}
-
-// A start or a take on lent buffers.
-fn first_on(
-    p: Party,
-    s: &State,
-    message: &[u8],
-    journal: &mut [u8],
-    out: &mut [u8],
-) -> board::Called {
-    if state::get(s, state::CALL) == state::START {
-        return first_start(p, s, journal, out);
+impl Outcome {
+    // Of a call on the library.
+    pub fn of_first(called: &Called) -> Outcome {
+        Outcome {
+            verdict: called.verdict.map_err(Refused::from),
+            used: called.used,
+            sent: called.sent,
+            rules: wide(called.rules),
+        }
     }
-    first_take(p, s, message, journal, out)
-}
 
-// The call on what is lent of its journal and of its outgoing buffer.
-pub fn make_first(p: Party, s: &State, journals: &mut [u8], out: &mut [u8]) -> board::Called {
-    let mut room = num::empty_room();
-    let length = write_message(s, &mut room);
-    let journal = lent(journals, 0, state::get(s, state::ROOM));
-    let outgoing = lent(out, 0, state::get(s, state::OUT_ROOM));
-    first_on(p, s, first_of(&room, length), journal, outgoing)
-}
-
-// ---- the second implementation
-
-// A start on lent buffers.
-fn second_start(t: &mut Table, s: &State, journal: &mut [u8], out: &mut [u8]) -> Done {
-    second::start(t, input(s), journal, state::get(s, state::USED), out)
-}
-
-// A take of the message on lent buffers.
-fn second_take(
-    t: &mut Table,
-    s: &State,
-    message: &[u8],
-    journal: &mut [u8],
-    out: &mut [u8],
-) -> Done {
-    let sender = word(state::get(s, state::SENDER));
-    second::take(t, sender, message, journal, state::get(s, state::USED), out)
-}
-
-// A start or a take on lent buffers.
-fn second_on(t: &mut Table, s: &State, message: &[u8], journal: &mut [u8], out: &mut [u8]) -> Done {
-    if state::get(s, state::CALL) == state::START {
-        return second_start(t, s, journal, out);
+    // Of a call on the second implementation; refused it leaves the journal's used length as it was.
+    pub fn of_second(done: Result<Done, Refusal>, used: usize) -> Outcome {
+        match done {
+            Ok(done) => Outcome {
+                verdict: Ok(()),
+                used: done.used,
+                sent: done.sent,
+                rules: done.rules,
+            },
+            Err(refusal) => Outcome {
+                verdict: Err(Refused::from(refusal)),
+                used,
+                sent: 0,
+                rules: 0,
+            },
+        }
     }
-    second_take(t, s, message, journal, out)
 }
 
-// The call on what is lent, which stands after the library's.
-fn lend_second(t: &mut Table, s: &State, journals: &mut [u8], out: &mut [u8]) -> Done {
-    let mut room = num::empty_room();
-    let length = write_message(s, &mut room);
-    let journal = lent(journals, state::JOURNAL, state::get(s, state::ROOM));
-    let outgoing = lent(out, OUTGOING, state::get(s, state::OUT_ROOM));
-    second_on(t, s, first_of(&room, length), journal, outgoing)
+// The bytes of a message.
+fn bytes_of(message: &Message) -> Room {
+    let mut room = Room::new();
+    wire::write_message(&mut room, message);
+    room
 }
 
-// The call, unless question 19 of the record gave a number: then the table stays.
+// The call on the library, on what is lent of its buffers.
+// `make` is no instance of one function: here the party goes by value and comes back, there the table is
+// lent.
+pub fn make_first(p: Party, call: &Call, buffers: &mut Buffers) -> Called {
+    let journal = lent(&mut buffers.journal, 0, call.lent.journal);
+    let out = lent(&mut buffers.out, 0, call.lent.out);
+    match call.action {
+        Action::Start { reading } => board::start(p, lowered(reading), journal, call.used, out),
+        Action::Take { sender, message } => {
+            let bytes = bytes_of(&message);
+            board::take(p, word(sender), bytes.as_slice(), journal, call.used, out)
+        }
+    }
+}
+
+// The call on the second implementation, on what is lent of its buffers.
+fn make(t: &mut Table, call: &Call, buffers: &mut Buffers) -> Result<Done, Refusal> {
+    let journal = lent(&mut buffers.journal, 0, call.lent.journal);
+    let out = lent(&mut buffers.out, 0, call.lent.out);
+    match call.action {
+        Action::Start { reading } => second::start(t, lowered(reading), journal, call.used, out),
+        Action::Take { sender, message } => {
+            let bytes = bytes_of(&message);
+            second::take(t, word(sender), bytes.as_slice(), journal, call.used, out)
+        }
+    }
+}
+
+// The same, unless question 19 of the record is answered no: then the table stays.
 pub fn make_second(
     t: &mut Table,
-    asked: u32,
-    s: &State,
-    journals: &mut [u8],
-    out: &mut [u8],
-) -> Done {
-    if asked != 0 {
-        return idle(asked, 0, state::get(s, state::USED));
-    }
-    lend_second(t, s, journals, out)
+    asked: Result<(), Question>,
+    call: &Call,
+    buffers: &mut Buffers,
+) -> Result<Done, Refusal> {
+    asked?;
+    make(t, call, buffers)
 }

@@ -3,24 +3,25 @@
 // implementation.
 #![tactic(auto)]
 
-mod both;
 mod calls;
-mod compare;
 mod refused;
 mod report;
+mod tally;
+mod trial;
 mod walk;
 
-use both::Journals;
 use party::Party;
-use random_buffers::Out;
-use random_calls::{first_of, word};
-use random_records_draw::state::State;
-use random_records_draw::{lead, plans, state};
-use second_plan::table;
+use random_buffers::Both;
+use random_calls::{part, word};
+use random_records_draw::vote::Vote;
+use random_records_draw::{lead, plans};
+use random_report::count;
+use second::Settings;
 use second_plan::table::Table;
-use second_wire::num;
-use second_wire::num::Room;
+use std::alloc::AllocError;
 use std::io;
+use tally::Tally;
+use trial::Run;
 
 // How many votes a run has, and the states of the pseudo-random numbers before each run's first.
 const VOTES: usize = 400;
@@ -29,89 +30,92 @@ const SEED: usize = 88172645463325252;
 
 const OTHER_SEED: usize = 362436069123456789;
 
-// A party before its start.
-fn set_up(t: &mut Table, s: &State, plan: &[u8]) -> Party {
-    let n = word(state::get(s, state::BOARDS));
-    let f = word(state::get(s, state::FAULTS));
-    let number = word(state::get(s, state::NUMBER));
-    let a = board::set_up(n, f, 0, number, plan);
-    second::set_up(t, n, f, 0, number, plan);
-    a.party
-}
-
-// The messages made are kept.
-fn keep(s: &mut State, out: &Out) {
-    let sent = state::get(s, state::FIRST + 3);
-    lead::keep_sent(s, out, sent);
-}
-
-// The next call of the vote.
-fn step(
-    p: Party,
-    t: &mut Table,
-    i: usize,
-    s: &mut State,
-    journals: &mut Journals,
-    out: &mut Out,
-) -> Party {
-    lead::draw_call(s, t, i);
-    let next = both::call(p, t, 0, s, journals, out);
-    keep(s, out);
-    next
-}
-
-// Now and then the record is compared as a whole, changed and tried.
-fn look(p: Party, t: &Table, s: &mut State, journals: &mut Journals, out: &mut Out) {
-    if state::once_in(s, 4) {
-        walk::check(s, p, t);
-        walk::trial(p, t, s, journals, out);
-        walk::trial(p, t, s, journals, out);
+impl Run {
+    // The vote's settings, of board 0.
+    pub fn settings(&self) -> Settings {
+        Settings {
+            boards: word(self.vote.boards),
+            faults: word(self.vote.faults),
+            own: 0,
+            number: word(self.vote.number),
+        }
     }
-}
 
-// One vote, on a table of its own.
-fn vote(plan: &[u8], s: &mut State, journals: &mut Journals, out: &mut Out) {
-    let mut t = table::empty();
-    let mut p = set_up(&mut t, s, plan);
-    let steps = state::get(s, state::STEPS);
-    for i in 0..steps {
-        p = step(p, &mut t, i, s, journals, out);
-        look(p, &t, s, journals, out);
+    // The next call of the vote; the messages made are kept.
+    fn step(
+        &mut self,
+        p: Party,
+        t: &mut Table,
+        i: usize,
+        both: &mut Both,
+    ) -> Result<Party, AllocError> {
+        let call = lead::draw_call(&mut self.vote, t, i);
+        let (next, outcome) = self.call(p, t, Ok(()), &call, both);
+        lead::keep_sent(&mut self.vote, part(&both.first.out, 0, outcome.sent))?;
+        Ok(next)
     }
-    state::grow(s, state::VOTES, 1);
-}
 
-// A set-up and a restore that may be refused, of the first bytes of the room.
-fn run_refused(room: &Room, s: &mut State, journals: &mut Journals, out: &mut Out) {
-    let plan = first_of(room, state::get(s, state::BAD_LENGTH));
-    refused::set_up(plan, s, journals, out);
-    refused::restore(plan, s, journals, out);
-}
+    // Now and then the record is compared as a whole, changed and tried.
+    fn look(&mut self, p: &Party, t: &Table, both: &mut Both) {
+        if self.vote.random.once_in(4) {
+            self.check(p, t);
+            self.trial(p, t, both);
+            self.trial(p, t, both);
+        }
+    }
 
-// A vote is drawn and run.
-fn run_one(s: &mut State, journals: &mut Journals, out: &mut Out) {
-    let mut room = num::empty_room();
-    lead::draw_settings(s);
-    let length = plans::draw(s, &mut room);
-    refused::spoil(s, length);
-    run_refused(&room, s, journals, out);
-    vote(first_of(&room, length), s, journals, out);
+    // One vote from a party before its start, on a table of its own.
+    fn lead(&mut self, p: Party, t: &mut Table, both: &mut Both) -> Result<(), AllocError> {
+        let mut p = p;
+        for i in 0..self.vote.steps {
+            p = self.step(p, t, i, both)?;
+            self.look(&p, t, both);
+        }
+        count(&mut self.tally.votes);
+        Ok(())
+    }
+
+    // One vote; that both accept its settings and its plan is compared.
+    fn vote(&mut self, plan: &[u8], both: &mut Both) -> Result<(), AllocError> {
+        let s = self.settings();
+        let mut t = Table::new();
+        let second = second::set_up(&mut t, &s, plan);
+        match board::set_up(s.boards, s.faults, s.own, s.number, plan) {
+            Ok(p) if second.is_ok() => self.lead(p, &mut t, both),
+            _ => {
+                self.tally.compare(false);
+                Ok(())
+            }
+        }
+    }
+
+    // A vote is drawn and run, after a set-up and a restore that may be refused.
+    fn run_one(&mut self, both: &mut Both) -> Result<(), AllocError> {
+        lead::draw_settings(&mut self.vote);
+        let plan = plans::draw(&mut self.vote);
+        let spoilt = self.spoilt(plan.as_slice());
+        self.set_up(&spoilt, both);
+        self.restore(&spoilt, both);
+        self.vote(plan.as_slice(), both)
+    }
 }
 
 // A run of votes from a seed.
-fn run(rt: &impl Print, seed: usize, journals: &mut Journals, out: &mut Out) -> io::Result<()> {
-    let mut s = state::begin(seed);
-    report::write_seed(rt, &s)?;
+fn run(rt: &(impl Print + AllocGlobal), seed: usize, both: &mut Both) -> io::Result<()> {
+    let mut run = Run {
+        vote: Vote::new(rt.alloc(), seed),
+        tally: Tally::new(),
+    };
+    println!(rt; "seed {seed}")?;
     for _ in 0..VOTES {
-        run_one(&mut s, journals, out);
+        run.run_one(both)?;
     }
-    report::write(rt, &s)
+    report::write(rt, &run.tally)
 }
 
 // Two runs.
 fn main(rt: HostRuntime) -> io::Result<()> {
-    let mut journals = [7u8; 2 * state::JOURNAL];
-    let mut out = [7u8; 2 * random_buffers::OUTGOING];
-    run(&rt, SEED, &mut journals, &mut out)?;
-    run(&rt, OTHER_SEED, &mut journals, &mut out)
+    let mut both = Both::new();
+    run(&rt, SEED, &mut both)?;
+    run(&rt, OTHER_SEED, &mut both)
 }

@@ -1,118 +1,54 @@
 // What the run came to, in lines.
-use random_records_draw::state::State;
-use random_records_draw::{change, state};
-use random_report::{end, line, lines, number, row, text, text_line};
-use second_wire::num;
+// The functions that write rows are alike in form alone: each has its own texts and counts.
+use crate::tally::{Asked, Tally};
+use random_records_draw::change::Change;
+use random_report::Row;
 use std::io;
 
-// The names of the kinds of changes, from 0 on.
-fn write_kind(rt: &impl Print, kind: usize) -> io::Result<()> {
-    text_line(
-        rt,
-        b"several:\n\
-        n:\n\
-        t:\n\
-        own number:\n\
-        agreement number:\n\
-        plan kind:\n\
-        positions:\n\
-        low reading:\n\
-        plan row:\n\
-        unused plan row:\n\
-        set of senders:\n\
-        many sets of senders:\n\
-        output:\n\
-        entered:\n\
-        side:\n\
-        position:\n\
-        first result:\n\
-        second result:\n\
-        flags and proposals:\n\
-        level entered:",
-        kind,
-    )
+// How many records with a change passed question 19, and how many failed.
+fn write_change(rt: &impl Print, name: &str, asked: &Asked) -> io::Result<()> {
+    println!(rt; "{name}: passed {}, failed {}", asked.passed, asked.failed)
 }
 
-// How many records with a change of this kind passed question 19, and how many failed.
-fn write_changes(rt: &impl Print, s: &State, kind: usize) -> io::Result<()> {
-    write_kind(rt, kind)?;
-    text(rt, b" passed")?;
-    number(rt, state::get(s, num::add(state::PASSED, kind)))?;
-    text(rt, b", failed")?;
-    number(rt, state::get(s, num::add(state::FAILED, kind)))?;
-    end(rt)
-}
-
-// All kinds of changes.
-fn write_all_changes(rt: &impl Print, s: &State) -> io::Result<()> {
-    for kind in 0..change::KINDS + 1 {
-        write_changes(rt, s, kind)?;
+// The same of records with several changes, and with each alone.
+fn write_changes(rt: &impl Print, t: &Tally) -> io::Result<()> {
+    write_change(rt, "several", &t.changes[0])?;
+    for ((_, name), asked) in Change::ALL.iter().zip(t.changes.iter().skip(1)) {
+        write_change(rt, name, asked)?;
     }
     Ok(())
 }
 
-// The seed of a run.
-pub fn write_seed(rt: &impl Print, s: &State) -> io::Result<()> {
-    line(rt, s, b"seed", state::SEED)
-}
-
 // How many records there were.
-fn write_records(rt: &impl Print, s: &State) -> io::Result<()> {
-    let places = [
-        state::VOTES,
-        state::SET_UPS,
-        state::RESTORES,
-        state::RECORDS,
-    ];
-    lines(
-        rt,
-        s,
-        b"votes\n\
-        records of refused set-ups\n\
-        records of refused restores\n\
-        records changed",
-        &places,
-    )
+fn write_records(rt: &impl Print, t: &Tally) -> io::Result<()> {
+    println!(rt; "votes {}", t.votes)?;
+    println!(rt; "records of refused set-ups {}", t.set_ups)?;
+    println!(rt; "records of refused restores {}", t.restores)?;
+    println!(rt; "records changed {}", t.records)
 }
 
 // What was called.
-fn write_calls(rt: &impl Print, s: &State) -> io::Result<()> {
-    let places = [state::CALLS, state::CHANGED_CALLS];
-    row(rt, s, b"by levels entered:", state::DEPTHS, 0, 17)?;
-    lines(
-        rt,
-        s,
-        b"calls compared\nof these on changed records",
-        &places,
-    )?;
-    row(
-        rt,
-        s,
-        b"accepted or refused by question:",
-        state::REFUSED,
-        0,
-        25,
-    )
+fn write_calls(rt: &impl Print, t: &Tally) -> io::Result<()> {
+    let depths = Row::new(&t.depths, 0, 17);
+    let refused = Row::new(&t.refused, 0, 25);
+    println!(rt; "by levels entered:{depths}")?;
+    println!(rt; "calls compared {}", t.calls)?;
+    println!(rt; "of these on changed records {}", t.changed_calls)?;
+    println!(rt; "accepted or refused by question:{refused}")
 }
 
 // What came of it.
-fn write_ends(rt: &impl Print, s: &State) -> io::Result<()> {
-    let places = [state::RULES, state::MOST, state::TABLES, state::DIFFERENCES];
-    lines(
-        rt,
-        s,
-        b"rules applied on changed records\n\
-        most rules in a call on one\n\
-        records compared as a whole\n\
-        differences",
-        &places,
-    )
+fn write_ends(rt: &impl Print, t: &Tally) -> io::Result<()> {
+    println!(rt; "rules applied on changed records {}", t.rules)?;
+    println!(rt; "most rules in a call on one {}", t.most)?;
+    println!(rt; "records compared as a whole {}", t.tables)?;
+    println!(rt; "differences {}", t.differences)
 }
 
 // The run.
-pub fn write(rt: &impl Print, s: &State) -> io::Result<()> {
-    write_records(rt, s)?;
-    write_all_changes(rt, s)?;
-    write_calls(rt, s)?;
-    write_ends(rt, s)
+pub fn write(rt: &impl Print, t: &Tally) -> io::Result<()> {
+    write_records(rt, t)?;
+    write_changes(rt, t)?;
+    write_calls(rt, t)?;
+    write_ends(rt, t)
 }

@@ -1,199 +1,180 @@
 // A board is led through a vote: which call comes next, and what the board made.
-use crate::state;
-use crate::state::State;
+use crate::vote::{Action, Call, Vote};
+use random_buffers::{JOURNAL, Lent};
+use random_numbers::Random;
 use second_plan::table;
 use second_plan::table::Table;
-use second_wire::{num, wire};
+use second_wire::reader::Reader;
+use second_wire::room::OUTGOING;
+use second_wire::wire;
+use second_wire::wire::{Kind, Message};
+use std::alloc::AllocError;
+
+// The most messages of the board that are kept.
+const MADE: usize = 500;
 
 // How many boards: four, few, or any number.
-fn boards(s: &mut State) -> usize {
-    let any = num::next(state::below(s, 16));
-    let how = state::below(s, 4);
-    match how {
+fn boards(random: &mut Random) -> usize {
+    let any = random.below(16).saturating_add(1);
+    match random.below(4) {
         0 => 4,
-        1 => num::next(any % 3),
+        1 => (any % 3).saturating_add(1),
         _ => any,
     }
 }
 
 // So many boards, any number of faults, and a vote of so many steps.
-fn draw_vote(s: &mut State, n: usize, deep: usize, steps: usize) {
-    let t = state::below(s, num::next(num::less(n, 1) / 3));
-    let number = state::below(s, 300);
-    let start = state::below(s, 8);
-    state::set(s, state::BOARDS, n);
-    state::set(s, state::FAULTS, t);
-    state::set(s, state::NUMBER, number);
-    state::set(s, state::DEEP, deep);
-    state::set(s, state::STEPS, steps);
-    state::set(s, state::START_AT, start);
-    state::set(s, state::MADE, 0);
-    state::set(s, state::GIVEN, 0);
-    state::set(s, state::USED, 0);
+fn draw_vote(vote: &mut Vote, boards: usize, is_deep: bool, steps: usize) {
+    let faults = (boards.saturating_sub(1) / 3).saturating_add(1);
+    vote.boards = boards;
+    vote.is_deep = is_deep;
+    vote.steps = steps;
+    vote.faults = vote.random.below(faults);
+    vote.number = vote.random.below(300);
+    vote.start_at = vote.random.below(8);
+    vote.made.clear();
+    vote.given = 0;
+    vote.used = 0;
 }
 
 // A vote, now and then a deep one.
-pub fn draw_settings(s: &mut State) {
-    if state::once_in(s, 6) {
-        let few = num::next(state::below(s, 2));
-        let long = num::add(100, state::below(s, 100));
-        draw_vote(s, few, 1, long);
-        return;
+pub fn draw_settings(vote: &mut Vote) {
+    if vote.random.once_in(6) {
+        let few = vote.random.below(2).saturating_add(1);
+        let long = vote.random.below(100).saturating_add(100);
+        draw_vote(vote, few, true, long);
+    } else {
+        let boards = boards(&mut vote.random);
+        let steps = vote.random.below(60);
+        draw_vote(vote, boards, false, steps);
     }
-    let n = boards(s);
-    let steps = state::below(s, 60);
-    draw_vote(s, n, 0, steps);
 }
 
 // How many levels are entered.
 pub fn depth(t: &Table) -> usize {
-    let mut count = 0;
-    for level in 0..16 {
-        count = num::add(count, table::at(t, level, table::ENTERED));
-    }
-    count
+    (0..16)
+        .filter(|level| t.is_set(*level, table::ENTERED))
+        .count()
 }
 
 // A value: one of the level's, none, or any.
-fn any_value(s: &mut State, d: usize) -> usize {
-    let how = state::below(s, 8);
-    match how {
-        0 => state::below(s, 18),
-        1 => wire::NONE,
-        2 => wire::NONE,
-        _ => state::below(s, num::next(d)),
+fn any_value(random: &mut Random, d: usize) -> usize {
+    match random.below(8) {
+        0 => random.below(18),
+        1 | 2 => wire::NONE,
+        _ => random.below(d.saturating_add(1)),
     }
 }
 
 // A start at a position of the plan, or just beyond.
-fn draw_start(s: &mut State) {
-    let last = state::get(s, state::LAST);
-    let position = state::below(s, num::add(last, 2));
-    state::set(s, state::CALL, state::START);
-    state::set(s, state::POSITION, position);
-}
-
-// Any message at an entered level or beyond, from any board or from none.
-fn draw_message(s: &mut State, t: &Table) {
-    let levels = state::get(s, state::DEPTH);
-    let level = state::below(s, num::next(levels));
-    let kind = num::next(state::below(s, 6));
-    let value = any_value(s, table::at(t, level, table::DEGREE));
-    keep_message(s, level, kind, value);
-    let n = state::get(s, state::BOARDS);
-    let sender = state::below(s, n);
-    state::set(s, state::SENDER, sender);
-    if state::once_in(s, 32) {
-        state::set(s, state::SENDER, n);
+fn draw_start(vote: &mut Vote) -> Action {
+    let position = vote.random.below(vote.last.saturating_add(2));
+    Action::Start {
+        reading: vote.base.saturating_add(position),
     }
 }
 
-// The message to be taken.
-fn keep_message(s: &mut State, level: usize, kind: usize, value: usize) {
-    state::set(s, state::CALL, state::TAKE);
-    state::set(s, state::LEVEL, level);
-    state::set(s, state::KIND, kind);
-    state::set(s, state::VALUE, value);
+// Any message of an agreement number at an entered level or beyond, from any board or from none.
+fn draw_message(vote: &mut Vote, t: &Table, number: usize) -> Action {
+    let level = vote.random.below(vote.depth.saturating_add(1));
+    let kind = Kind::ALL[vote.random.below(wire::KINDS)];
+    let value = any_value(&mut vote.random, t.at(level, table::DEGREE));
+    let any = vote.random.below(vote.boards);
+    let is_none = vote.random.once_in(32);
+    let sender = if is_none { vote.boards } else { any };
+    Action::Take {
+        sender,
+        message: Message {
+            number,
+            level,
+            kind,
+            value,
+        },
+    }
 }
 
-// A message that the board made comes back, from each board in turn.
-fn draw_made(s: &mut State, t: &Table) {
-    let n = state::get(s, state::BOARDS);
-    let given = state::get(s, state::GIVEN);
-    if n == 0 {
-        return;
+// A message that the board made comes back, from each board in turn; where none is left, any message.
+fn draw_made(vote: &mut Vote, t: &Table) -> Action {
+    let round = vote.given.checked_div(vote.boards).unwrap_or(0);
+    let sender = vote.given.checked_rem(vote.boards).unwrap_or(0);
+    match vote.made.get(round).copied() {
+        Some(message) => {
+            vote.given = vote.given.saturating_add(1);
+            Action::Take { sender, message }
+        }
+        None => draw_message(vote, t, vote.number),
     }
-    if state::get(s, state::MADE) <= given / n {
-        draw_message(s, t);
-        return;
-    }
-    let m = state::get(s, num::add(state::MESSAGES, given / n));
-    keep_message(s, m / 1024, m / 32 % 32, m % 32);
-    state::set(s, state::SENDER, given % n);
-    state::set(s, state::GIVEN, num::next(given));
 }
 
 // What is lent: mostly enough, now and then a byte too few.
-fn lend(s: &mut State) {
-    let used = state::get(s, state::USED);
-    let how = state::below(s, 64);
-    let room = match how {
-        0 => num::less(used, 1),
-        1 => num::add(used, 3),
-        _ => num::add(used, 32),
+fn lend(vote: &mut Vote) -> Lent {
+    let how = vote.random.below(64);
+    let journal = match how {
+        0 => vote.used.saturating_sub(1),
+        1 => vote.used.saturating_add(3),
+        _ => vote.used.saturating_add(32),
     };
-    state::set(
-        s,
-        state::ROOM,
-        num::less(room, num::less(room, state::JOURNAL)),
-    );
     let out = match how {
-        2 => 2639,
-        3 => 2700,
-        _ => 2640,
+        2 => OUTGOING - 1,
+        3 => OUTGOING + 60,
+        _ => OUTGOING,
     };
-    state::set(s, state::OUT_ROOM, out);
+    Lent {
+        journal: journal.min(JOURNAL),
+        out,
+    }
 }
 
-// Once in so many steps any message is taken.
-fn noise(s: &State) -> usize {
-    if state::get(s, state::DEEP) == 1 {
-        return 200;
+// What the board is called for at a step.
+fn draw_action(vote: &mut Vote, t: &Table, step: usize) -> Action {
+    if vote.depth == 0 && vote.start_at <= step {
+        return draw_start(vote);
     }
-    6
+    let noise = if vote.is_deep { 200 } else { 6 };
+    if vote.random.once_in(noise) {
+        draw_message(vote, t, vote.number)
+    } else {
+        draw_made(vote, t)
+    }
 }
 
 // The next call of the vote.
-pub fn draw_call(s: &mut State, t: &Table, step: usize) {
-    let number = state::get(s, state::NUMBER);
-    state::set(s, state::CALL_NUMBER, number);
-    let levels = depth(t);
-    state::set(s, state::DEPTH, levels);
-    lend(s);
-    if levels == 0 {
-        if state::get(s, state::START_AT) <= step {
-            draw_start(s);
-            return;
-        }
+pub fn draw_call(vote: &mut Vote, t: &Table, step: usize) -> Call {
+    vote.depth = depth(t);
+    let lent = lend(vote);
+    let action = draw_action(vote, t, step);
+    Call {
+        action,
+        used: vote.used,
+        lent,
     }
-    if state::once_in(s, noise(s)) {
-        draw_message(s, t);
-        return;
-    }
-    draw_made(s, t);
 }
 
 // A call on a changed record, which has its own agreement number.
-pub fn draw_other(s: &mut State, t: &Table, number: usize) {
-    state::set(s, state::CALL_NUMBER, number);
-    lend(s);
-    if state::once_in(s, 6) {
-        draw_start(s);
-        return;
+pub fn draw_other(vote: &mut Vote, t: &Table, number: usize) -> Call {
+    let lent = lend(vote);
+    let action = if vote.random.once_in(6) {
+        draw_start(vote)
+    } else {
+        draw_message(vote, t, number)
+    };
+    Call {
+        action,
+        used: vote.used,
+        lent,
     }
-    draw_message(s, t);
 }
 
-// A message that the board made is kept; the place after it.
-fn keep_made(s: &mut State, out: &[u8], at: usize) -> usize {
-    let m = wire::read_message(out, at, 0);
-    let made = state::get(s, state::MADE);
-    if made < 500 {
-        let body = num::add(m.kind % 32 * 32, m.value % 32);
-        let whole = num::add(m.level % 32 * 1024, body);
-        state::set(s, num::add(state::MESSAGES, made), whole);
-        state::set(s, state::MADE, made + 1);
-    }
-    m.next
-}
-
-// The messages of a call are kept.
-pub fn keep_sent(s: &mut State, out: &[u8], sent: usize) {
-    let mut at = 0;
-    for _ in 0usize..400 {
-        if sent <= at {
+// The messages of a call are kept, as many as there is place for.
+pub fn keep_sent(vote: &mut Vote, sent: &[u8]) -> Result<(), AllocError> {
+    let mut reader = Reader::new(sent, 0);
+    for _ in sent {
+        if reader.is_at_end() || MADE <= vote.made.len() {
             break;
         }
-        at = keep_made(s, out, at);
+        if let Ok(message) = wire::read_message(&mut reader) {
+            vote.made.push(message)?;
+        }
     }
+    Ok(())
 }

@@ -3,5 +3,7 @@
 
 pub mod change;
 pub mod lead;
+mod levels;
 pub mod plans;
-pub mod state;
+mod rows;
+pub mod vote;

@@ -1,117 +1,123 @@
 // Random plans, as bytes.
-use crate::state;
-use crate::state::State;
-use second_wire::num::Room;
-use second_wire::{group, num};
+use crate::vote::Vote;
+use random_numbers::Random;
+use second_plan::plans::{ZERO, spell_range};
+use second_plan::table::PlanKind;
+use second_wire::group;
+use second_wire::room::Room;
 
-// The vertex to which the k-th is joined: the first, or the second after 15; any; or one of the four
-// before it.
-fn older(s: &mut State, shape: usize, k: usize) -> usize {
-    if shape == 0 {
-        return k / 16;
-    }
-    if shape == 1 {
-        return state::below(s, k);
-    }
-    let back = state::below(s, 4);
-    num::less(k, num::next(back))
+// A star with or without a tail, any tree of at most 16 vertices, or a long one.
+#[derive(Clone, Copy, Debug, PartialEq, Eq)]
+enum Shape {
+    Star,
+    Any,
+    Long,
 }
 
-// The edge of a and b, either first; the place after it.
-fn put_edge(s: &mut State, room: &mut Room, at: usize, a: usize, b: usize) -> usize {
-    if state::once_in(s, 2) {
-        let next = group::write(room, at, a);
-        return group::write(room, next, b);
+impl Shape {
+    // One of them.
+    fn draw(random: &mut Random) -> Shape {
+        match random.below(4) {
+            0 => Shape::Star,
+            1 => Shape::Any,
+            _ => Shape::Long,
+        }
     }
-    let next = group::write(room, at, b);
-    group::write(room, next, a)
+
+    // How many vertices a tree of the shape has: no vertex may have more than 15 edges.
+    fn vertices(self, random: &mut Random) -> usize {
+        match self {
+            Shape::Star => random.below(8).saturating_add(13),
+            Shape::Any => random.below(16).saturating_add(1),
+            Shape::Long => random.below(40).saturating_add(1),
+        }
+    }
+
+    // The vertex to which the k-th is joined: the first, or the second after 15; any; or one of the four
+    // before it.
+    fn older(self, random: &mut Random, k: usize) -> usize {
+        match self {
+            Shape::Star => k / 16,
+            Shape::Any => random.below(k),
+            Shape::Long => k.saturating_sub(random.below(4).saturating_add(1)),
+        }
+    }
 }
 
-// The edges of a tree, whose vertices may be counted backwards; the place after them.
-fn put_edges(
-    s: &mut State,
-    room: &mut Room,
-    from: usize,
-    shape: usize,
-    vertices: usize,
-    turned: bool,
-) -> usize {
-    let mut at = from;
+// The edge of a and b, either first.
+fn put_edge(random: &mut Random, room: &mut Room, a: usize, b: usize) {
+    let (first, second) = if random.once_in(2) { (a, b) } else { (b, a) };
+    group::write(room, first);
+    group::write(room, second);
+}
+
+// The name of the k-th vertex: they may be counted backwards.
+fn name(k: usize, vertices: usize, is_turned: bool) -> usize {
+    if is_turned {
+        vertices.saturating_sub(k.saturating_add(1))
+    } else {
+        k
+    }
+}
+
+// The edges of a tree.
+fn put_edges(random: &mut Random, room: &mut Room, shape: Shape, vertices: usize) {
+    let is_turned = random.once_in(2);
     for k in 1..vertices {
-        let p = older(s, shape, k);
-        let a = name(k, vertices, turned);
-        let b = name(p, vertices, turned);
-        at = put_edge(s, room, at, a, b);
-    }
-    at
-}
-
-// The name of the k-th vertex.
-fn name(k: usize, vertices: usize, turned: bool) -> usize {
-    if turned {
-        return num::less(vertices, num::next(k));
-    }
-    k
-}
-
-// A tree: a star with or without a tail, any tree of at most 16 vertices, or a long one.
-fn draw_tree(s: &mut State, room: &mut Room) -> usize {
-    let shape = state::below(s, 4);
-    let count = vertices(s, shape);
-    state::set(s, state::LAST, num::less(count, 1));
-    state::set(s, state::BASE, second_plan::plans::ZERO);
-    let at = group::write(room, 0, 1);
-    let from = group::write(room, at, count);
-    let turned = state::once_in(s, 2);
-    put_edges(s, room, from, shape, count, turned)
-}
-
-// How many vertices a tree of a shape has: no vertex may have more than 15 edges.
-fn vertices(s: &mut State, shape: usize) -> usize {
-    match shape {
-        0 => num::add(13, state::below(s, 8)),
-        1 => num::next(state::below(s, 16)),
-        _ => num::next(state::below(s, 40)),
+        let parent = shape.older(random, k);
+        let a = name(k, vertices, is_turned);
+        let b = name(parent, vertices, is_turned);
+        put_edge(random, room, a, b);
     }
 }
 
-// A width: any, or small.
-fn width(s: &mut State) -> usize {
-    let how = state::below(s, 8);
-    match how {
-        0 => state::below(s, 65536),
-        1 => state::below(s, 64),
-        _ => state::below(s, 9),
+// A tree.
+fn draw_tree(vote: &mut Vote, room: &mut Room) {
+    let shape = Shape::draw(&mut vote.random);
+    let vertices = shape.vertices(&mut vote.random);
+    vote.last = vertices.saturating_sub(1);
+    vote.base = ZERO;
+    group::write(room, PlanKind::Tree.number());
+    group::write(room, vertices);
+    put_edges(&mut vote.random, room, shape, vertices);
+}
+
+// A width: of a deep vote almost the widest; else any, or small.
+fn width(random: &mut Random) -> usize {
+    match random.below(8) {
+        0 => random.below(65536),
+        1 => random.below(64),
+        _ => random.below(9),
     }
 }
 
 // A low reading: the least, the greatest, or near 0.
-fn low(s: &mut State, width: usize) -> usize {
-    let how = state::below(s, 4);
-    match how {
+fn low(random: &mut Random, width: usize) -> usize {
+    match random.below(4) {
         0 => 0,
-        1 => num::less(4294967295, width),
-        _ => num::add(second_plan::plans::ZERO - 5, state::below(s, 10)),
+        1 => 4294967295usize.saturating_sub(width),
+        _ => random.below(10).saturating_add(ZERO - 5),
     }
 }
 
 // A range of a width.
-fn draw_range(s: &mut State, room: &mut Room, w: usize) -> usize {
-    let l = low(s, w);
-    state::set(s, state::LAST, w);
-    state::set(s, state::BASE, l);
-    second_plan::plans::spell_range(room, l, w)
+fn draw_range(vote: &mut Vote, room: &mut Room, width: usize) {
+    vote.last = width;
+    vote.base = low(&mut vote.random, width);
+    spell_range(room, vote.base, width);
 }
 
-// A plan in the room; its length.
-pub fn draw(s: &mut State, room: &mut Room) -> usize {
-    if state::get(s, state::DEEP) == 1 {
-        let w = num::less(65535, state::below(s, 4));
-        return draw_range(s, room, w);
+// A plan, whose last position and low reading are kept.
+pub fn draw(vote: &mut Vote) -> Room {
+    let mut room = Room::new();
+    if vote.is_deep {
+        let width = 65535usize.saturating_sub(vote.random.below(4));
+        draw_range(vote, &mut room, width);
+    } else if vote.random.once_in(2) {
+        draw_tree(vote, &mut room);
+    } else {
+        let width = width(&mut vote.random);
+        draw_range(vote, &mut room, width);
     }
-    if state::once_in(s, 2) {
-        return draw_tree(s, room);
-    }
-    let w = width(s);
-    draw_range(s, room, w)
+    room
 }

@@ -1,62 +1,97 @@
-// The calls on the second implementation, after the library's.
-use crate::given::Given;
-use crate::{codes, note};
-use random_buffers::OUTGOING;
-use random_calls::{lent, wide};
-use random_votes_state::state::State;
-use random_votes_state::{call, state};
+// The calls on the second implementation.
+use random_votes_state::call::{Call, Request, Start, Take};
+use random_votes_state::outcome::{Outcome, Refused};
+use random_votes_state::vote::Vote;
 use second::record::Done;
-use second_counts::CountDone;
+use second_plan::question::Refusal;
 use second_plan::table::Table;
-use second_wire::num;
 
 // A reading, which is never refused.
-pub fn read(table: &Table, s: &mut State) {
-    note::refusal(s, state::SECOND, 0, 0);
-    note::answer(s, state::SECOND, codes::of_found(second::answer(table)));
-}
-
-// A call that is no start by count.
-fn other(done: Done) -> CountDone {
-    CountDone { done, rest: 0 }
-}
-
-// A start, by an input or by a count.
-fn start(table: &mut Table, g: Given, journal: &mut [u8], out: &mut [u8]) -> CountDone {
-    if g.is_by_count {
-        return second_counts::start(table, g.size, g.count, journal, g.used, out);
+fn read(table: &Table) -> Outcome {
+    Outcome {
+        answer: second::answer(table),
+        ..Outcome::new(Ok(()))
     }
-    other(second::start(table, g.input, journal, g.used, out))
 }
 
-// A start, a take or a restore, with what is lent of the journals and of the outgoing buffers.
-pub fn make(
+// What a start, take or restore gave, and the answer after it; a refused one leaves the used length, which is 0 of a restore.
+fn outcome(table: &Table, done: Result<Done, Refusal>, used: usize) -> Outcome {
+    match done {
+        Ok(done) => Outcome {
+            verdict: Ok(()),
+            used: done.used,
+            sent: done.sent,
+            rules: done.rules,
+            answer: second::answer(table),
+            remainder: None,
+        },
+        Err(refusal) => Outcome {
+            used,
+            ..Outcome::new(Err(Refused::from(refusal)))
+        },
+    }
+}
+
+// A start by an input, or by a count, whose remainder it gives where it is accepted.
+fn start(
     table: &mut Table,
-    g: Given,
-    bytes: &[u8],
-    journals: &mut [u8],
-    buffers: &mut [u8],
-) -> CountDone {
-    let journal = lent(journals, num::add(call::SECOND_JOURNALS, g.at), g.room);
-    let out = lent(buffers, OUTGOING, g.out_room);
-    let which = g.call;
-    let t = g.terms;
-    match which {
-        call::START => start(table, g, journal, out),
-        call::TAKE => other(second::take(table, g.sender, bytes, journal, g.used, out)),
-        _ => other(second::restore(
-            table, t.boards, t.faults, t.own, t.number, bytes, journal, out,
-        )),
+    start: &Start,
+    journal: &mut [u8],
+    used: usize,
+    out: &mut [u8],
+) -> Outcome {
+    match start.count {
+        None => {
+            let done = second::start(table, start.input, journal, used, out);
+            outcome(table, done, used)
+        }
+        Some(by) => {
+            let counted = second_counts::start(table, by.size, by.count, journal, used, out);
+            Outcome {
+                remainder: counted.ok().map(|counted| counted.rest),
+                ..outcome(table, counted.map(|counted| counted.done), used)
+            }
+        }
     }
 }
 
-// What it gave; where it was accepted, the answer is read.
-pub fn done(table: &Table, s: &mut State, started: CountDone) {
-    let d = started.done;
-    note::remainder(s, state::SECOND, started.rest);
-    note::refusal(s, state::SECOND, wide(d.number), d.place);
-    note::effect(s, state::SECOND, d.used, d.sent, d.rules);
-    if d.number == 0 {
-        read(table, s);
+// The take of a message.
+fn take(
+    table: &mut Table,
+    take: &Take,
+    journal: &mut [u8],
+    used: usize,
+    out: &mut [u8],
+) -> Result<Done, Refusal> {
+    let message = take.message.as_slice();
+    let sender = u32::try_from(take.sender).unwrap_or(u32::MAX);
+    second::take(table, sender, message, journal, used, out)
+}
+
+// The call, with what is lent to it.
+pub fn make(
+    v: &Vote,
+    call: &Call,
+    table: &mut Table,
+    journal: &mut [u8],
+    out: &mut [u8],
+) -> Outcome {
+    let used = call.used;
+    match &call.request {
+        Request::SetUp(new) => {
+            let done = second::set_up(table, &new.terms, v.plan_of(*new));
+            Outcome::new(done.map_err(Refused::from))
+        }
+        Request::Start(by) => start(table, by, journal, used, out),
+        Request::Take(message) => {
+            let done = take(table, message, journal, used, out);
+            outcome(table, done, used)
+        }
+        Request::Read => read(table),
+        Request::Restore(new) => {
+            let plan = v.plan_of(*new);
+            let done = second::restore(table, &new.terms, plan, journal, out);
+            outcome(table, done, 0)
+        }
     }
 }

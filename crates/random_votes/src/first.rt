@@ -1,65 +1,139 @@
 // The calls on the library.
-use crate::given::Given;
-use crate::{codes, note};
-use board::CountStarted;
+use board::{Called, Restored};
 use party::Party;
-use random_calls::{lent, number_of, place_of, wide};
-use random_votes_state::state::State;
-use random_votes_state::{call, state};
+use random_votes_state::call::{Call, Request, Settings, Start, Take};
+use random_votes_state::outcome::{Outcome, Refused};
+use random_votes_state::vote::Vote;
 
-// A reading.
-pub fn read(p: Party, s: &mut State) {
-    let r = board::read_answer(p);
-    let v = r.verdict;
-    let answer = r.answer;
-    note::refusal(s, state::FIRST, number_of(v), place_of(v));
-    note::answer(s, state::FIRST, codes::of_answer(answer));
+// The library's record at a seat without a party.
+pub fn nobody() -> Party {
+    Party::new(0, 0, 0, 0, plan::no_plan())
 }
 
-// A call that is no start by count.
-fn other(called: board::Called) -> CountStarted {
-    CountStarted {
-        called,
-        remainder: 0,
+// The party becomes a new one, if there is one.
+fn renew(party: &mut Party, new: Result<Party, base::Refusal>) -> Result<(), Refused> {
+    *party = new.map_err(Refused::from)?;
+    Ok(())
+}
+
+// A set-up of a new party.
+fn set_up(party: &mut Party, settings: Settings, plan: &[u8]) -> Outcome {
+    let t = settings.terms;
+    let new = board::set_up(t.boards, t.faults, t.own, t.number, plan);
+    Outcome::new(renew(party, new))
+}
+
+// A reading.
+fn read(party: &Party) -> Outcome {
+    match board::read_answer(*party) {
+        Ok(answer) => Outcome {
+            answer,
+            ..Outcome::new(Ok(()))
+        },
+        Err(refusal) => Outcome::new(Err(Refused::from(refusal))),
+    }
+}
+
+// The answer that an accepted call leaves.
+fn answer(party: &Party) -> Option<i64> {
+    read(party).answer
+}
+
+// What a start or take gave; where it was accepted, the answer is read.
+fn called(party: &mut Party, called: Called, remainder: Option<i64>) -> Outcome {
+    *party = called.party;
+    Outcome {
+        verdict: called.verdict.map_err(Refused::from),
+        used: called.used,
+        sent: called.sent,
+        rules: called.rules as usize,
+        answer: if called.verdict.is_ok() {
+            answer(party)
+        } else {
+            None
+        },
+        remainder,
     }
 }
 
 // A start, by an input or by a count.
-fn start(p: Party, g: Given, journal: &mut [u8], out: &mut [u8]) -> CountStarted {
-    if g.is_by_count {
-        return board::start_count(p, g.size, g.count, journal, g.used, out);
+fn start(
+    party: &mut Party,
+    start: &Start,
+    journal: &mut [u8],
+    used: usize,
+    out: &mut [u8],
+) -> Outcome {
+    match start.count {
+        None => {
+            let done = board::start(*party, start.input, journal, used, out);
+            called(party, done, None)
+        }
+        Some(by) => {
+            let done = board::start_count(*party, by.size, by.count, journal, used, out);
+            called(party, done.called, done.remainder)
+        }
     }
-    other(board::start(p, g.input, journal, g.used, out))
 }
 
-// A start, a take or a restore, with what is lent of the journals and of the outgoing buffers.
+// The take of a message.
+fn take(
+    party: &mut Party,
+    take: &Take,
+    journal: &mut [u8],
+    used: usize,
+    out: &mut [u8],
+) -> Outcome {
+    let message = take.message.as_slice();
+    let sender = u32::try_from(take.sender).unwrap_or(u32::MAX);
+    let done = board::take(*party, sender, message, journal, used, out);
+    called(party, done, None)
+}
+
+// What a restore gave, of a new party; where it was accepted, the answer is read.
+fn restored(party: &mut Party, restored: Result<Restored, base::Refusal>) -> Outcome {
+    match restored {
+        Ok(new) => {
+            *party = new.party;
+            Outcome {
+                verdict: Ok(()),
+                used: new.used,
+                sent: new.sent,
+                rules: new.rules as usize,
+                answer: answer(party),
+                remainder: None,
+            }
+        }
+        Err(refusal) => Outcome::new(Err(Refused::from(refusal))),
+    }
+}
+
+// A restore of a new party.
+fn restore(
+    party: &mut Party,
+    settings: Settings,
+    plan: &[u8],
+    journal: &mut [u8],
+    out: &mut [u8],
+) -> Outcome {
+    let t = settings.terms;
+    let new = board::restore(t.boards, t.faults, t.own, t.number, plan, journal, out);
+    restored(party, new)
+}
+
+// The call, with what is lent to it.
 pub fn make(
-    p: Party,
-    g: Given,
-    bytes: &[u8],
-    journals: &mut [u8],
-    buffers: &mut [u8],
-) -> CountStarted {
-    let journal = lent(journals, g.at, g.room);
-    let out = lent(buffers, 0, g.out_room);
-    let which = g.call;
-    let t = g.terms;
-    match which {
-        call::START => start(p, g, journal, out),
-        call::TAKE => other(board::take(p, g.sender, bytes, journal, g.used, out)),
-        _ => other(board::restore(t.boards, t.faults, t.own, t.number, bytes, journal, out)),
+    v: &Vote,
+    call: &Call,
+    party: &mut Party,
+    journal: &mut [u8],
+    out: &mut [u8],
+) -> Outcome {
+    match &call.request {
+        Request::SetUp(new) => set_up(party, *new, v.plan_of(*new)),
+        Request::Start(by) => start(party, by, journal, call.used, out),
+        Request::Take(message) => take(party, message, journal, call.used, out),
+        Request::Read => read(party),
+        Request::Restore(new) => restore(party, *new, v.plan_of(*new), journal, out),
     }
-}
-
-// What it gave; where it was accepted, the answer is read.
-pub fn done(s: &mut State, started: CountStarted) -> Party {
-    let c = started.called;
-    note::remainder(s, state::FIRST, started.remainder);
-    let v = c.verdict;
-    note::refusal(s, state::FIRST, number_of(v), place_of(v));
-    note::effect(s, state::FIRST, c.used, c.sent, wide(c.rules));
-    if number_of(v) == 0 {
-        read(c.party, s);
-    }
-    c.party
 }

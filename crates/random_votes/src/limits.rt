@@ -1,125 +1,101 @@
 // Cases at the limits on both implementations: document 01's boards, faults, vertices and width, document 02's lengths of varints.
 use crate::calls;
-use random_report::{end, number, text};
 use random_votes_draw::plans;
-use random_votes_judge::judge;
-use random_votes_state::state::State;
-use random_votes_state::{call, state};
-use second_wire::{group, num};
-use std::io;
+use random_votes_draw::plans::Growth;
+use random_votes_state::both::{Journal, Outgoing};
+use random_votes_state::call::Request;
+use random_votes_state::outcome::Refused;
+use random_votes_state::seats::Seat;
+use random_votes_state::vote::Vote;
+use second_wire::group;
+use second_wire::room::Room;
+use std::{fmt, io};
 
-// The number and place of a refusal, or that there was none.
-fn write_result(rt: &impl Print, s: &State, area: usize) -> io::Result<()> {
-    let refusal = state::of(s, area, call::NUMBER);
-    if refusal == 0 {
-        return text(rt, b" accepted");
+// A verdict as it is printed.
+#[derive(Clone, Copy)]
+struct Told(Result<(), Refused>);
+
+impl fmt::Display for Told {
+    fn fmt<W: fmt::Write>(&self, f: &mut fmt::Formatter<W>) -> fmt::Result {
+        match self.0 {
+            Ok(()) => write!(f, "accepted"),
+            Err(Refused { number, place }) => write!(f, "refused {number} at {place}"),
+        }
     }
-    text(rt, b" refused")?;
-    number(rt, refusal)?;
-    text(rt, b" at")?;
-    number(rt, state::of(s, area, call::PLACE))
 }
 
-// The set-up on both, and what they gave.
-fn set_up(rt: &impl Print, s: &mut State, words: &[u8], limit: usize) -> io::Result<()> {
-    judge::clear(s);
-    state::set(s, state::CALL, call::SET_UP);
-    calls::try_set_up(s);
-    text(rt, words)?;
-    number(rt, limit)?;
-    text(rt, b":")?;
-    write_result(rt, s, state::FIRST)?;
-    text(rt, b",")?;
-    write_result(rt, s, state::SECOND)?;
-    end(rt)
-}
-
-// Boards and faults.
-fn settings(s: &mut State, n: usize, t: usize) {
-    state::set(s, state::CALL_BOARDS, n);
-    state::set(s, state::CALL_FAULTS, t);
-}
-
-// A range from 0 on.
-fn range(s: &mut State, width: usize) {
-    let length = plans::put_range(s, state::PLAN, call::ZERO, width);
-    state::set(s, state::CALL_PLAN_LENGTH, length);
-}
-
-// A path of so many vertices.
-fn path(s: &mut State, vertices: usize) {
-    let length = plans::put_tree(s, state::PLAN, 0, vertices);
-    state::set(s, state::CALL_PLAN_LENGTH, length);
+// A set-up of so many boards and faults on the vote's plan, which is kept by no one, and what both gave.
+fn set_up(
+    rt: &impl Print,
+    v: &mut Vote,
+    boards: usize,
+    faults: usize,
+    words: &str,
+    limit: usize,
+) -> io::Result<()> {
+    v.boards = boards;
+    v.faults = faults;
+    let call = v.call(Seat::Bench, Request::SetUp(v.settings(0)));
+    let mut journal = Journal::filled(0);
+    let mut out = Outgoing::filled(0);
+    let (one, other) = calls::make(v, &call, &mut calls::nobody(), &mut journal, &mut out);
+    println!(rt;
+        "{words} {limit}: {}, {}",
+        Told(one.verdict),
+        Told(other.verdict)
+    )
 }
 
 // So many boards and faults on a small range.
 fn settings_case(
     rt: &impl Print,
-    s: &mut State,
-    n: usize,
-    t: usize,
-    words: &[u8],
+    v: &mut Vote,
+    boards: usize,
+    faults: usize,
+    words: &str,
     limit: usize,
 ) -> io::Result<()> {
-    settings(s, n, t);
-    range(s, 8);
-    set_up(rt, s, words, limit)
+    v.plan.spelled.spell_range(0, 8);
+    set_up(rt, v, boards, faults, words, limit)
 }
 
-// A path of so many vertices is tried.
-fn path_case(rt: &impl Print, s: &mut State, vertices: usize) -> io::Result<()> {
-    path(s, vertices);
-    set_up(rt, s, b"vertices", vertices)
+// A path of so many vertices.
+fn path_case(rt: &impl Print, v: &mut Vote, vertices: usize) -> io::Result<()> {
+    plans::put_tree(&mut v.random, &mut v.plan, Growth::Path, vertices);
+    set_up(rt, v, 4, 1, "vertices", vertices)
 }
 
-// A range of a width is tried.
-fn range_case(rt: &impl Print, s: &mut State, width: usize) -> io::Result<()> {
-    range(s, width);
-    set_up(rt, s, b"width", width)
-}
-
-// A line for each case of the settings.
-pub fn write_settings(rt: &impl Print, s: &mut State) -> io::Result<()> {
-    state::set(s, state::CALL_PLAN, state::PLAN);
-    settings_case(rt, s, 16, 1, b"boards", 16)?;
-    settings_case(rt, s, 17, 1, b"boards", 17)?;
-    settings_case(rt, s, 16, 5, b"faults of 16 boards", 5)?;
-    settings_case(rt, s, 16, 6, b"faults of 16 boards", 6)
-}
-
-// A line for each case of the plan.
-pub fn write_plans(rt: &impl Print, s: &mut State) -> io::Result<()> {
-    settings(s, 4, 1);
-    path_case(rt, s, 255)?;
-    path_case(rt, s, 256)?;
-    range_case(rt, s, 65535)?;
-    range_case(rt, s, 65536)
+// A range of a width, from 0 on.
+fn range_case(rt: &impl Print, v: &mut Vote, width: usize) -> io::Result<()> {
+    v.plan.spelled.spell_range(0, width);
+    set_up(rt, v, 4, 1, "width", width)
 }
 
 // How many bytes a number has by the library's table and by that of the random votes, and how many the second implementation writes.
-fn length_case(rt: &impl Print, v: u32) -> io::Result<()> {
-    let mut room = num::empty_room();
-    let value = v as usize;
-    let written = group::write(&mut room, 0, value);
-    text(rt, b"bytes of")?;
-    number(rt, value)?;
-    text(rt, b":")?;
-    number(rt, varint::size(v))?;
-    text(rt, b",")?;
-    number(rt, group::size(value))?;
-    text(rt, b", written")?;
-    number(rt, written)?;
-    end(rt)
+fn length_case(rt: &impl Print, value: u32) -> io::Result<()> {
+    let mut room = Room::new();
+    group::write(&mut room, value as usize);
+    println!(rt;
+        "bytes of {value}: {}, {}, written {}",
+        varint::size(value),
+        group::size(value as usize),
+        room.len()
+    )
 }
 
-// A line for each side of each border.
-pub fn write_lengths(rt: &impl Print) -> io::Result<()> {
-    length_case(rt, 127)?;
-    length_case(rt, 128)?;
-    length_case(rt, 16383)?;
-    length_case(rt, 16384)?;
-    length_case(rt, 2097151)?;
-    length_case(rt, 2097152)?;
-    length_case(rt, 268435455)?;
-    length_case(rt, 268435456)
+// A line for each case.
+pub fn write(rt: &impl Print, v: &mut Vote) -> io::Result<()> {
+    settings_case(rt, v, 16, 1, "boards", 16)?;
+    settings_case(rt, v, 17, 1, "boards", 17)?;
+    settings_case(rt, v, 16, 5, "faults of 16 boards", 5)?;
+    settings_case(rt, v, 16, 6, "faults of 16 boards", 6)?;
+    path_case(rt, v, 255)?;
+    path_case(rt, v, 256)?;
+    range_case(rt, v, 65535)?;
+    range_case(rt, v, 65536)?;
+    for bits in [7, 14, 21, 28] {
+        length_case(rt, (1 << bits) - 1)?;
+        length_case(rt, 1 << bits)?;
+    }
+    Ok(())
 }

@@ -1,120 +1,99 @@
 // Document 02's claim: "Where sound boards start only by counts at one g, their count answers are at most 2g apart and between the least and greatest sound counts."
 use crate::read::Given;
 use random_votes_judge::{demand, judge};
-use random_votes_seats::seats;
-use random_votes_state::state::State;
-use random_votes_state::{count, state};
-use second_counts::codes;
-use second_wire::num;
+use random_votes_state::seats::BOARDS;
+use random_votes_state::span::Span;
+use random_votes_state::totals::Totals;
+use random_votes_state::vote::Vote;
+use random_votes_state::{span, totals};
 
-// The lesser of x and the count of a board, where it is started in a call not lost.
-fn lesser(s: &State, x: usize, b: usize) -> usize {
-    if seats::is_started(s, b) {
-        return codes::lesser(x, state::of(s, count::COUNT, b));
+// Whether the count lies between the least and the greatest sound counts, of starts that were not lost.
+fn is_between(v: &Vote, a: i64) -> bool {
+    let mut is_above = false;
+    let mut is_below = false;
+    for b in 0..BOARDS {
+        if v.seats.board(b).started.is_some() {
+            let count = *v.counts.board(b);
+            is_above = is_above || count <= a;
+            is_below = is_below || a <= count;
+        }
     }
-    x
+    is_above && is_below
 }
 
-// The greater of both.
-fn greater(s: &State, x: usize, b: usize) -> usize {
-    if seats::is_started(s, b) {
-        return codes::greater(x, state::of(s, count::COUNT, b));
-    }
-    x
-}
-
-// Whether the count lies between the least and the greatest sound counts.
-fn is_between(s: &State, a: usize) -> bool {
-    let mut least = 18446744073709551615;
-    let mut greatest = 0;
-    for b in 0..16 {
-        least = lesser(s, least, b);
-        greatest = greater(s, greatest, b);
-    }
-    least <= a && a <= greatest
-}
-
-// How far the vote's count answers lie apart.
-fn apart(s: &State) -> usize {
-    num::less(state::get(s, count::GREATEST), state::get(s, count::LEAST))
+// How far count answers lie apart.
+fn apart(answers: Span<i64>) -> u64 {
+    answers.greatest.abs_diff(answers.least)
 }
 
 // A count answer is one of the vote's: they are at most two steps apart, and it lies between counts.
-fn check(s: &mut State, a: usize) {
-    let least = state::get(s, count::LEAST);
-    if least == 0 || a < least {
-        state::set(s, count::LEAST, a);
+fn check(v: &mut Vote, totals: &mut Totals, a: i64) {
+    let answers = span::widened(v.count_answers, a);
+    v.count_answers = Some(answers);
+    if u64::from(v.size.unwrap_or(0)).saturating_mul(2) < apart(answers) {
+        demand::fault(v, totals);
     }
-    if state::get(s, count::GREATEST) < a {
-        state::set(s, count::GREATEST, a);
-    }
-    if 2 * (state::get(s, count::SIZE) % 1024) < apart(s) {
-        demand::fault(s);
-    }
-    if !is_between(s, a) {
-        demand::fault(s);
+    if !is_between(v, a) {
+        demand::fault(v, totals);
     }
 }
 
 // A count answer never changes, and is there only where the board has an answer.
-fn hold(s: &mut State, b: usize, a: usize) {
-    let read = state::of(s, count::READ, b);
-    if read != 0 && read != a {
-        demand::fault(s);
+fn hold(v: &mut Vote, totals: &mut Totals, b: usize, a: i64) {
+    let seat = v.seats.board_mut(b);
+    let changes = seat.count_read.is_some_and(|read| read != a);
+    let is_held = seat.held.is_some();
+    seat.count_read = Some(a);
+    if changes {
+        demand::fault(v, totals);
     }
-    state::put(s, count::READ, b, a);
-    if state::of(s, state::HELD, b) == 0 {
-        demand::fault(s);
+    if !is_held {
+        demand::fault(v, totals);
     }
 }
 
 // There is no count answer only where the board has no answer, and none was read before.
-fn keep_none(s: &mut State, b: usize) {
-    if state::of(s, state::HELD, b) != 0 || state::of(s, count::READ, b) != 0 {
-        demand::fault(s);
+fn keep_none(v: &mut Vote, totals: &mut Totals, b: usize) {
+    let seat = v.seats.board(b);
+    if seat.held.is_some() || seat.count_read.is_some() {
+        demand::fault(v, totals);
     }
 }
 
 // A count reading of a sound board is accepted. An answer guards the records, as that of any reading.
-pub fn keep(s: &mut State, b: usize, g: Given) {
-    if g.number != 0 {
-        demand::fault(s);
-        return;
+pub fn keep(v: &mut Vote, totals: &mut Totals, b: usize, given: Given) {
+    match given {
+        Err(_) => demand::fault(v, totals),
+        Ok(None) => keep_none(v, totals, b),
+        Ok(Some(a)) => {
+            hold(v, totals, b, a);
+            check(v, totals, a);
+            totals::count(&mut totals.counts.readings.answers);
+            let alone = judge::keep_other_reading(v, totals, b);
+            totals.counts.readings.count_cut(alone);
+        }
     }
-    if !g.is_there {
-        keep_none(s, b);
-        return;
-    }
-    hold(s, b, g.answer);
-    check(s, g.answer);
-    state::count(s, count::ANSWERS);
-    judge::keep_other_reading(s, b, count::CUTS);
 }
 
 // How far that is, in steps: not, at most one, less than two, two.
-fn steps(apart: usize, g: usize) -> usize {
-    if apart == 0 {
-        return 0;
+fn steps(apart: u64, size: u32) -> usize {
+    let step = u64::from(size);
+    match apart {
+        0 => 0,
+        _ if apart <= step => 1,
+        _ if apart < step.saturating_mul(2) => 2,
+        _ => 3,
     }
-    if apart <= g {
-        return 1;
-    }
-    if apart < 2 * (g % 1024) {
-        return 2;
-    }
-    3
 }
 
 // The end of a vote: its count answers lie between the counts of starts that were not lost.
-pub fn conclude(s: &mut State) {
-    let least = state::get(s, count::LEAST);
-    if least == 0 {
+pub fn conclude(v: &mut Vote, totals: &mut Totals) {
+    let Some(answers) = v.count_answers else {
         return;
+    };
+    if !is_between(v, answers.least) || !is_between(v, answers.greatest) {
+        demand::fault(v, totals);
     }
-    let greatest = state::get(s, count::GREATEST);
-    if !is_between(s, least) || !is_between(s, greatest) {
-        demand::fault(s);
-    }
-    let steps = steps(apart(s), state::get(s, count::SIZE));
-    state::count(s, num::add(count::APART, steps));
+    let steps = steps(apart(answers), v.size.unwrap_or(0));
+    totals::count_at(&mut totals.counts.apart, steps);
 }

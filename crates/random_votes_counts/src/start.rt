@@ -1,179 +1,157 @@
 // Starts by count: a start that was drawn becomes one by a count that should go to the step drawn.
 use crate::choose;
 use random_votes_judge::demand;
-use random_votes_state::state::State;
-use random_votes_state::{call, count, random, state};
-use second_counts::codes;
-use second_wire::num;
-
-// The largest count, as it is kept; the least is 0.
-const LARGEST: usize = 18446744073709551615;
+use random_votes_state::call::{Call, CountStart, Request, Start};
+use random_votes_state::outcome::Outcome;
+use random_votes_state::random::Random;
+use random_votes_state::seats::Seat;
+use random_votes_state::totals;
+use random_votes_state::totals::Totals;
+use random_votes_state::vote::{Phase, Vote};
 
 // The remainder without its sign: often the limits.
-fn part(s: &mut State, half: usize) -> usize {
-    let how = random::below(s, 8);
-    match how {
+fn part(random: &mut Random, half: u32) -> u64 {
+    let half = u64::from(half);
+    match random.below(8) {
         0 => 0,
         1 => 1,
-        2 => num::less(half, 1),
-        3 | 4 | 5 => half,
-        _ => random::below(s, num::next(half)),
+        2 => half.saturating_sub(1),
+        3..6 => half,
+        _ => random.below((half + 1) as usize) as u64,
     }
 }
 
 // Whether the remainder is below 0: of "halves towards zero", where the step is.
-fn is_below(s: &mut State, step: usize, is_half: bool) -> bool {
-    if is_half {
-        if step != call::ZERO {
-            return step < call::ZERO;
-        }
+fn is_below(random: &mut Random, step: i64, is_half: bool) -> bool {
+    if is_half && step != 0 {
+        return step < 0;
     }
-    random::once_in(s, 2)
+    random.once_in(2)
 }
 
-// What is kept as x, more or less by a part.
-fn moved(x: usize, part: usize, is_below: bool) -> usize {
+// A count more or less by a part.
+fn moved(count: i64, part: u64, is_below: bool) -> i64 {
     if is_below {
-        return num::less(x, part);
+        count.saturating_sub_unsigned(part)
+    } else {
+        count.saturating_add_unsigned(part)
     }
-    codes::plus(x, part)
-}
-
-// g times the step of a code.
-fn at_step(g: usize, step: usize) -> usize {
-    codes::plus(
-        num::less(codes::ZERO, codes::times(g, call::ZERO)),
-        codes::times(g, step),
-    )
 }
 
 // A count that goes to the step, and its remainder.
-fn draw_at(s: &mut State, g: usize, step: usize) {
-    let part = part(s, g / 2);
-    let is_below = is_below(s, step, part == g / 2);
-    state::set(
-        s,
-        count::CALL_COUNT,
-        moved(at_step(g, step), part, is_below),
-    );
-    state::set(s, count::CALL_REST, moved(codes::ZERO, part, is_below));
+fn draw_at(random: &mut Random, size: u32, step: i64) -> CountStart {
+    let half = size / 2;
+    let part = part(random, half);
+    let is_below = is_below(random, step, part == u64::from(half));
+    CountStart {
+        size,
+        count: moved(step.saturating_mul(i64::from(size)), part, is_below),
+        remainder: Some(moved(0, part, is_below)),
+    }
 }
 
-// A count near an end of the 64 bits where the step of a code is one, else one that goes to the step.
-fn draw_count(s: &mut State, g: usize, step: usize) {
-    if step < 2 {
-        let by = random::below(s, 3);
-        let end = if step == 0 {
-            by
-        } else {
-            num::less(LARGEST, by)
-        };
-        state::set(s, count::CALL_COUNT, end);
-        return;
+// A count near an end of the 64 bits where the step is one, else one that goes to the step.
+fn draw_count(random: &mut Random, size: u32, step: i64) -> CountStart {
+    if step != i64::MIN && step != i64::MAX {
+        return draw_at(random, size, step);
     }
-    draw_at(s, g, step);
+    let by = random.below(3) as u64;
+    CountStart {
+        size,
+        count: moved(step, by, step == i64::MAX),
+        remainder: None,
+    }
 }
 
-// The vote's step size; else any in some of the starts, or 0.
-fn draw_size(s: &mut State) -> usize {
-    if 0 < state::get(s, count::SIZE) {
-        return state::get(s, count::SIZE);
+// The vote's step size; else any in some of the starts, or none.
+fn draw_size(v: &mut Vote) -> Option<u32> {
+    if v.size.is_some() {
+        return v.size;
     }
-    if random::once_in(s, 4) {
-        return choose::size(s);
+    if v.random.once_in(4) {
+        return Some(choose::size(&mut v.random));
     }
-    0
+    None
 }
 
-// The start that is to be made becomes one by count, now and then with a size that is refused.
-fn draw_start(s: &mut State) {
-    let g = draw_size(s);
-    if g == 0 {
-        return;
+// The count by which a start is made, if it is, now and then with a size that is refused.
+fn draw_start(v: &mut Vote, start: &Start) -> Option<CountStart> {
+    let size = draw_size(v)?;
+    let mut count = draw_count(&mut v.random, size, start.input);
+    if v.random.once_in(8) {
+        count.size = choose::wrong_size(&mut v.random);
     }
-    state::set(s, count::IS_BY_COUNT, 1);
-    state::set(s, count::CALL_SIZE, g);
-    draw_count(s, g, state::get(s, state::INPUT));
-    if random::once_in(s, 8) {
-        let wrong = choose::wrong_size(s);
-        state::set(s, count::CALL_SIZE, wrong);
-    }
+    Some(count)
 }
 
 // Now and then a start comes before a seat's set-up, with any outgoing buffer: it is refused by 19, and the turn comes again.
-fn come_early(s: &mut State) {
-    if state::get(s, state::PHASE) == call::SETTING_UP {
-        if random::once_in(s, 8) {
-            state::set(s, state::CALL, call::START);
-            state::copy(s, state::LOW, state::INPUT);
-            let room = random::below(s, 2700);
-            state::set(s, state::OUT_ROOM, room);
-            let turn = state::get(s, state::TURN);
-            state::set(s, state::TURN, num::less(turn, 1));
-        }
+fn come_early(v: &mut Vote, call: &mut Call) {
+    if v.phase == Phase::SettingUp && v.random.once_in(8) {
+        call.request = Request::Start(Start {
+            input: v.plan.low,
+            count: None,
+        });
+        call.out_room = v.random.below(2700);
+        v.turn = v.turn.saturating_sub(1);
     }
 }
 
 // The call that is to be made, if it is a start, becomes one by count, or not.
-pub fn prepare(s: &mut State) {
-    state::set(s, count::IS_BY_COUNT, 0);
-    come_early(s);
-    if state::get(s, state::CALL) == call::START {
-        draw_start(s);
+pub fn prepare(v: &mut Vote, call: &mut Call) {
+    come_early(v, call);
+    if let Request::Start(start) = &mut call.request {
+        start.count = draw_start(v, start);
     }
-}
-
-// Whether the last call was a start by count.
-fn is_by_count(s: &State) -> bool {
-    if state::get(s, state::CALL) == call::START {
-        return state::get(s, count::IS_BY_COUNT) == 1;
-    }
-    false
 }
 
 // Which sort of remainder it is: half a step below, less below, 0, less above, half a step above.
-fn sort(rest: usize, half: usize) -> usize {
-    if rest == num::less(codes::ZERO, half) {
+fn sort(remainder: i64, half: u32) -> usize {
+    let half = i64::from(half);
+    if remainder == -half {
         return 1;
     }
-    if rest < codes::ZERO {
-        return 2;
+    match remainder {
+        ..0 => 2,
+        0 => 3,
+        _ if remainder < half => 4,
+        _ => 5,
     }
-    if rest == codes::ZERO {
-        return 3;
-    }
-    if rest < codes::plus(codes::ZERO, half) {
-        return 4;
-    }
-    5
 }
 
-// An accepted start by count: its count is kept, its remainder is the one drawn, and no count answer was read before.
-fn keep_accepted(s: &mut State, b: usize) {
-    state::count(s, count::STARTS);
-    let rest = state::of(s, state::FIRST, call::REMAINDER);
-    if rest != state::get(s, count::CALL_REST) || state::of(s, count::READ, b) != 0 {
-        demand::fault(s);
+// An accepted start by count: its count is kept, its remainder, which each has, is the one drawn, and no count answer was read before.
+fn keep_accepted(
+    v: &mut Vote,
+    totals: &mut Totals,
+    seat: Seat,
+    start: CountStart,
+    remainder: Option<i64>,
+) {
+    totals::count(&mut totals.counts.starts);
+    if remainder.is_none()
+        || start.remainder != remainder
+        || v.seats.at(seat).count_read.is_some()
+    {
+        demand::fault(v, totals);
     }
-    let half = state::get(s, count::CALL_SIZE) / 2;
-    state::count(s, num::add(count::RESTS, sort(rest, half)));
-    let count = state::get(s, count::CALL_COUNT);
-    state::put(s, count::COUNT, b, count);
+    if let Some(remainder) = remainder {
+        let sort = sort(remainder, start.size / 2);
+        totals::count_at(&mut totals.counts.remainders, sort);
+    }
+    *v.counts.at_mut(seat) = start.count;
 }
 
-// What a start by count gave is counted and kept; at a set-up, what was read of the vote before is forgotten.
-pub fn keep(s: &mut State) {
-    let b = state::get(s, state::SEAT);
-    if state::get(s, state::CALL) == call::SET_UP {
-        state::put(s, count::READ, b, 0);
-    }
-    if !is_by_count(s) {
+// What a start by count gave is counted and kept.
+pub fn keep(v: &mut Vote, totals: &mut Totals, call: &Call, outcome: &Outcome) {
+    let Request::Start(start) = &call.request else {
         return;
-    }
-    let number = state::of(s, state::FIRST, call::NUMBER);
-    if number == 0 {
-        keep_accepted(s, b);
+    };
+    let Some(count) = start.count else {
         return;
+    };
+    match outcome.verdict {
+        Ok(()) => keep_accepted(v, totals, call.seat, count, outcome.remainder),
+        Err(refused) => {
+            totals::count_at(&mut totals.counts.starts_refused, refused.number % 32);
+        }
     }
-    state::count(s, num::add(count::STARTS_REFUSED, number % 32));
 }

@@ -1,288 +1,255 @@
 // A vote is drawn: boards, faults, agreement number, plan, and how its boards behave.
 use crate::plans;
-use random_votes_state::state::State;
-use random_votes_state::{call, random, state};
-use second_wire::{group, num};
+use random_votes_state::plan::PlanKind;
+use random_votes_state::random::Random;
+use random_votes_state::seats::BOARDS;
+use random_votes_state::totals::Totals;
+use random_votes_state::vote::{Inputs, Phase, Slow, Vote};
+use random_votes_state::{totals, varint};
+
+// Of 64 votes most have four boards on the smallest plans, some four, seven or any number on small ones, two any plan, one a tree of the largest size and one the
+// widest range.
+#[derive(Clone, Copy, PartialEq, Eq)]
+enum Class {
+    Smallest,
+    Four,
+    Seven,
+    AnyBoards,
+    AnyPlan,
+    LargestTree,
+    WidestRange,
+}
+
+impl Class {
+    // That of a vote by its number.
+    fn of(vote: usize) -> Class {
+        match vote % 64 {
+            0..40 => Class::Smallest,
+            40..48 => Class::Four,
+            48..54 => Class::Seven,
+            54..60 => Class::AnyBoards,
+            62 => Class::LargestTree,
+            63 => Class::WidestRange,
+            _ => Class::AnyPlan,
+        }
+    }
+}
 
 // How many boards: four in most votes, seven, or any number.
-fn boards(s: &mut State, class: usize) -> usize {
-    if class < 48 {
-        return 4;
+fn boards(random: &mut Random, class: Class) -> usize {
+    match class {
+        Class::Smallest | Class::Four => 4,
+        Class::Seven => 7,
+        Class::AnyBoards => random.between(1, 16),
+        Class::AnyPlan | Class::LargestTree | Class::WidestRange => random.between(1, 8),
     }
-    if class < 54 {
-        return 7;
-    }
-    if class < 60 {
-        return random::between(s, 1, 16);
-    }
-    random::between(s, 1, 8)
 }
 
 // The most faults, or fewer.
-fn faults(s: &mut State, n: usize) -> usize {
-    let most = num::less(n, 1) / 3;
-    if random::once_in(s, 4) {
-        return random::below(s, num::next(most));
+fn faults(random: &mut Random, boards: usize) -> usize {
+    let most = boards.saturating_sub(1) / 3;
+    if random.once_in(4) {
+        return random.below(most + 1);
     }
     most
 }
 
 // Any width, with as many of each length in bits.
-fn any_width(s: &mut State) -> usize {
-    let bits = random::below(s, 17);
-    if bits < 4 {
-        return random::below(s, 16);
+fn any_width(random: &mut Random) -> usize {
+    match random.below(17) {
+        0..4 => random.below(16),
+        4..8 => random.below(256),
+        8..12 => random.below(4096),
+        16 => 65535,
+        _ => random.below(65536),
     }
-    if bits < 8 {
-        return random::below(s, 256);
-    }
-    if bits < 12 {
-        return random::below(s, 4096);
-    }
-    if bits == 16 {
-        return 65535;
-    }
-    random::below(s, 65536)
 }
 
 // How many positions: three or four in most votes, a few, or any number of the kind.
-fn positions(s: &mut State, class: usize, kind: usize) -> usize {
-    if class < 40 {
-        return random::between(s, 3, 4);
+fn positions(random: &mut Random, class: Class, kind: PlanKind) -> usize {
+    match class {
+        Class::Smallest => random.between(3, 4),
+        Class::Four | Class::Seven | Class::AnyBoards => random.between(1, 12),
+        Class::LargestTree => 255,
+        Class::WidestRange => 65536,
+        Class::AnyPlan if kind == PlanKind::Range => any_width(random).saturating_add(1),
+        Class::AnyPlan => random.between(1, 60),
     }
-    if class < 60 {
-        return random::between(s, 1, 12);
-    }
-    if class == 62 {
-        return 255;
-    }
-    if class == 63 {
-        return 65536;
-    }
-    if kind == 2 {
-        return num::next(any_width(s));
-    }
-    random::between(s, 1, 60)
 }
 
 // The first number of so many bytes, or the last before it.
-fn beside_border(s: &mut State, bytes: usize) -> usize {
-    let first = group::piece(1, num::less(bytes, 1));
-    num::less(first, random::below(s, 2))
+fn beside_border(random: &mut Random, bytes: usize) -> usize {
+    let first = varint::first_beyond(bytes.saturating_sub(1));
+    first.saturating_sub(random.below(2))
 }
 
 // Small numbers, those near the largest, those of any length, and those at both sides of a border between lengths.
-fn number(s: &mut State) -> usize {
-    let how = random::below(s, 5);
-    if how == 0 {
-        return random::between(s, 4294967290, 4294967295);
-    }
-    if how == 1 {
-        return random::below(s, 4294967296);
-    }
-    if how == 2 {
-        return random::below(s, 20000);
-    }
-    if how == 3 {
-        let bytes = random::between(s, 2, 5);
-        return beside_border(s, bytes);
-    }
-    random::below(s, 130)
-}
-
-// What was kept of the vote before, from one place to before another, is forgotten.
-fn forget(s: &mut State, from: usize, to: usize) {
-    for i in from..to {
-        state::set(s, i, 0);
+fn agreement(random: &mut Random) -> usize {
+    match random.below(5) {
+        0 => random.between(4294967290, 4294967295),
+        1 => random.below(4294967296),
+        2 => random.below(20000),
+        3 => {
+            let bytes = random.between(2, 5);
+            beside_border(random, bytes)
+        }
+        _ => random.below(130),
     }
 }
 
-// All boards are marked in a row.
-fn mark(s: &mut State, row: usize, n: usize) {
-    for b in 0..n {
-        state::put(s, row, b, 1);
+// All of so many boards are marked in a row, but for at most so many.
+fn mark(random: &mut Random, row: &mut [bool; BOARDS], boards: usize, but: usize) {
+    for marked in row.iter_mut().take(boards) {
+        *marked = true;
+    }
+    for _ in 0..but {
+        if let Some(marked) = row.get_mut(random.below(boards)) {
+            *marked = false;
+        }
     }
 }
 
-// At most so many are not.
-fn unmark(s: &mut State, row: usize, n: usize, so_many: usize) {
-    for _ in 0..so_many {
-        let b = random::below(s, n);
-        state::put(s, row, b, 0);
-    }
-}
-
-// So many in 64 of an area's 256 links, or kinds at boards, are slow.
-fn slow_down(s: &mut State, area: usize, so_many: usize) {
-    for i in 0..256 {
-        let slow = (random::below(s, 64) < so_many) as usize;
-        state::put(s, area, i, slow);
+// So many in 64 of all links, or of all kinds at boards, are slow.
+fn slow_down(random: &mut Random, slow: &mut [[bool; BOARDS]; 16], so_many: usize) {
+    for row in slow.iter_mut() {
+        for is_slow in row.iter_mut() {
+            *is_slow = random.below(64) < so_many;
+        }
     }
 }
 
 // Boards, faults and agreement number.
-fn draw_boards(s: &mut State, class: usize) {
-    let n = boards(s, class);
-    let t = faults(s, n);
-    let number = number(s);
-    state::set(s, state::BOARDS, n);
-    state::set(s, state::FAULTS, t);
-    state::set(s, state::NUMBER, number);
-    state::set(s, state::NUMBER_LENGTH, group::size(number));
-    forget(s, state::SOUND, state::FIRST);
-    forget(s, state::TOLD, state::TOLD + 2048);
-    forget(s, state::TAKEN, state::TAKEN + 32768);
-    mark(s, state::SOUND, n);
-    unmark(s, state::SOUND, n, t);
+fn draw_boards(v: &mut Vote, class: Class) {
+    v.boards = boards(&mut v.random, class);
+    v.faults = faults(&mut v.random, v.boards);
+    v.agreement = agreement(&mut v.random);
+    v.forget();
+    let mut sound = [false; BOARDS];
+    mark(&mut v.random, &mut sound, v.boards, v.faults);
+    for (b, is_sound) in sound.iter().enumerate() {
+        v.seats.board_mut(b).is_sound = *is_sound;
+    }
 }
 
 // The plan's kind: a range or a tree of the largest size now and then, else either.
-fn kind(s: &mut State, class: usize) -> usize {
-    if class == 62 {
-        return 1;
+fn kind(random: &mut Random, class: Class) -> PlanKind {
+    match class {
+        Class::LargestTree => PlanKind::Tree,
+        Class::WidestRange => PlanKind::Range,
+        _ if random.below(2) == 0 => PlanKind::Tree,
+        _ => PlanKind::Range,
     }
-    if class == 63 {
-        return 2;
-    }
-    random::between(s, 1, 2)
 }
 
 // A position; on larger ranges one at a border between lengths, if it is there.
-fn near(s: &mut State, class: usize, positions: usize) -> usize {
-    if class == 60 || class == 61 {
-        let bytes = random::between(s, 2, 3);
-        let border = beside_border(s, bytes);
+fn near(random: &mut Random, class: Class, positions: usize) -> usize {
+    if class == Class::AnyPlan {
+        let bytes = random.between(2, 3);
+        let border = beside_border(random, bytes);
         if border < positions {
             return border;
         }
     }
-    random::below(s, positions)
+    random.below(positions)
 }
 
 // Inputs lie near one of the positions; on the widest range near its end, where levels are most.
-fn draw_inputs(s: &mut State, class: usize, positions: usize) {
-    let near = near(s, class, positions);
-    let apart = random::between(s, 1, 6);
-    state::set(s, state::NEAR, near);
-    state::set(s, state::APART, apart);
-    if class == 63 {
-        state::set(s, state::NEAR, 65535);
-        state::set(s, state::APART, 1);
+fn inputs(random: &mut Random, class: Class, positions: usize) -> Inputs {
+    let near = near(random, class, positions);
+    let apart = random.between(1, 6);
+    if class == Class::WidestRange {
+        return Inputs {
+            near: 65535,
+            apart: 1,
+        };
     }
+    Inputs { near, apart }
 }
 
 // The plan, and where inputs lie.
-fn draw_plan(s: &mut State, class: usize) {
-    let kind = kind(s, class);
-    let positions = positions(s, class, kind);
-    plans::draw(s, kind, positions);
-    draw_inputs(s, class, positions);
+fn draw_plan(v: &mut Vote, totals: &mut Totals, class: Class) {
+    let kind = kind(&mut v.random, class);
+    let positions = positions(&mut v.random, class, kind);
+    plans::draw(&mut v.random, &mut v.plan, kind, positions);
+    v.inputs = inputs(&mut v.random, class, positions);
     if positions == 65536 {
-        state::count(s, state::WIDE_RANGES);
+        totals::count(&mut totals.wide_ranges);
     }
-    if kind == 1 {
-        if positions == 255 {
-            state::count(s, state::LARGE_TREES);
-        }
+    if kind == PlanKind::Tree && positions == 255 {
+        totals::count(&mut totals.large_trees);
     }
 }
 
-// How many cuts may come among the last deliveries: a few; more on larger plans, where boards live longer and restores give more messages.
-fn draw_cuts(s: &mut State) {
-    let most = if state::get(s, state::LAST) < 16 {
-        4
-    } else {
-        32
-    };
-    let cuts = random::below(s, most);
-    state::set(s, state::CUTS_LEFT, cuts);
+// How many random steps there are, and how they go. A few cuts may come among the last deliveries; more on larger plans, where boards live longer and restores give
+// more messages.
+fn draw_steps(v: &mut Vote) {
+    let random = &mut v.random;
+    v.steps = random.below(v.boards.saturating_mul(60).saturating_add(20));
+    v.lies = random.below(56);
+    v.is_wild = random.below(2) == 1;
+    v.salt = random.below(1099511627776).saturating_add(1);
+    v.is_flooded = random.below(4) == 3;
+    v.cuts_left = random.below(if v.plan.last < 16 { 4 } else { 32 });
+    v.patience = random.below(4);
+    v.round.leaves_out = false;
 }
 
-// How many random steps there are, and how they go.
-fn draw_steps(s: &mut State) {
-    let n = state::get(s, state::BOARDS);
-    let steps = random::below(s, num::add((n % 32) * 60, 20));
-    state::set(s, state::STEPS, steps);
-    let lies = random::below(s, 56);
-    state::set(s, state::LIES, lies);
-    let wild = random::below(s, 2);
-    state::set(s, state::WILD, wild);
-    let salt = random::below(s, 1099511627776);
-    state::set(s, state::SALT, num::next(salt));
-    let flood = random::below(s, 4) / 3;
-    state::set(s, state::FLOOD, flood);
-    draw_cuts(s);
-    let patience = random::below(s, 4);
-    state::set(s, state::PATIENCE, patience);
-    state::set(s, state::LEFT_OUT, 0);
+// One place of a row.
+fn put(row: Option<&mut [bool; BOARDS]>, b: usize, is_slow: bool) {
+    if let Some(place) = row.and_then(|row| row.get_mut(b)) {
+        *place = is_slow;
+    }
 }
 
 // To a board that is off, first proposals and second echoes of values come slowly, so that its results are none; to the others first echoes and second proposals.
-fn divide_board(s: &mut State, b: usize) {
-    let off = state::of(s, state::OFF, b);
-    let with = num::less(1, off);
-    state::put(s, state::SLOW_KIND, num::add(32, b), off);
-    state::put(s, state::SLOW_KIND, num::add(48, b), off);
-    state::put(s, state::SLOW_KIND, num::add(16, b), with);
-    state::put(s, state::SLOW_KIND, num::add(144, b), with);
-    state::put(s, state::SLOW_KIND, num::add(64, b), with);
-    state::put(s, state::SLOW_KIND, num::add(192, b), with);
-}
-
-// All boards are divided so, and links are not slow.
-fn divide(s: &mut State) {
-    slow_down(s, state::SLOW, 0);
-    slow_down(s, state::SLOW_KIND, 0);
-    for b in 0..16 {
-        divide_board(s, b);
+fn divide_board(slow: &mut Slow, b: usize, off: bool) {
+    for kind in [2, 3] {
+        put(slow.kinds.get_mut(kind), b, off);
+    }
+    for kind in [1, 4] {
+        put(slow.kinds.get_mut(kind), b, !off);
+        put(slow.kinds.get_mut(kind + 8), b, !off);
     }
 }
 
-// All boards are off but for as many as may be faulty.
-fn draw_off(s: &mut State) {
-    let n = state::get(s, state::BOARDS);
-    mark(s, state::OFF, n);
-    unmark(s, state::OFF, n, state::get(s, state::FAULTS));
+// All boards are off but for as many as may be faulty; links are not slow.
+fn divide(v: &mut Vote) {
+    slow_down(&mut v.random, &mut v.slow.links, 0);
+    slow_down(&mut v.random, &mut v.slow.kinds, 0);
+    for (b, off) in v.off.iter().enumerate() {
+        divide_board(&mut v.slow, b, *off);
+    }
 }
 
 // In a divided vote most inputs are at one end of the plan, and faulty boards keep to what divides.
-fn draw_end(s: &mut State) {
-    let patience = random::between(s, 1, 3);
-    state::set(s, state::PATIENCE, patience);
-    state::set(s, state::WILD, 0);
-    if state::get(s, state::SALT) % 2 == 0 {
-        state::set(s, state::NEAR, 0);
-    } else {
-        state::copy(s, state::LAST, state::NEAR);
-    }
+fn draw_end(v: &mut Vote) {
+    v.patience = v.random.between(1, 3);
+    v.is_wild = false;
+    v.inputs.near = if v.salt % 2 == 0 { 0 } else { v.plan.last };
 }
 
 // Which messages are slow, by link and by kind; or the boards are divided.
-fn draw_slowness(s: &mut State) {
-    let divided = random::below(s, 2);
-    state::set(s, state::DIVIDED, divided);
-    if divided == 1 {
-        draw_off(s);
-        draw_end(s);
-        divide(s);
+fn draw_slowness(v: &mut Vote) {
+    v.is_divided = v.random.below(2) == 1;
+    if v.is_divided {
+        mark(&mut v.random, &mut v.off, v.boards, v.faults);
+        draw_end(v);
+        divide(v);
         return;
     }
-    let slow = random::below(s, 32);
-    slow_down(s, state::SLOW, slow);
-    let slow_kinds = random::below(s, 40);
-    slow_down(s, state::SLOW_KIND, slow_kinds);
+    let links = v.random.below(32);
+    slow_down(&mut v.random, &mut v.slow.links, links);
+    let kinds = v.random.below(40);
+    slow_down(&mut v.random, &mut v.slow.kinds, kinds);
 }
 
 // The next vote.
-pub fn draw(s: &mut State) {
-    let class = state::get(s, state::VOTES) % 64;
-    draw_boards(s, class);
-    draw_plan(s, class);
-    draw_steps(s);
-    draw_slowness(s);
-    state::set(s, state::POOLED, 0);
-    state::set(s, state::LOSSES_HERE, 0);
-    state::set(s, state::TOP, 0);
-    state::set(s, state::TURN, 0);
-    state::set(s, state::PHASE, call::SETTING_UP);
+pub fn draw(v: &mut Vote, totals: &mut Totals) {
+    let class = Class::of(v.number);
+    draw_boards(v, class);
+    draw_plan(v, totals, class);
+    draw_steps(v);
+    draw_slowness(v);
+    v.turn = 0;
+    v.phase = Phase::SettingUp;
 }

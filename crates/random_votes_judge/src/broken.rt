@@ -1,90 +1,63 @@
 // What was broken in the messages and journals that were refused, by the field at the refusal's place.
-use random_votes_state::call::Journals;
-use random_votes_state::state::State;
-use random_votes_state::{call, state};
-use second_wire::{group, num, wire};
-
-// 1 if byte i of the message is before a place and the last of its field, which has no top bit; else 0.
-fn ends(s: &State, i: usize, place: usize) -> usize {
-    if i < place {
-        return (state::of(s, state::MESSAGE, i) < 128) as usize;
-    }
-    0
-}
-
-// How many fields end before a place of the message.
-fn fields(s: &State, place: usize) -> usize {
-    let mut found = 0;
-    for i in 0..32 {
-        found = num::add(found, ends(s, i, place));
-    }
-    found
-}
-
-// One more in a row.
-fn count_in(s: &mut State, row: usize, i: usize) {
-    state::count(s, num::add(row, i % 8));
-}
+use random_votes_state::both::{JOURNAL, Journal};
+use random_votes_state::call::{Call, Request};
+use random_votes_state::message::Message;
+use random_votes_state::outcome::Refused;
+use random_votes_state::totals;
+use random_votes_state::totals::{Broken, Totals};
+use second_wire::group::Fault;
+use second_wire::reader::Reader;
+use second_wire::{reader, wire};
 
 // The bytes end inside the message: in this field, or before its first byte.
-fn count_cut(s: &mut State, field: usize, place: usize) {
-    count_in(s, state::CUT_AT, field);
-    if place == state::get(s, state::MESSAGE_LENGTH) {
-        count_in(s, state::CUT_BEFORE, field);
+fn count_cut(broken: &mut Broken, field: usize, is_before: bool) {
+    totals::count_at(&mut broken.cut, field);
+    if is_before {
+        totals::count_at(&mut broken.cut_before, field);
     }
 }
 
 // A field too long or too large, of which the last byte may not be there.
-fn count_malformed(s: &mut State, field: usize) {
-    count_in(s, state::MALFORMED_AT, field);
-    let ended = fields(s, state::get(s, state::MESSAGE_LENGTH));
-    if ended < field {
-        count_in(s, state::MALFORMED_CUT, field);
+fn count_malformed(broken: &mut Broken, field: usize, message: &Message) {
+    totals::count_at(&mut broken.malformed, field);
+    if message.ends_before(message.len()) < field {
+        totals::count_at(&mut broken.malformed_cut, field);
     }
 }
 
 // A message that was refused. Its fields are 1 to 4, and a spare byte comes after the third or the fourth.
-fn count_message(s: &mut State, number: usize) {
-    let place = state::of(s, state::FIRST, call::PLACE);
-    let before = fields(s, place);
-    let field = num::next(before);
-    match number {
-        15 => count_cut(s, field, place),
-        22 => count_malformed(s, field),
-        23 => count_in(s, state::OUTSIDE_AT, field),
-        24 => count_in(s, state::SPARE_AFTER, before),
+fn count_message(broken: &mut Broken, message: &Message, refused: Refused) {
+    let before = message.ends_before(refused.place);
+    let field = before.saturating_add(1);
+    match refused.number {
+        15 => count_cut(broken, field, refused.place == message.len()),
+        22 => count_malformed(broken, field, message),
+        23 => totals::count_at(&mut broken.outside, field),
+        24 => totals::count_at(&mut broken.spare_after, before),
         _ => (),
     }
 }
 
-// The bytes from one place to before another, or none.
-fn part(bytes: &[u8], from: usize, to: usize) -> &[u8] {
-    if from <= to {
-        if to <= bytes.len() {
-            return &bytes[from..to];
-        }
-    }
-    &bytes[0..0]
-}
-
-// A journal refused by 21: those whose last field is cut and could only come to lie above its limit are counted.
-fn count_journal(s: &mut State, journals: &Journals) {
-    let from = call::journal_at(state::get(s, state::SEAT));
-    let to = num::add(from, state::get(s, state::ROOM));
-    let at = state::of(s, state::FIRST, call::PLACE);
-    let record = wire::read_record(part(journals, from, to), at);
-    if record.state == group::CUT_ABOVE {
-        state::count(s, state::JOURNALS_ABOVE);
-    }
+// Whether the record at a place of a journal is cut in a field that could only come to lie above its limit.
+fn is_cut_above(journal: &[u8], place: usize) -> bool {
+    matches!(
+        wire::read_record(&mut Reader::new(journal, place)),
+        Err(reader::Broken {
+            fault: Fault::CutAbove,
+            ..
+        })
+    )
 }
 
 // A refusal is counted, by its number and by what was broken.
-pub fn count(s: &mut State, journals: &Journals, number: usize) {
-    state::count(s, num::add(state::REFUSED, number % 32));
-    if state::get(s, state::CALL) == call::TAKE {
-        count_message(s, number);
+pub fn count(totals: &mut Totals, journal: &Journal, call: &Call, refused: Refused) {
+    totals::count_at(&mut totals.refused, refused.number % 32);
+    if let Request::Take(take) = &call.request {
+        count_message(&mut totals.broken, &take.message, refused);
     }
-    if number == 21 {
-        count_journal(s, journals);
+    if refused.number == 21
+        && is_cut_above(&journal.first[..call.room.min(JOURNAL)], refused.place)
+    {
+        totals::count(&mut totals.broken.journals_above);
     }
 }

@@ -1,141 +1,119 @@
 // Demand 3: an answer is on the plan, at most one edge from each other answer, and on a path between started inputs; and each sound board has one at the end.
-use random_votes_draw::plans;
-use random_votes_state::state;
-use random_votes_state::state::State;
-use second_wire::num;
+use random_votes_state::seats::BOARDS;
+use random_votes_state::totals;
+use random_votes_state::totals::Totals;
+use random_votes_state::vote::{SeatState, Started, Vote, note};
 
-// The vote and the call are noted at a place, if none is.
-pub fn note_place(s: &mut State, place: usize) {
-    if state::get(s, place) == 0 {
-        let vote = num::next(state::get(s, state::VOTES));
-        state::set(s, place, vote);
-        let call = state::get(s, state::CALLS);
-        state::put(s, place, 1, call);
-    }
+// An answer against demand 3 or against the claims of pairs and counts, or a missing one. (`judge::difference` counts in another field.)
+pub fn fault(v: &mut Vote, totals: &mut Totals) {
+    let here = v.noted();
+    note(&mut totals.faulty_answers, &mut v.firsts.fault, here);
 }
 
-// An answer against demand 3 or against the claim of pairs, or a missing one.
-pub fn fault(s: &mut State) {
-    state::count(s, state::FAULTY_ANSWERS);
-    note_place(s, state::FIRST_FAULT);
-}
-
-// Whether y lies on the path between the inputs of two started boards.
-fn is_between(s: &State, y: usize, i: usize, j: usize) -> bool {
-    if state::of(s, state::STARTED, i) == 0 {
-        return false;
-    }
-    if state::of(s, state::STARTED, j) == 0 {
-        return false;
-    }
-    let a = state::of(s, state::POSITION, i);
-    let b = state::of(s, state::POSITION, j);
-    num::add(plans::distance(s, a, y), plans::distance(s, y, b)) == plans::distance(s, a, b)
+// Whether y lies on the path between the inputs of two starts.
+fn is_between(v: &Vote, y: usize, a: Started, b: Started) -> bool {
+    v.plan.is_between(y, a.position, b.position)
 }
 
 // Whether y lies on the path between two started inputs.
-fn is_in_hull(s: &State, y: usize) -> bool {
-    for k in 0..256 {
-        if is_between(s, y, k / 16, k % 16) {
-            return true;
-        }
-    }
-    false
+fn is_in_hull(v: &Vote, y: usize) -> bool {
+    let boards = v.seats.boards();
+    boards.iter().any(|a| is_hull_end(v, y, a))
 }
 
-// How far y lies from the answer that a board holds.
-fn distance_to(s: &State, y: usize, b: usize) -> usize {
-    let held = state::of(s, state::HELD, b);
-    if held == 0 {
-        return 0;
+// Whether y lies on the path between a board's input and another's.
+fn is_hull_end(v: &Vote, y: usize, board: &SeatState) -> bool {
+    match board.started {
+        None => false,
+        Some(a) => v.seats.boards().iter().any(|other| other
+            .started
+            .is_some_and(|b| is_between(v, y, a, b))),
     }
-    plans::distance(s, y, num::less(held, 1))
 }
 
-// The greatest distance from y to an answer.
-fn spread(s: &State, y: usize) -> usize {
+// The greatest distance from y to an answer that a board holds.
+fn spread(v: &Vote, y: usize) -> usize {
     let mut most = 0;
-    for b in 0..16 {
-        most = num::add(most, num::less(distance_to(s, y, b), most));
+    for board in v.seats.boards() {
+        if let Some(held) = board.held {
+            most = most.max(v.plan.distance(y, held));
+        }
     }
     most
 }
 
 // An answer is on the plan, at most one edge from each other answer, and between started inputs.
-fn is_right(s: &State, y: usize) -> bool {
-    if state::get(s, state::LAST) < y {
-        return false;
-    }
-    if 1 < spread(s, y) {
-        return false;
-    }
-    is_in_hull(s, y)
+fn is_right(v: &Vote, y: usize) -> bool {
+    y <= v.plan.last && spread(v, y) <= 1 && is_in_hull(v, y)
 }
 
 // A wrong answer is counted.
-pub fn check(s: &mut State, y: usize) {
-    if is_right(s, y) {
-        return;
+pub fn check(v: &mut Vote, totals: &mut Totals, y: usize) {
+    if !is_right(v, y) {
+        fault(v, totals);
     }
-    fault(s);
 }
 
-// The board holds this answer, given as its code plus 1, or none, given as 0: it is checked when it is new, and never changes, nor goes but in a cut before
-// it was read.
-pub fn hold(s: &mut State, b: usize, answer: usize) {
-    let held = state::of(s, state::HELD, b);
-    if answer == 0 {
-        if held != 0 {
-            fault(s);
-        }
-        state::put(s, state::HELD, b, 0);
+// The board holds this answer, or none: it is on the plan, checked when it is new, and never changes, nor goes but in a cut before it was read.
+pub fn hold(v: &mut Vote, totals: &mut Totals, b: usize, answer: Option<i64>) {
+    let before = v.seats.board(b).held;
+    let held = answer.and_then(|reading| v.plan.position(reading));
+    if answer.is_some() && held.is_none() {
+        fault(v, totals);
+    }
+    if before == held {
         return;
     }
-    let y = num::less(num::less(answer, 1), state::get(s, state::LOW));
-    if held == num::next(y) {
-        return;
+    if before.is_some() {
+        fault(v, totals);
     }
-    if held != 0 {
-        fault(s);
+    v.seats.board_mut(b).held = held;
+    if let Some(y) = held {
+        totals::count(&mut totals.answers);
+        check(v, totals, y);
     }
-    state::put(s, state::HELD, b, num::next(y));
-    state::count(s, state::ANSWERS);
-    check(s, y);
 }
 
 // At the end each sound board has an answer, and all are right; how far they lie apart.
-fn conclude_board(s: &mut State, b: usize) -> usize {
-    if state::of(s, state::SOUND, b) == 0 {
+fn conclude_board(v: &mut Vote, totals: &mut Totals, b: usize) -> usize {
+    let board = v.seats.board(b);
+    if !board.is_sound {
         return 0;
     }
-    let held = state::of(s, state::HELD, b);
-    if held == 0 {
-        fault(s);
-        return 0;
+    match board.held {
+        None => {
+            fault(v, totals);
+            0
+        }
+        Some(y) => {
+            check(v, totals, y);
+            spread(v, y)
+        }
     }
-    check(s, num::less(held, 1));
-    spread(s, num::less(held, 1))
 }
 
 // A vote in which cuts lost messages is counted, and once more where its end is as demand 3 says: each sound board has an answer.
-fn count_through(s: &mut State, faults: usize) {
-    if state::get(s, state::LOSSES_HERE) == 1 {
-        state::count(s, state::LOSSY_VOTES);
-        if state::get(s, state::FAULTY_ANSWERS) == faults {
-            state::count(s, state::CAME_THROUGH);
+fn count_through(v: &Vote, totals: &mut Totals, is_right: bool) {
+    if v.loses_messages {
+        totals::count(&mut totals.cuts.lossy_votes);
+        if is_right {
+            totals::count(&mut totals.cuts.came_through);
         }
     }
 }
 
 // The end of a vote.
-pub fn conclude(s: &mut State) {
-    let faults = state::get(s, state::FAULTY_ANSWERS);
-    let mut most = 0;
-    for b in 0..16 {
-        most = num::add(most, conclude_board(s, b));
+pub fn conclude(v: &mut Vote, totals: &mut Totals) {
+    let faults = totals.faulty_answers;
+    let mut is_split = false;
+    for b in 0..BOARDS {
+        if 0 < conclude_board(v, totals, b) {
+            is_split = true;
+        }
     }
-    if 0 < most {
-        state::count(s, state::SPLIT_VOTES);
+    if is_split {
+        totals::count(&mut totals.split_votes);
     }
-    count_through(s, faults);
+    let is_right = totals.faulty_answers == faults;
+    count_through(v, totals, is_right);
 }

@@ -1,227 +1,231 @@
 // What a call did is compared, and what it leaves is kept.
 use crate::{broken, demand, records};
-use random_buffers::{OUTGOING, Out};
 use random_votes_seats::cuts;
-use random_votes_state::call::Journals;
-use random_votes_state::state::State;
-use random_votes_state::{call, pool, random, state};
-use second_wire::{group, num};
+use random_votes_state::both::{Journal, OUTGOING, Outgoing};
+use random_votes_state::call::{Call, Origin, Request, Start, Take};
+use random_votes_state::message::Fields;
+use random_votes_state::outcome::Outcome;
+use random_votes_state::pool::Messages;
+use random_votes_state::seats::{Seat, Seats};
+use random_votes_state::totals;
+use random_votes_state::totals::Totals;
+use random_votes_state::vote::{Phase, Stage, Started, Telling, Vote, key, note};
+use second_wire::group;
 
 // A call on which the implementations differ.
-pub fn difference(s: &mut State) {
-    state::count(s, state::DIFFERENCES);
-    demand::note_place(s, state::FIRST_DIFFERENCE);
+pub fn difference(v: &mut Vote, totals: &mut Totals) {
+    let here = v.noted();
+    note(&mut totals.differences, &mut v.firsts.difference, here);
 }
 
-// What the calls gave is the same.
-fn is_same_result(s: &State) -> bool {
-    for i in 0..8 {
-        if state::of(s, state::FIRST, i) != state::of(s, state::SECOND, i) {
-            return false;
-        }
+// A message that a board handed over is kept for all.
+fn keep_message(v: &mut Vote, totals: &mut Totals, message: &[u8], b: usize) {
+    let fields = Fields::of(message, v.number_length());
+    v.top = v.top.max(fields.level);
+    totals::count_at(&mut totals.kinds, fields.kind % 8);
+    v.pool.keep(message, b);
+}
+
+// Up to `most` of the messages are handed over, which guards the records; how many.
+fn hand_first(v: &mut Vote, totals: &mut Totals, messages: &[u8], b: usize, most: usize) -> usize {
+    let mut handed = 0usize;
+    for message in Messages::new(messages, v.number_length()).take(most) {
+        keep_message(v, totals, message, b);
+        handed = handed.saturating_add(1);
     }
-    true
-}
-
-// Results, lent journals and whole outgoing buffers are the same.
-fn is_same(s: &State, journals: &Journals, out: &Out) -> bool {
-    if is_same_result(s) {
-        let from = call::journal_at(state::get(s, state::SEAT));
-        let to = num::add(from, state::get(s, state::ROOM));
-        if random_buffers::is_same(journals, call::SECOND_JOURNALS, from, to) {
-            return random_buffers::is_same(out, OUTGOING, 0, OUTGOING);
-        }
-    }
-    false
-}
-
-// The results of the last call are forgotten.
-pub fn clear(s: &mut State) {
-    for i in 0..32 {
-        state::put(s, state::FIRST, i, 0);
-    }
-}
-
-// A cut comes, after some of the messages, which have at most eight bytes each.
-fn hand_some(s: &mut State, out: &[u8], b: usize, sent: usize) {
-    let most = random::below(s, num::add(3, sent / 8));
-    hand_first(s, out, b, sent, most);
-    cuts::cut(s, b);
-}
-
-// Up to `most` messages are handed over, which guards the records; those of a restore are counted.
-fn hand_first(s: &mut State, out: &[u8], b: usize, sent: usize, most: usize) {
-    let handed = pool::hand_over(s, out, sent, b, most);
     if 0 < handed {
-        guard(s, b);
+        guard(v, b);
     }
-    if state::get(s, state::CALL) == call::RESTORE {
-        state::grow(s, state::GIVEN_AGAIN, handed);
+    handed
+}
+
+// All messages of a call are handed over, or a cut comes after some of them, which have at most eight bytes each; how many are.
+fn hand(v: &mut Vote, totals: &mut Totals, messages: &[u8], b: usize) -> usize {
+    let sent = messages.len();
+    if !cuts::comes(v, 24) {
+        return hand_first(v, totals, messages, b, sent);
     }
+    let most = v.random.below((sent / 8).saturating_add(3));
+    let handed = hand_first(v, totals, messages, b, most);
+    cuts::cut(v, totals, b);
+    handed
 }
 
 // A cut must leave all used bytes.
-fn guard(s: &mut State, b: usize) {
-    let used = state::of(s, state::USED, b);
-    state::put(s, state::GUARDED, b, used);
+fn guard(v: &mut Vote, b: usize) {
+    let seat = v.seats.board_mut(b);
+    seat.guarded = seat.used;
 }
 
-// All messages of a call are handed over, or a cut comes.
-fn hand(s: &mut State, out: &[u8], b: usize, sent: usize) {
-    if cuts::comes(s, 24) {
-        hand_some(s, out, b, sent);
-        return;
-    }
-    hand_first(s, out, b, sent, sent);
+// A board's accepted call, what it gave, and the messages that it made.
+#[derive(Clone, Copy)]
+struct Accepted<'a> {
+    board: usize,
+    call: &'a Call,
+    outcome: &'a Outcome,
+    messages: &'a [u8],
 }
 
-// The journal has the used length that the call gave.
-fn keep_used(s: &mut State, b: usize) {
-    let used = state::of(s, state::FIRST, call::USED);
-    state::put(s, state::USED, b, used);
-}
-
-// The answer that the board holds now, or none.
-fn keep_answer(s: &mut State, b: usize) {
-    let answer = state::of(s, state::FIRST, call::ANSWER);
-    demand::hold(s, b, answer);
-}
-
-// What a start, take or restore leaves.
-fn after_call(s: &mut State, out: &[u8], b: usize) {
-    keep_used(s, b);
-    keep_answer(s, b);
-    hand(s, out, b, state::of(s, state::FIRST, call::SENT));
+// What a start, take or restore leaves: the journal's used length, the answer that the board holds now, and messages; how many of them are handed over.
+fn after_call(v: &mut Vote, totals: &mut Totals, accepted: Accepted) -> usize {
+    let b = accepted.board;
+    v.seats.board_mut(b).used = accepted.outcome.used;
+    demand::hold(v, totals, b, accepted.outcome.answer);
+    hand(v, totals, accepted.messages, b)
 }
 
 // What a start leaves.
-fn after_start(s: &mut State, out: &[u8], b: usize) {
-    let position = records::position(s);
-    state::count(s, num::add(state::POSITION_LENGTHS, group::size(position)));
-    state::put(s, state::STARTED, b, 1);
-    state::put(s, state::POSITION, b, position);
-    let end = state::of(s, state::FIRST, call::USED);
-    state::put(s, state::START_END, b, end);
-    after_call(s, out, b);
+fn after_start(v: &mut Vote, totals: &mut Totals, accepted: Accepted, start: &Start) {
+    let position = records::position(v, start);
+    totals::count_at(&mut totals.lengths.positions, group::size(position));
+    v.seats.board_mut(accepted.board).started = Some(Started {
+        position,
+        end: accepted.outcome.used,
+    });
+    after_call(v, totals, accepted);
 }
 
 // "every record that a restore gave back" is guarded. Messages that are handed over again may be forgotten ones.
-fn after_restore(s: &mut State, out: &[u8], b: usize) {
-    if state::of(s, state::FIRST, call::USED) < state::get(s, state::ROOM) {
-        state::count(s, state::TORN);
+fn after_restore(v: &mut Vote, totals: &mut Totals, accepted: Accepted) {
+    let used = accepted.outcome.used;
+    if used < accepted.call.room {
+        totals::count(&mut totals.cuts.torn);
     }
-    keep_used(s, b);
-    guard(s, b);
-    state::put(s, state::STAGE, b, call::UP);
-    state::set(s, state::CUT_HERE, 1);
-    after_call(s, out, b);
+    let seat = v.seats.board_mut(accepted.board);
+    seat.guarded = used;
+    seat.stage = Stage::Up;
+    v.round.is_cut = true;
+    let handed = after_call(v, totals, accepted);
+    totals::grow(&mut totals.cuts.given_again, handed);
 }
 
 // A reading that gives an answer guards the records.
-fn keep_reading(s: &mut State, b: usize) {
-    guard(s, b);
-    let held = state::of(s, state::HELD, b);
-    state::put(s, state::READ, b, held);
+fn keep_reading(v: &mut Vote, b: usize) {
+    guard(v, b);
+    let seat = v.seats.board_mut(b);
+    seat.read = seat.held;
 }
 
-// An answer was read by another call than the reading: the records are guarded, and a cut may follow. It is counted at a place, and at the next one where nothing
-// else had guarded the last records.
-pub fn keep_other_reading(s: &mut State, b: usize, cuts: usize) {
-    let guarded = state::of(s, state::GUARDED, b);
-    keep_reading(s, b);
-    let guards = (guarded < state::of(s, state::GUARDED, b)) as usize;
-    if cuts::comes(s, 3) {
-        cuts::cut(s, b);
-        state::count(s, cuts);
-        state::grow(s, num::next(cuts), guards);
+// An answer was read by another call than the reading: the records are guarded. Where a cut follows, says whether nothing else had guarded the last of them.
+pub fn keep_other_reading(v: &mut Vote, totals: &mut Totals, b: usize) -> Option<bool> {
+    let guarded = v.seats.board(b).guarded;
+    keep_reading(v, b);
+    let alone = guarded < v.seats.board(b).guarded;
+    if cuts::comes(v, 3) {
+        cuts::cut(v, totals, b);
+        return Some(alone);
     }
+    None
 }
 
 // A cut may follow a reading.
-fn after_reading(s: &mut State, b: usize) {
-    keep_answer(s, b);
-    if 0 < state::of(s, state::FIRST, call::ANSWER) {
-        keep_reading(s, b);
-        if cuts::comes(s, 3) {
-            cuts::cut(s, b);
-            state::count(s, state::READ_CUTS);
+fn after_reading(v: &mut Vote, totals: &mut Totals, b: usize, outcome: &Outcome) {
+    demand::hold(v, totals, b, outcome.answer);
+    if outcome.answer.is_some() {
+        keep_reading(v, b);
+        if cuts::comes(v, 3) {
+            cuts::cut(v, totals, b);
+            totals::count(&mut totals.cuts.after_reading);
         }
     }
 }
 
-// A lie that was taken is counted: by its level, and where another board was told otherwise in messages of this level and kind.
-fn count_lie(s: &mut State, b: usize) {
-    let level = pool::level(s);
-    state::grow(s, num::add(state::LIES_TAKEN, level % 16), 1);
-    let key = pool::key(level, pool::kind(s), state::get(s, state::SENDER));
-    let told = state::of(s, state::TOLD, key);
-    let telling = num::add(num::next(pool::value(s)) % 32, (b % 32) * 32);
-    state::put(s, state::TOLD, key, telling);
-    if told == 0 {
-        return;
+// A lie that was taken is counted: by its level, where another board was told otherwise in messages of this level and kind, and among the last deliveries.
+fn count_lie(v: &mut Vote, totals: &mut Totals, take: &Take, board: usize) {
+    let fields = Fields::of(take.message.as_slice(), v.number_length());
+    totals::count_at(&mut totals.lies, fields.level % 16);
+    let value = fields.value;
+    let key = key(fields.level, fields.kind, take.sender);
+    let before = v.tell(key, Telling { board, value });
+    if before.is_some_and(|told| told.board != board && told.value != value) {
+        totals::count(&mut totals.two_tongued);
     }
-    if told / 32 != telling / 32 {
-        if told % 32 != telling % 32 {
-            state::count(s, state::TWO_TONGUED);
-        }
+    if v.phase == Phase::Delivering {
+        totals::count(&mut totals.last_lies);
     }
 }
 
 // What a take leaves.
-fn after_take(s: &mut State, out: &[u8], b: usize) {
-    if state::get(s, state::LYING) == 1 {
-        count_lie(s, b);
-        if state::get(s, state::PHASE) == call::DELIVERING {
-            state::count(s, state::LAST_LIES);
-        }
+fn after_take(v: &mut Vote, totals: &mut Totals, accepted: Accepted, take: &Take) {
+    let b = accepted.board;
+    match take.origin {
+        Origin::Lie => count_lie(v, totals, take, b),
+        Origin::Pool(i) => v.pool.take(b, i, accepted.outcome.used),
+        Origin::Other => (),
     }
-    let picked = state::get(s, state::PICKED);
-    if 0 < picked {
-        let used = state::of(s, state::FIRST, call::USED);
-        pool::set_taken(s, b, num::less(picked, 1), used);
-    }
-    after_call(s, out, b);
+    after_call(v, totals, accepted);
 }
 
 // What a board's call leaves.
-fn after_board(s: &mut State, out: &[u8], b: usize) {
-    let call = state::get(s, state::CALL);
-    match call {
-        1 => state::put(s, state::STAGE, b, call::UP),
-        2 => after_start(s, out, b),
-        3 => after_take(s, out, b),
-        4 => after_reading(s, b),
-        _ => after_restore(s, out, b),
+fn after_board(v: &mut Vote, totals: &mut Totals, accepted: Accepted) {
+    let b = accepted.board;
+    match &accepted.call.request {
+        Request::SetUp(_) => v.seats.board_mut(b).stage = Stage::Up,
+        Request::Start(start) => after_start(v, totals, accepted, start),
+        Request::Take(take) => after_take(v, totals, accepted, take),
+        Request::Read => after_reading(v, totals, b, accepted.outcome),
+        Request::Restore(_) => after_restore(v, totals, accepted),
     }
 }
 
 // An accepted call is counted, and kept.
-fn after_accepted(s: &mut State, out: &[u8], b: usize) {
-    let call = state::get(s, state::CALL);
-    state::grow(s, num::add(state::ACCEPTED, call), 1);
-    if b == call::BENCH {
-        keep_used(s, b);
-        state::put(s, state::STAGE, b, call::UP);
-        return;
+fn after_accepted(
+    v: &mut Vote,
+    totals: &mut Totals,
+    out: &Outgoing,
+    call: &Call,
+    outcome: &Outcome,
+) {
+    totals::count_at(&mut totals.accepted, call.request.place());
+    match call.seat {
+        Seat::Board(board) => {
+            let messages = &out.first[..outcome.sent.min(OUTGOING)];
+            let accepted = Accepted {
+                board,
+                call,
+                outcome,
+                messages,
+            };
+            after_board(v, totals, accepted);
+        }
+        Seat::Bench => {
+            let bench = v.seats.at_mut(Seat::Bench);
+            bench.used = outcome.used;
+            bench.stage = Stage::Up;
+        }
     }
-    after_board(s, out, b);
 }
 
-// Compares what the two implementations gave, and keeps what the first did, where there was a call.
-pub fn judge(s: &mut State, journals: &Journals, out: &Out) {
-    if state::get(s, state::CALL) == call::NO_CALL {
-        return;
+// What both implementations gave: results, lent journals and whole outgoing buffers.
+fn is_same(
+    call: &Call,
+    journal: &Journal,
+    out: &Outgoing,
+    first: &Outcome,
+    second: &Outcome,
+) -> bool {
+    first == second && journal.is_same(call.room) && out.is_same(OUTGOING)
+}
+
+// Compares what the two implementations gave, and keeps what the first did.
+pub fn judge(
+    v: &mut Vote,
+    totals: &mut Totals,
+    journals: &Seats<Journal>,
+    out: &Outgoing,
+    call: &Call,
+    first: &Outcome,
+    second: &Outcome,
+) {
+    v.calls = v.calls.saturating_add(1);
+    totals::count(&mut totals.calls);
+    let journal = journals.at(call.seat);
+    if !is_same(call, journal, out, first, second) {
+        difference(v, totals);
     }
-    state::count(s, state::CALLS);
-    if !is_same(s, journals, out) {
-        difference(s);
-    }
-    let b = state::get(s, state::SEAT);
-    let number = state::of(s, state::FIRST, call::NUMBER);
-    records::count(s, b, number);
-    if number == 0 {
-        after_accepted(s, out, b);
-    } else {
-        broken::count(s, journals, number);
+    records::count(v, totals, call, first);
+    match first.verdict {
+        Ok(()) => after_accepted(v, totals, out, call, first),
+        Err(refused) => broken::count(totals, journal, call, refused),
     }
 }

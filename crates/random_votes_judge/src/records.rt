@@ -1,58 +1,49 @@
 // How long the record of a call is, and whether it just fits.
-use random_votes_state::state::State;
-use random_votes_state::{call, state};
-use second_wire::{group, num, wire};
+use random_votes_state::call::{Call, Request, Start};
+use random_votes_state::outcome::Outcome;
+use random_votes_state::seats::Seat;
+use random_votes_state::totals;
+use random_votes_state::totals::Totals;
+use random_votes_state::vote::Vote;
+use second_wire::{group, wire};
 
-// The position of the input.
-pub fn position(s: &State) -> usize {
-    num::less(state::get(s, state::INPUT), state::get(s, state::LOW))
+// The position of a start's input, or 0.
+pub fn position(v: &Vote, start: &Start) -> usize {
+    v.plan.position(start.input).unwrap_or(0)
 }
 
-// How many bytes the record of the start or take has: tag, agreement number and position, or tag, sender and message.
-fn record_length(s: &State, call: usize) -> usize {
-    if call == call::START {
-        let head = num::add(
-            group::size(wire::START),
-            state::get(s, state::NUMBER_LENGTH),
-        );
-        return num::add(head, group::size(position(s)));
+// How many bytes the record of a start or take has: tag, agreement number and position, or tag, sender and message. A set-up, reading or restore has none, and the bench's
+// start may be on another plan.
+fn record_length(v: &Vote, call: &Call) -> Option<usize> {
+    match &call.request {
+        Request::Start(start) if call.seat != Seat::Bench => Some(
+            group::size(wire::START)
+                .saturating_add(v.number_length())
+                .saturating_add(group::size(position(v, start))),
+        ),
+        Request::Take(take) => Some(
+            group::size(wire::TAKEN)
+                .saturating_add(group::size(take.sender))
+                .saturating_add(take.message.len()),
+        ),
+        _ => None,
     }
-    let head = num::add(
-        group::size(wire::TAKEN),
-        group::size(state::get(s, state::SENDER)),
-    );
-    num::add(head, state::get(s, state::MESSAGE_LENGTH))
 }
 
 // A record at the border of question 17 is counted.
-fn count_fit(s: &mut State, call: usize, number: usize) {
-    let used = state::get(s, state::CALL_USED);
-    let end = num::add(used, record_length(s, call));
-    let room = state::get(s, state::ROOM);
-    let length = state::get(s, state::NUMBER_LENGTH);
-    if number == 17 {
-        if end == num::next(room) {
-            state::count(s, num::add(state::BYTE_SHORT, length));
+pub fn count(v: &Vote, totals: &mut Totals, call: &Call, outcome: &Outcome) {
+    let Some(length) = record_length(v, call) else {
+        return;
+    };
+    let end = call.used.saturating_add(length);
+    let lengths = &mut totals.lengths;
+    match outcome.verdict {
+        Err(refused) if refused.number == 17 && end == call.room.saturating_add(1) => {
+            totals::count_at(&mut lengths.byte_short, v.number_length());
         }
-    }
-    if number == 0 {
-        if end == room {
-            if state::of(s, state::FIRST, call::USED) == end {
-                state::count(s, num::add(state::FILLED, length));
-            }
+        Ok(()) if end == call.room && outcome.used == end => {
+            totals::count_at(&mut lengths.filled, v.number_length());
         }
-    }
-}
-
-// The same of a take, and of a board's start; the bench's may be on another plan.
-pub fn count(s: &mut State, b: usize, number: usize) {
-    let call = state::get(s, state::CALL);
-    if call == call::TAKE {
-        count_fit(s, call, number);
-    }
-    if call == call::START {
-        if b != call::BENCH {
-            count_fit(s, call, number);
-        }
+        _ => (),
     }
 }

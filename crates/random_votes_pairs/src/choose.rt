@@ -1,78 +1,66 @@
 // Which pair is read of two votes that run side by side.
-ghost use Rattle.std.specs.Prelude.{◌<◌};
-
-use random_numbers::{drawn, shifted};
-use random_votes_seats::seats;
-use random_votes_state::state::State;
-use random_votes_state::{call, pair, state};
-
-// A number below k, by numbers apart from those of the votes.
-fn below(s: &mut State, k: usize) -> usize {
-    let x = shifted(state::get(s, pair::SEED));
-    state::set(s, pair::SEED, x);
-    drawn(x, k)
-}
+use random_votes_state::random::Random;
+use random_votes_state::seats::Seat;
+use random_votes_state::vote::{Phase, Vote};
 
 // Now and then the second vote gets the first's agreement number.
-pub fn begin(s: &mut State, w: &mut State) {
-    if below(s, 16) == 0 {
-        let number = state::get(s, state::NUMBER);
-        state::set(w, state::NUMBER, number);
-        let length = state::get(s, state::NUMBER_LENGTH);
-        state::set(w, state::NUMBER_LENGTH, length);
+pub fn begin(random: &mut Random, first: &Vote, second: &mut Vote) {
+    if random.below(16) == 0 {
+        second.agreement = first.agreement;
     }
 }
 
 // Whether both votes have ended.
-pub fn is_over(s: &State, w: &State) -> bool {
-    if state::get(s, state::PHASE) == call::DONE {
-        return state::get(w, state::PHASE) == call::DONE;
-    }
-    false
+pub fn is_over(first: &Vote, second: &Vote) -> bool {
+    first.phase == Phase::Done && second.phase == Phase::Done
 }
 
 // Whether the vote may give one of the readings of a pair answer: it is on a range, and the seat has a party.
-fn may_answer(s: &State, seat: usize) -> bool {
-    if state::get(s, state::KIND) == 2 {
-        return seats::is_up(s, seat);
-    }
-    false
+fn may_answer(v: &Vote, seat: Seat) -> bool {
+    v.plan.is_range() && v.seats.at(seat).is_up()
 }
 
 // Of how many turns one is followed by a pair reading: each where both boards may answer.
-fn often(s: &State, w: &State, seat: usize) -> usize {
-    if seat < call::BENCH {
-        if may_answer(s, seat) {
-            if may_answer(w, seat) {
-                return 1;
-            }
-        }
-    }
-    32
-}
-
-// The seat whose pair is read in this turn, if one is: that of the first or the second vote's call.
-pub fn seat(s: &mut State, w: &State) -> usize
-    ensures { result < 17 }
-{
-    let seat = if below(s, 2) == 0 {
-        state::get(s, state::SEAT)
+fn often(first: &Vote, second: &Vote, seat: Seat) -> usize {
+    if seat != Seat::Bench && may_answer(first, seat) && may_answer(second, seat) {
+        1
     } else {
-        state::get(w, state::SEAT)
-    };
-    let is_read = (below(s, often(s, w, seat)) == 0) as usize;
-    state::set(s, pair::IS_READ, is_read);
-    if seat < 17 {
-        return seat;
+        32
     }
-    call::BENCH
 }
 
-// In which order it is read: now and then one of the records with itself, else either of them first.
-pub fn order(s: &mut State) -> usize {
-    let how = below(s, 32);
-    if how < 4 {
-        return how;
+// The seat whose pair is read in this turn, if one is: that of the first or the second vote's call, or where there is none the bench.
+pub fn seat(
+    random: &mut Random,
+    first: &Vote,
+    second: &Vote,
+    called: (Option<Seat>, Option<Seat>),
+) -> Option<Seat> {
+    let (one, other) = called;
+    let called = if random.below(2) == 0 { one } else { other };
+    let seat = called.unwrap_or(Seat::Bench);
+    if random.below(often(first, second, seat)) == 0 {
+        Some(seat)
+    } else {
+        None
     }
-    2 + how % 2
+}
+
+// In which order a pair is read.
+#[derive(Clone, Copy, PartialEq, Eq)]
+pub enum Order {
+    FirstTwice,
+    SecondTwice,
+    SecondFirst,
+    FirstFirst,
+}
+
+// Now and then one of the records with itself, else either of them first.
+pub fn draw_order(random: &mut Random) -> Order {
+    match random.below(32) {
+        0 => Order::FirstTwice,
+        1 => Order::SecondTwice,
+        how if how % 2 == 0 => Order::SecondFirst,
+        _ => Order::FirstFirst,
+    }
 }

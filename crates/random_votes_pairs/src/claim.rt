@@ -1,93 +1,102 @@
 // Document 02's claim of pairs, on boards that are sound and up in both votes: "Answers are at most 1 apart in each reading, and each reading lies between sound ones".
 use crate::read::Given;
 use random_votes_judge::{demand, judge};
-use random_votes_seats::seats;
-use random_votes_state::state::State;
-use random_votes_state::{call, pair, state};
-use second_wire::num;
+use random_votes_state::seats::Seat;
+use random_votes_state::span::Span;
+use random_votes_state::totals::Totals;
+use random_votes_state::vote::Vote;
+use random_votes_state::{span, totals};
 
-// The number by which a pair of sound boards is refused, or 0.
-fn expected(s: &State, w: &State) -> usize {
-    if state::get(s, state::NUMBER) == state::get(w, state::NUMBER) {
-        return 27;
+// The number by which a pair of sound boards is refused, if it is.
+fn expected(first: &Vote, second: &Vote) -> Option<usize> {
+    if first.agreement == second.agreement {
+        return Some(27);
     }
-    if state::get(s, state::KIND) == 1 {
-        return 12;
+    if !first.plan.is_range() || !second.plan.is_range() {
+        return Some(12);
     }
-    if state::get(w, state::KIND) == 1 {
-        return 12;
-    }
-    0
+    None
 }
 
 // How far the vote's pair answers lie apart.
-fn apart(s: &State) -> usize {
-    num::less(state::get(s, pair::GREATEST), state::get(s, pair::LEAST))
-}
-
-// A pair answer, at a position of a range plus 1, is kept among those of the vote; they are at most one apart.
-fn widen(s: &mut State, here: usize) {
-    let least = state::get(s, pair::LEAST);
-    if least == 0 || here < least {
-        state::set(s, pair::LEAST, here);
-    }
-    if state::get(s, pair::GREATEST) < here {
-        state::set(s, pair::GREATEST, here);
-    }
-    if 1 < apart(s) {
-        demand::fault(s);
+fn apart(v: &Vote) -> usize {
+    match v.pair_answers {
+        None => 0,
+        Some(Span { least, greatest }) => greatest.saturating_sub(least),
     }
 }
 
-// One reading of a pair answer, given as its position plus 1: it is the board's answer, near those of the others and between inputs.
-fn keep_reading(s: &mut State, b: usize, here: usize) {
-    if state::of(s, state::HELD, b) == 0 {
-        demand::fault(s);
+// A pair answer at a position is kept among those of the vote; they are at most one apart.
+fn widen(v: &mut Vote, totals: &mut Totals, position: usize) {
+    v.pair_answers = Some(span::widened(v.pair_answers, position));
+    if 1 < apart(v) {
+        demand::fault(v, totals);
     }
-    demand::hold(s, b, num::add(state::get(s, state::LOW), here));
-    demand::check(s, num::less(here, 1));
-    widen(s, here);
-    judge::keep_other_reading(s, b, pair::CUTS);
+}
+
+// One reading of a pair answer: it is the board's answer, near those of the others and between inputs.
+fn keep_reading(v: &mut Vote, totals: &mut Totals, b: usize, reading: i64) {
+    if v.seats.board(b).held.is_none() {
+        demand::fault(v, totals);
+    }
+    demand::hold(v, totals, b, Some(reading));
+    if let Some(position) = v.plan.position(reading) {
+        demand::check(v, totals, position);
+        widen(v, totals, position);
+    }
+    let alone = judge::keep_other_reading(v, totals, b);
+    totals.pairs.readings.count_cut(alone);
 }
 
 // There is no pair answer only where one of the boards has none; that guards nothing.
-fn keep_none(s: &mut State, w: &State, b: usize) {
-    if state::of(s, state::HELD, b) != 0 {
-        if state::of(w, state::HELD, b) != 0 {
-            demand::fault(s);
-        }
+fn keep_none(first: &mut Vote, second: &Vote, totals: &mut Totals, b: usize) {
+    if first.seats.board(b).held.is_some() && second.seats.board(b).held.is_some() {
+        demand::fault(first, totals);
     }
 }
 
-// What a pair reading of sound boards gave: the first vote's answer and the second's.
-fn keep_sound(s: &mut State, w: &mut State, b: usize, g: Given) {
-    if g.number != expected(s, w) {
-        demand::fault(s);
+// The first vote's answer and the second's.
+fn keep_answers(
+    first: &mut Vote,
+    second: &mut Vote,
+    totals: &mut Totals,
+    b: usize,
+    (one, other): (i64, i64),
+) {
+    keep_reading(first, totals, b, one);
+    keep_reading(second, totals, b, other);
+    totals::count(&mut totals.pairs.readings.answers);
+}
+
+// What a pair reading of sound boards gave.
+fn keep_sound(first: &mut Vote, second: &mut Vote, totals: &mut Totals, b: usize, given: Given) {
+    let refused = given.err().map(|refused| refused.number);
+    if refused != expected(first, second) {
+        demand::fault(first, totals);
     }
-    if g.number == 0 {
-        if g.first == 0 {
-            keep_none(s, w, b);
-            return;
-        }
-        keep_reading(s, b, g.first);
-        keep_reading(w, b, g.second);
-        state::count(s, pair::ANSWERS);
+    match given {
+        Err(_) => (),
+        Ok(None) => keep_none(first, second, totals, b),
+        Ok(Some(readings)) => keep_answers(first, second, totals, b, readings),
     }
 }
 
 // The same of any seat; only sound boards and the bench are ever up.
-pub fn keep(s: &mut State, w: &mut State, b: usize, g: Given) {
-    if b < call::BENCH {
-        if seats::is_up(s, b) {
-            if seats::is_up(w, b) {
-                keep_sound(s, w, b, g);
-            }
+pub fn keep(first: &mut Vote, second: &mut Vote, totals: &mut Totals, seat: Seat, given: Given) {
+    if let Seat::Board(b) = seat {
+        if first.seats.board(b).is_up() && second.seats.board(b).is_up() {
+            keep_sound(first, second, totals, b, given);
         }
     }
 }
 
 // The end of two votes: in which of the readings their pair answers are one apart.
-pub fn conclude(s: &mut State, w: &State) {
-    let how = num::add(apart(s), 2 * (apart(w) % 2));
-    state::count(s, num::add(pair::APART, how % 4));
+pub fn conclude(first: &Vote, second: &Vote, totals: &mut Totals) {
+    let pairs = &mut totals.pairs;
+    match (0 < apart(first), 0 < apart(second)) {
+        (true, false) => totals::count(&mut pairs.first_apart),
+        (false, true) => totals::count(&mut pairs.second_apart),
+        (true, true) => totals::count(&mut pairs.both_apart),
+        (false, false) => (),
+    }
 }

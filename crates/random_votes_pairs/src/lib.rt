@@ -5,4 +5,3 @@ pub mod choose;
 pub mod claim;
 pub mod read;
 pub mod results;
-pub mod totals;

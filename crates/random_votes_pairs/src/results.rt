@@ -1,73 +1,75 @@
 // What pair readings came to.
-use random_report::{lines, row};
-use random_votes_state::state::State;
-use random_votes_state::{pair, state};
+// The functions that write rows are alike in form alone: each has its own texts and counts.
+use crate::read::Given;
+use random_report::Row;
+use random_votes_state::totals;
+use random_votes_state::totals::Pairs;
 use second_plan::table::Table;
-use second_wire::num;
 use std::io;
 
 // Whether the table has an answer.
 fn has_answer(table: &Table) -> bool {
-    let found = second::answer(table);
-    found.there
-}
-
-// Who has an answer: both, neither, only the first, only the second.
-fn having(first: &Table, second: &Table) -> usize {
-    if has_answer(first) {
-        if has_answer(second) {
-            return 1;
-        }
-        return 3;
-    }
-    if has_answer(second) {
-        return 4;
-    }
-    2
+    second::answer(table).is_some()
 }
 
 // A pair reading is counted, by its number or by who has an answer.
-pub fn count(s: &mut State, number: usize, first: &Table, second: &Table) {
-    if number == 0 {
-        state::count(s, num::add(pair::FOUND, having(first, second)));
+pub fn count(pairs: &mut Pairs, given: Given, first: &Table, second: &Table) {
+    if let Err(refused) = given {
+        totals::count_at(&mut pairs.refused, refused.number % 32);
         return;
     }
-    state::count(s, num::add(pair::REFUSED, number % 32));
+    totals::count(match (has_answer(first), has_answer(second)) {
+        (true, true) => &mut pairs.answered,
+        (false, false) => &mut pairs.neither,
+        (true, false) => &mut pairs.first_only,
+        (false, true) => &mut pairs.second_only,
+    });
 }
 
-// The lines on pairs.
-pub fn write(rt: &impl Print, s: &State) -> io::Result<()> {
-    row(
-        rt,
-        s,
-        b"pair readings with an answer; without, where neither board has one, only the first, only the second:",
-        pair::FOUND,
-        1,
-        5,
+// The lines on pair readings.
+fn write_readings(rt: &impl Print, pairs: &Pairs) -> io::Result<()> {
+    println!(rt;
+        "pair readings with an answer; without, where neither board has one, only the first, only the second:{}",
+        Row::new(
+            &[
+                0,
+                pairs.answered,
+                pairs.neither,
+                pairs.first_only,
+                pairs.second_only
+            ],
+            1,
+            5
+        )
     )?;
-    let places = [
-        pair::REFUSED + 12,
-        pair::REFUSED + 19,
-        pair::REFUSED + 27,
-        pair::ANSWERS,
-        pair::CUTS,
-        pair::CUTS + 1,
-        pair::APART + 1,
-        pair::APART + 2,
-        pair::APART + 3,
-    ];
-    lines(
-        rt,
-        s,
-        b"pair readings refused by 12\n\
-        by 19\n\
-        by 27\n\
-        pair answers of sound boards\n\
-        cuts after a pair answer\n\
-        of these, cuts at which it alone guarded the last records\n\
-        two votes with pair answers one apart in the first reading only\n\
-        in the second only\n\
-        in both",
-        &places,
+    println!(rt; "pair readings refused by 12 {}", pairs.refused[12])?;
+    println!(rt; "by 19 {}", pairs.refused[19])?;
+    println!(rt; "by 27 {}", pairs.refused[27])
+}
+
+// The lines on pair answers.
+fn write_answers(rt: &impl Print, pairs: &Pairs) -> io::Result<()> {
+    let readings = &pairs.readings;
+    println!(rt; "pair answers of sound boards {}", readings.answers)?;
+    println!(rt; "cuts after a pair answer {}", readings.cuts)?;
+    println!(rt;
+        "of these, cuts at which it alone guarded the last records {}",
+        readings.guards
     )
+}
+
+// The lines on how far they lie apart.
+fn write_apart(rt: &impl Print, pairs: &Pairs) -> io::Result<()> {
+    println!(rt;
+        "two votes with pair answers one apart in the first reading only {}",
+        pairs.first_apart
+    )?;
+    println!(rt; "in the second only {}", pairs.second_apart)?;
+    println!(rt; "in both {}", pairs.both_apart)
+}
+
+pub fn write(rt: &impl Print, pairs: &Pairs) -> io::Result<()> {
+    write_readings(rt, pairs)?;
+    write_answers(rt, pairs)?;
+    write_apart(rt, pairs)
 }

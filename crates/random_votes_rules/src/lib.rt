@@ -6,120 +6,127 @@ pub mod traces;
 
 use level::Level;
 use party::Party;
-use random_votes_state::state::State;
-use random_votes_state::{call, state};
-use second_wire::num;
+use random_votes_state::seats::Seat;
+use random_votes_state::totals;
+use random_votes_state::totals::{Rules, Totals};
+use random_votes_state::vote::Vote;
+
+// How often each rule was applied, by its number.
+pub type Applied = [usize; 15];
+
+// A level's record before and after a call.
+#[derive(Clone, Copy)]
+pub struct Change<'a> {
+    pub old: &'a Level,
+    pub new: &'a Level,
+}
 
 // Rules 1 to 8 and 11 at a level.
-fn count_marks(s: &mut State, old: Level, new: Level) {
-    for rule in 1..12 {
-        let more = num::less(traces::of(new, rule), traces::of(old, rule));
-        state::grow(s, num::add(state::APPLIED, rule), more);
+fn count_marks(applied: &mut Applied, level: Change) {
+    for (rule, count) in applied.iter_mut().enumerate() {
+        let more = traces::of(level.new, rule).saturating_sub(traces::of(level.old, rule));
+        totals::grow(count, more);
     }
 }
 
 // The rule that gave the output, but for rule 11, which is counted by its mark.
-fn count_output(s: &mut State, old: Level, new: Level, next: Level) {
-    if traces::has_output(old) {
+fn count_output(applied: &mut Applied, level: Change, next: Change) {
+    if traces::has_output(level.old) || !traces::has_output(level.new) {
         return;
     }
-    if traces::has_output(new) {
-        let rule = traces::output_rule(new, next);
-        if rule != 11 {
-            state::grow(s, num::add(state::APPLIED, rule), 1);
-        }
+    let rule = traces::output_rule(level.new, next.new);
+    if rule != 11 {
+        totals::count_at(applied, rule);
     }
 }
 
 // The rule that entered the next level.
-fn count_entry(s: &mut State, level: Level, old_next: Level, next: Level) {
-    if old_next.entered {
-        return;
-    }
-    if next.entered {
-        state::grow(s, num::add(state::APPLIED, traces::entry_rule(level)), 1);
+fn count_entry(applied: &mut Applied, level: Change, next: Change) {
+    if !next.old.entered && next.new.entered {
+        totals::count_at(applied, traces::entry_rule(level.new));
     }
 }
 
-// The rules at a level that sends, which is one whose port was echoed.
-fn count_level(s: &mut State, old: Level, new: Level, old_next: Level, next: Level) {
-    if new.echoed_port {
-        count_marks(s, old, new);
-        count_output(s, old, new, next);
-        count_entry(s, new, old_next, next);
+// The rules at a level that sends, which is one whose port was echoed, and has a next one.
+fn count_level(applied: &mut Applied, level: Change, next: Change) {
+    if level.new.echoed_port {
+        count_marks(applied, level);
+        count_output(applied, level, next);
+        count_entry(applied, level, next);
     }
 }
 
-// A level that was not entered is.
-fn count_entered(s: &mut State, i: usize, old: Level, new: Level) {
-    if old.entered {
-        return;
+// Whether a board entered the level, and its result by its grade.
+fn count_reach(rules: &mut Rules, i: usize, level: Change) {
+    if !level.old.entered && level.new.entered {
+        totals::count_at(&mut rules.entered, i);
     }
-    if new.entered {
-        state::grow(s, num::add(state::ENTERED, i), 1);
-    }
-}
-
-// The result is counted by its grade.
-fn count_grade(s: &mut State, old: Level, new: Level) {
-    if traces::of(old, 8) < traces::of(new, 8) {
-        state::grow(s, num::add(state::GRADES, traces::grade(new)), 1);
+    if traces::of(level.old, 8) < traces::of(level.new, 8) {
+        totals::count_at(&mut rules.grades, traces::grade(level.new));
     }
 }
 
-// Whether the level was entered, and its result by its grade.
-fn count_reach(s: &mut State, i: usize, old: Level, new: Level) {
-    count_entered(s, i, old, new);
-    count_grade(s, old, new);
+// The change of level i, if there is one.
+fn change_of<'a>(before: &'a Party, after: &'a Party, i: usize) -> Option<Change<'a>> {
+    match (before.levels.get(i), after.levels.get(i)) {
+        (Some(old), Some(new)) => Some(Change { old, new }),
+        _ => None,
+    }
 }
 
-// Level i of a seat whose party was p and is q: its rules and messages and, for a board, what it reached. A last level has no next one.
-fn count_at(s: &mut State, p: Party, q: Party, i: usize, seat: usize) {
-    if i < 16 {
-        let old = p.levels[i];
-        let new = q.levels[i];
-        if seat != call::BENCH {
-            count_reach(s, i, old, new);
+// The rules applied at all levels of a seat; of a board what it reached, of a sound one its messages.
+fn count_levels(
+    v: &Vote,
+    totals: &mut Totals,
+    before: &Party,
+    after: &Party,
+    seat: Seat,
+) -> Applied {
+    let mut applied = [0; 15];
+    for i in 0..before.levels.len() {
+        let Some(level) = change_of(before, after, i) else {
+            continue;
+        };
+        let next = change_of(before, after, i + 1);
+        if let Some(next) = next {
+            count_level(&mut applied, level, next);
         }
-        if i < 15 {
-            let old_next = p.levels[i + 1];
-            let next = q.levels[i + 1];
-            count_level(s, old, new, old_next, next);
-            messages::count(s, i, seat, old, new, old_next, next);
-        } else {
-            messages::count(s, i, seat, old, new, old, new);
+        if let Seat::Board(b) = seat {
+            count_reach(&mut totals.rules, i, level);
+            if v.is_sound(b) {
+                messages::count(v, totals, i, level, next);
+            }
         }
     }
+    applied
 }
 
-// All levels.
-fn count_levels(s: &mut State, p: Party, q: Party, seat: usize) {
-    for i in 0..16 {
-        count_at(s, p, q, i, seat);
-    }
-}
-
-// The call's rules go to an area, and are forgotten; how many they were.
-fn book(s: &mut State, area: usize) -> usize {
-    let mut sum = 0;
-    for rule in 1..15 {
-        let count = state::of(s, state::APPLIED, rule);
-        state::grow(s, num::add(area, rule), count);
-        state::put(s, state::APPLIED, rule, 0);
-        sum = num::add(sum, count);
+// The call's rules are added to a row; how many they were.
+fn book(row: &mut [usize; 16], applied: &Applied) -> usize {
+    let mut sum = 0usize;
+    for (total, count) in row.iter_mut().zip(applied) {
+        totals::grow(total, *count);
+        sum = sum.saturating_add(*count);
     }
     sum
 }
 
-// The rules of an accepted start or take of a seat, whose party was p and is q; says whether they are as many as the call reported.
-pub fn count(s: &mut State, p: Party, q: Party, seat: usize) -> bool {
-    let reported = state::of(s, state::FIRST, call::RULES);
+// The rules of an accepted start or take of a seat, by its party before and after it; says whether they are as many as the call reported.
+pub fn count(
+    v: &Vote,
+    totals: &mut Totals,
+    before: &Party,
+    after: &Party,
+    seat: Seat,
+    reported: usize,
+) -> bool {
     if reported == 0 {
         return true;
     }
-    count_levels(s, p, q, seat);
-    if seat == call::BENCH {
-        return book(s, state::BENCH_RULES) == reported;
-    }
-    book(s, state::BOARD_RULES) == reported
+    let applied = count_levels(v, totals, before, after, seat);
+    let row = match seat {
+        Seat::Board(_) => &mut totals.rules.boards,
+        Seat::Bench => &mut totals.rules.bench,
+    };
+    book(row, &applied) == reported
 }

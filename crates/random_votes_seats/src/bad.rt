@@ -1,40 +1,36 @@
 // What every board must refuse, whoever sent it.
-use crate::{lies, seats, spoil};
-use random_votes_state::state::State;
-use random_votes_state::{call, pool, random, state};
+use crate::{calls, lies, spoil};
+use random_votes_state::call::{Call, Origin};
+use random_votes_state::message::{Kind, Message, Said};
+use random_votes_state::seats::Seat;
+use random_votes_state::vote::Vote;
 
 // Another vote's message.
-fn write_other(s: &mut State) {
-    let number = spoil::other_number(s);
-    pool::write(s, number, 0, 1, 0);
+fn other(v: &mut Vote) -> Message {
+    let agreement = spoil::other_number(v);
+    let said = Said {
+        level: 0,
+        kind: Kind::FirstEcho,
+        value: 0,
+    };
+    Message::new(agreement, said)
 }
 
-// A message of the vote, of another vote, or a spoilt one.
-fn write_bad(s: &mut State, how: usize) {
-    match how {
-        0 => lies::write_lie(s),
-        1 => write_other(s),
-        _ => spoil::write(s),
+// Any board, or once in so many times none.
+fn sender(v: &mut Vote, often: usize) -> usize {
+    if v.random.once_in(often) {
+        return v.random.between(v.boards, 40);
     }
+    v.random.below(v.boards)
 }
 
-// The sender is any board, or now and then none: always where nothing else is bad.
-fn draw_sender(s: &mut State, how: usize) {
-    let n = state::get(s, state::BOARDS);
-    let often = if how == 0 { 1 } else { 8 };
-    if random::once_in(s, often) {
-        let nobody = random::between(s, n, 40);
-        state::set(s, state::SENDER, nobody);
-        return;
-    }
-    let sender = random::below(s, n);
-    state::set(s, state::SENDER, sender);
-}
-
-// The board takes what it must refuse.
-pub fn take(s: &mut State, b: usize) -> usize {
-    let how = random::below(s, 5);
-    write_bad(s, how);
-    draw_sender(s, how);
-    seats::plain(s, b, call::TAKE)
+// The board takes a message of the vote from a sender that is no board; or another vote's or a spoilt one, from a board or now and then from none.
+pub fn take(v: &mut Vote, b: usize) -> Call {
+    let (message, often) = match v.random.below(5) {
+        0 => (lies::other_or_any(v), 1),
+        1 => (other(v), 8),
+        _ => (spoil::spoilt(v), 8),
+    };
+    let sender = sender(v, often);
+    calls::take(v, Seat::Board(b), sender, message, Origin::Other)
 }

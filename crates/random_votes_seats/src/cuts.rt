@@ -1,63 +1,62 @@
 // Cuts of the power.
-use random_votes_state::state::State;
-use random_votes_state::{call, pool, queue, random, state};
-
-// The start is lost with its record.
-fn lose_start(s: &mut State, b: usize) {
-    state::put(s, state::STARTED, b, 0);
-    state::put(s, state::START_END, b, 0);
-    state::count(s, state::LOST);
-}
+use random_votes_state::totals;
+use random_votes_state::totals::Totals;
+use random_votes_state::vote::{Phase, Stage, Vote};
 
 // The wire module forgets what the board handed over; or that is on its way already, and arrives late.
-fn lose_queue(s: &mut State, b: usize) {
-    if random::once_in(s, 2) {
-        queue::forget(s, b);
-        state::count(s, state::QUEUES_LOST);
+fn lose_queue(v: &mut Vote, totals: &mut Totals, b: usize) {
+    if v.random.once_in(2) {
+        let sound = v.sound();
+        let lost = v.pool.forget(b, &sound);
+        totals::grow(&mut totals.cuts.messages_lost, lost);
+        if 0 < lost {
+            v.loses_messages = true;
+        }
+        totals::count(&mut totals.cuts.queues_lost);
     }
 }
 
-// A cut leaves the guarded bytes and some more of the first `used`; an answer that was not read is as if not held.
-fn leave(s: &mut State, b: usize, used: usize) {
-    let guarded = state::of(s, state::GUARDED, b);
-    let left = random::between(s, guarded, used);
-    state::put(s, state::LEFT, b, left);
-    state::put(s, state::STAGE, b, call::DOWN);
-    state::set(s, state::CUT_HERE, 1);
-    pool::lose_taken(s, b, left);
-    lose_queue(s, b);
-    state::count(s, state::CUTS);
-    if left < state::of(s, state::START_END, b) {
-        lose_start(s, b);
+// A cut leaves the guarded bytes and some more of the first `used`; a start whose record they do not hold is lost, and an answer that was not read is as if not held.
+fn leave(v: &mut Vote, totals: &mut Totals, b: usize, used: usize) {
+    let seat = v.seats.board_mut(b);
+    let left = v.random.between(seat.guarded, used);
+    seat.left = left;
+    seat.stage = Stage::Down;
+    seat.held = seat.read;
+    if seat.started.is_some_and(|started| left < started.end) {
+        seat.started = None;
+        totals::count(&mut totals.cuts.starts_lost);
     }
-    let read = state::of(s, state::READ, b);
-    state::put(s, state::HELD, b, read);
+    v.round.is_cut = true;
+    v.pool.lose_taken(b, left);
+    lose_queue(v, totals, b);
+    totals::count(&mut totals.cuts.all);
 }
 
 // A cut of a board that is up.
-pub fn cut(s: &mut State, b: usize) {
-    let used = state::of(s, state::USED, b);
-    leave(s, b, used);
+pub fn cut(v: &mut Vote, totals: &mut Totals, b: usize) {
+    let used = v.seats.board(b).used;
+    leave(v, totals, b, used);
 }
 
 // Another cut of a board that is down.
-pub fn cut_again(s: &mut State, b: usize) {
-    let used = state::of(s, state::LEFT, b);
-    leave(s, b, used);
-    state::count(s, state::DOWN_CUTS);
+pub fn cut_again(v: &mut Vote, totals: &mut Totals, b: usize) {
+    let used = v.seats.board(b).left;
+    leave(v, totals, b, used);
+    totals::count(&mut totals.cuts.while_down);
 }
 
 // Whether a cut comes, once in `often` times: any number of times among random steps, a few times later.
-pub fn comes(s: &mut State, often: usize) -> bool {
-    if random::once_in(s, often) {
-        if state::get(s, state::PHASE) == call::PLAYING {
-            return true;
-        }
-        let cuts = state::get(s, state::CUTS_LEFT);
-        if 0 < cuts {
-            state::set(s, state::CUTS_LEFT, cuts - 1);
-            return true;
-        }
+pub fn comes(v: &mut Vote, often: usize) -> bool {
+    if !v.random.once_in(often) {
+        return false;
     }
-    false
+    if v.phase == Phase::Playing {
+        return true;
+    }
+    if v.cuts_left == 0 {
+        return false;
+    }
+    v.cuts_left -= 1;
+    true
 }

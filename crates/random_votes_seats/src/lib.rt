@@ -2,8 +2,8 @@
 #![tactic(auto)]
 
 pub mod bad;
+pub mod calls;
 pub mod cuts;
 pub mod damage;
 pub mod lies;
-pub mod seats;
 pub mod spoil;

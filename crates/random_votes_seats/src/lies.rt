@@ -1,186 +1,143 @@
 // What faulty boards say.
-use crate::seats;
-use random_votes_state::state::State;
-use random_votes_state::{call, pool, random, state};
-use second_wire::num;
+use crate::calls;
+use random_votes_state::call::{Call, Origin};
+use random_votes_state::message::{Fields, Kind, Message, NONE, Said};
+use random_votes_state::seats::{BOARDS, Seat};
+use random_votes_state::vote::{Vote, key};
+use random_votes_state::{message, random};
 
-// Whether the message to be taken comes slowly: by its link, or by its kind, those of none apart.
-pub fn is_slow(s: &State, b: usize) -> bool {
-    let sender = state::get(s, state::SENDER) % 16;
-    if state::of(s, state::SLOW, num::add(sender * 16, b)) == 1 {
-        return true;
-    }
-    let row = pool::kind(s) % 8 * 16;
-    if pool::value(s) == 16 {
-        return state::of(s, state::SLOW_KIND, num::add(row + 128, b)) == 1;
-    }
-    state::of(s, state::SLOW_KIND, num::add(row, b)) == 1
+// Whether a message comes slowly to a board: by its link, or by its kind, those of none apart.
+pub fn is_slow(v: &Vote, sender: usize, message: &Message, b: usize) -> bool {
+    let fields = Fields::of(message.as_slice(), v.number_length());
+    let kind = fields.kind % 8;
+    let row = if fields.value == NONE { kind + 8 } else { kind };
+    is_set(&v.slow.links, sender % 16, b) || is_set(&v.slow.kinds, row, b)
 }
 
-// The first faulty board from `from` on, or 16.
-fn faulty_from(s: &State, from: usize) -> usize {
-    let n = state::get(s, state::BOARDS);
-    for i in from..n {
-        if !seats::is_sound(s, i) {
-            return i;
-        }
-    }
-    16
+// Whether a board is marked in a row.
+fn is_set(rows: &[[bool; BOARDS]; 16], row: usize, b: usize) -> bool {
+    rows.get(row)
+        .and_then(|row| row.get(b))
+        .copied()
+        .unwrap_or(false)
 }
 
-// A faulty board, or 16.
-fn faulty(s: &mut State) -> usize {
-    let n = state::get(s, state::BOARDS);
-    let from = random::below(s, n);
-    let found = faulty_from(s, from);
-    if found < 16 {
-        return found;
+// The first faulty board from `from` on.
+fn faulty_from(v: &Vote, from: usize) -> Option<usize> {
+    (from..v.boards).find(|b| !v.is_sound(*b))
+}
+
+// A faulty board, if there is one.
+fn faulty(v: &mut Vote) -> Option<usize> {
+    let from = v.random.below(v.boards);
+    match faulty_from(v, from) {
+        None => faulty_from(v, 0),
+        found => found,
     }
-    faulty_from(s, 0)
 }
 
 // A small value, none, or any.
-pub fn any_value(s: &mut State) -> usize {
-    let how = random::below(s, 8);
-    if how < 4 {
-        return random::below(s, 3);
+pub fn any_value(v: &mut Vote) -> usize {
+    match v.random.below(8) {
+        0..4 => v.random.below(3),
+        4 => v.random.below(6),
+        5 | 6 => NONE,
+        _ => v.random.below(17),
     }
-    if how < 5 {
-        return random::below(s, 6);
-    }
-    if how < 7 {
-        return 16;
-    }
-    random::below(s, 17)
 }
 
 // The highest level seen, one up to that after it, or any.
-pub fn any_level(s: &mut State) -> usize {
-    let top = state::get(s, state::TOP);
-    if random::once_in(s, 2) {
-        return top;
+pub fn any_level(v: &mut Vote) -> usize {
+    if v.random.once_in(2) {
+        return v.top;
     }
-    if random::once_in(s, 24) {
-        return random::below(s, 15);
+    if v.random.once_in(24) {
+        return v.random.below(15);
     }
-    let level = random::below(s, num::add(top, 2));
-    if 14 < level {
-        return 14;
-    }
-    level
+    v.random.below(v.top.saturating_add(2)).min(14)
 }
 
 // Any message of the vote.
-pub fn write_any(s: &mut State) {
-    let level = any_level(s);
-    let kind = random::between(s, 1, 6);
-    let value = any_value(s);
-    pool::write(s, state::get(s, state::NUMBER), level, kind, value);
+fn any(v: &mut Vote) -> Message {
+    let level = any_level(v);
+    let kind = message::draw_kind(&mut v.random);
+    let value = any_value(v);
+    Message::new(v.agreement, Said { level, kind, value })
 }
 
-// What divides the boards: none to those that are off, a side to the others, or nothing (17).
-fn dividing(s: &State, b: usize, kind: usize) -> usize {
-    let side = num::next(state::get(s, state::SALT) % 2);
-    if kind == 5 {
-        return side;
+// What divides the boards: none to those that are off, a side to the others, or nothing.
+fn dividing(v: &Vote, b: usize, kind: Kind) -> Option<usize> {
+    let side = 1 + v.salt % 2;
+    let off = v.off.get(b).copied().unwrap_or(false);
+    match (off, kind) {
+        (_, Kind::Side) => Some(side),
+        (true, Kind::FirstProposal) | (false, Kind::SecondProposal) => None,
+        (true, _) => Some(NONE),
+        (false, _) => Some(side),
     }
-    if state::of(s, state::OFF, b) == 1 {
-        if kind == 2 {
-            return 17;
-        }
-        return 16;
-    }
-    if kind == 4 {
-        return 17;
-    }
-    side
 }
 
-// A value, none where the kind has it, or nothing at all (17), by a number.
-fn some_saying(x: usize, kind: usize) -> usize {
-    let how = x % 8;
-    if how < 3 {
-        return how;
+// A value, none where the kind has it, or nothing at all, by a number.
+fn some_saying(x: usize, kind: Kind) -> Option<usize> {
+    match x % 8 {
+        small @ 0..3 => Some(small),
+        6.. => None,
+        _ if message::has_none(kind) => Some(NONE),
+        other => Some(other - 2),
     }
-    if 5 < how {
-        return 17;
-    }
-    if kind == 2 || kind == 5 {
-        return how - 2;
-    }
-    16
 }
 
-// What a faulty board mostly says to a board in messages of a level and kind.
-pub fn saying(s: &State, liar: usize, b: usize, level: usize, kind: usize) -> usize {
-    let x = random::fixed(s, pool::key(level, kind, liar), b);
-    if state::get(s, state::DIVIDED) == 1 {
-        if x / 8 % 8 != 0 {
-            return dividing(s, b, kind);
-        }
+// What a faulty board mostly says to a board in messages of a level and kind, if it says anything.
+pub fn saying(v: &Vote, liar: usize, b: usize, level: usize, kind: Kind) -> Option<usize> {
+    let x = random::fixed(v.salt, key(level, kind.number(), liar), b);
+    if v.is_divided && x / 8 % 8 != 0 {
+        return dividing(v, b, kind);
     }
     some_saying(x, kind)
 }
 
-// That message; says whether there is one.
-fn write_said(s: &mut State, liar: usize, b: usize) -> bool {
-    let level = any_level(s);
-    let kind = random::between(s, 1, 6);
-    let value = saying(s, liar, b, level, kind);
-    pool::write(s, state::get(s, state::NUMBER), level, kind, value);
-    value < 17
+// That message, if there is one.
+fn said_message(v: &mut Vote, liar: usize, b: usize) -> Option<Message> {
+    let level = any_level(v);
+    let kind = message::draw_kind(&mut v.random);
+    let value = saying(v, liar, b, level, kind)?;
+    Some(Message::new(v.agreement, Said { level, kind, value }))
 }
 
 // What another board said, or any message.
-pub fn write_lie(s: &mut State) {
-    let pooled = state::get(s, state::POOLED);
-    if random::once_in(s, 3) {
-        let i = random::below(s, pooled);
-        if i < pooled {
-            pool::pick(s, i);
-            return;
+pub fn other_or_any(v: &mut Vote) -> Message {
+    if v.random.once_in(3) {
+        let i = v.random.below(v.pool.len());
+        if let Some(handed) = v.pool.as_slice().get(i) {
+            return Message::from(handed.message.as_slice());
         }
     }
-    write_any(s);
+    any(v)
 }
 
-// Now and then the message is damaged.
-fn spoil_lie(s: &mut State) {
-    let how = random::below(s, 64);
-    if how == 0 {
-        pool::spoil(s);
+// Now and then a message is damaged.
+fn damaged(v: &mut Vote, mut message: Message) -> Message {
+    match v.random.below(64) {
+        0 => message.spoil(&mut v.random),
+        1 => message.cut(&mut v.random),
+        2 => message.lengthen(&mut v.random),
+        _ => (),
     }
-    if how == 1 {
-        pool::cut(s);
-    }
-    if how == 2 {
-        pool::lengthen(s);
-    }
+    message
 }
 
-// A lie to a board; says whether there is one.
-fn lie(s: &mut State, liar: usize, b: usize) -> bool {
-    if state::get(s, state::WILD) == 0 {
-        if random::below(s, 64) != 0 {
-            return write_said(s, liar, b);
-        }
+// A lie to a board, if there is one.
+fn lie(v: &mut Vote, liar: usize, b: usize) -> Option<Message> {
+    if !v.is_wild && v.random.below(64) != 0 {
+        return said_message(v, liar, b);
     }
-    write_lie(s);
-    spoil_lie(s);
-    true
+    let message = other_or_any(v);
+    Some(damaged(v, message))
 }
 
 // The board takes a lie, if some board is faulty.
-pub fn take_lie(s: &mut State, b: usize) -> usize {
-    let liar = faulty(s);
-    if liar == 16 {
-        return call::NOBODY;
-    }
-    if lie(s, liar, b) {
-        let seat = seats::plain(s, b, call::TAKE);
-        state::set(s, state::SENDER, liar);
-        state::set(s, state::LYING, 1);
-        return seat;
-    }
-    call::NOBODY
+pub fn take(v: &mut Vote, b: usize) -> Option<Call> {
+    let liar = faulty(v)?;
+    let message = lie(v, liar, b)?;
+    Some(calls::take(v, Seat::Board(b), liar, message, Origin::Lie))
 }

@@ -1,11 +1,15 @@
-// What random votes are kept in: one table of numbers, pseudo-random numbers, the messages handed over, those that wire modules forgot, and places for pairs and for counts.
+// What random votes are kept in: pseudo-random numbers, plans, messages and those handed over, seats, calls and what they gave, votes, and the counts of a run.
 #![tactic(auto)]
 
+pub mod both;
 pub mod call;
-pub mod count;
-pub mod pair;
+pub mod message;
+pub mod outcome;
+pub mod plan;
 pub mod pool;
-pub mod put;
-pub mod queue;
 pub mod random;
-pub mod state;
+pub mod seats;
+pub mod span;
+pub mod totals;
+pub mod varint;
+pub mod vote;

@@ -1,34 +1,23 @@
 // Pseudo-random numbers.
-use crate::state;
-use crate::state::State;
-use random_numbers::{drawn, shifted};
-use second_wire::num;
+use random_numbers::shifted;
+pub use random_numbers::{Random, byte};
 
-// A number below k, or 0.
-pub fn below(s: &mut State, k: usize) -> usize {
-    drawn(any(s), k)
+// A reading from `low` to `high`, which is not the lesser.
+pub fn reading(random: &mut Random, low: i64, high: i64) -> i64 {
+    let k = high.abs_diff(low).saturating_add(1);
+    low.saturating_add_unsigned(random.below(k as usize) as u64)
 }
 
-// Any number of 64 bits but 0.
-pub fn any(s: &mut State) -> usize {
-    let x = shifted(state::get(s, state::SEED));
-    state::set(s, state::SEED, x);
-    x
+// Each item changes places with any one.
+pub fn exchange<T>(random: &mut Random, items: &mut [T]) {
+    for i in 0..items.len() {
+        let j = random.below(items.len());
+        items.swap(i, j);
+    }
 }
 
-// Once in k times.
-pub fn once_in(s: &mut State, k: usize) -> bool {
-    below(s, k) == 0
-}
-
-// A number from `low` to `high`.
-pub fn between(s: &mut State, low: usize, high: usize) -> usize {
-    let k = num::next(num::less(high, low));
-    num::add(low, below(s, k))
-}
-
-// The number that follows, in this vote, from a key and a seat.
-pub fn fixed(s: &State, key: usize, seat: usize) -> usize {
-    let x = state::get(s, state::SALT) ^ (key << 24) ^ (seat << 40);
+// The number that follows, in a vote with this salt, from a key and a board.
+pub fn fixed(salt: usize, key: usize, board: usize) -> usize {
+    let x = salt ^ (key << 24) ^ (board << 40);
     shifted(shifted(shifted(x))) >> 20
 }

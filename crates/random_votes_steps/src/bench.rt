@@ -1,208 +1,165 @@
 // The bench: spoilt settings, plans and journals, and a party that takes messages from all boards.
-use random_votes_draw::plans;
-use random_votes_seats::{damage, lies, seats};
-use random_votes_state::call::Journals;
-use random_votes_state::state::State;
-use random_votes_state::{call, pool, put, random, state};
-use second_wire::num;
+use random_votes_seats::{calls, damage, lies};
+use random_votes_state::both::Journal;
+use random_votes_state::call::{Call, Origin, Request, Settings, Terms};
+use random_votes_state::message::{Kind, Message, Said};
+use random_votes_state::plan::{Edge, Spelled};
+use random_votes_state::random::Random;
+use random_votes_state::seats::{Seat, Seats};
+use random_votes_state::vote::Vote;
+use random_votes_state::{message, random};
 
 // Settings at and beyond their limits.
-fn spoil_settings(s: &mut State) {
-    let how = random::below(s, 4);
-    let n = random::below(s, 20);
-    let t = random::below(s, 8);
-    let own = random::below(s, 20);
+fn spoil_terms(random: &mut Random, terms: &mut Terms) {
+    let how = random.below(4);
+    let boards = random.below(20) as u32;
+    let faults = random.below(8) as u32;
+    let own = random.below(20) as u32;
     if how != 1 {
-        state::set(s, state::CALL_BOARDS, n);
+        terms.boards = boards;
     }
     if how != 2 {
-        state::set(s, state::CALL_FAULTS, t);
+        terms.faults = faults;
+    }
+    if how == 2 || how == 3 {
+        terms.own = own;
     }
     if how == 3 {
-        state::set(s, state::CALL_OWN, own);
-        state::set(s, state::CALL_FAULTS, num::less(4294967295, t));
-    }
-    if how == 2 {
-        state::set(s, state::CALL_OWN, own);
+        terms.faults = u32::MAX - faults;
     }
 }
 
-// The vote's plan is copied, to be damaged.
-fn copy_plan(s: &mut State) {
-    for i in 0..1200 {
-        let x = state::of(s, state::PLAN, i);
-        state::put(s, state::OTHER_PLAN, i, x);
-    }
-}
-
-// A byte of the copy becomes one below `values`.
-fn spoil_plan_byte(s: &mut State, values: usize) {
-    let length = state::get(s, state::CALL_PLAN_LENGTH);
-    let at = random::below(s, length);
-    let value = random::below(s, values);
-    state::put(s, state::OTHER_PLAN, at, value);
+// A byte of the plan becomes one below `values`, of which there are at most 256.
+fn spoil_byte(random: &mut Random, plan: &mut Spelled, values: usize) {
+    let at = random.below(plan.len());
+    let value = random.below(values) % 256;
+    plan.set(at, value as u8);
 }
 
 // A star, whose sixteenth edge is refused.
-fn put_star(s: &mut State, leaves: usize) {
-    let mut at = put::varint(s, state::OTHER_PLAN, 1);
-    at = put::varint(s, at, num::next(leaves));
-    for k in 0..leaves {
-        at = put::varint(s, at, num::next(k));
-        at = put::varint(s, at, 0);
+fn put_star(plan: &mut Spelled, leaves: usize) {
+    let mut edges = [Edge::default(); 19];
+    for (k, edge) in edges.iter_mut().enumerate() {
+        edge.a = k + 1;
     }
-    state::set(s, state::CALL_PLAN_LENGTH, num::less(at, state::OTHER_PLAN));
+    plan.spell_tree(leaves.saturating_add(1), &edges[..leaves.min(19)]);
 }
 
 // A range whose low reading, width or high reading may be past its limit.
-fn put_limit_range(s: &mut State) {
-    let width = random::between(s, 65530, 65540);
-    let low = random::between(s, call::ZERO + 2147418100, call::ZERO + 2147418125);
-    let length = plans::put_range(s, state::OTHER_PLAN, low, width);
-    state::set(s, state::CALL_PLAN_LENGTH, length);
+fn put_limit_range(random: &mut Random, plan: &mut Spelled) {
+    let width = random.between(65530, 65540);
+    let low = random::reading(random, 2147418100, 2147418125);
+    plan.spell_range(low, width);
 }
 
-// The copy is damaged, or another plan takes its place.
-fn spoil_plan(s: &mut State) {
-    state::set(s, state::CALL_PLAN, state::OTHER_PLAN);
-    let how = random::below(s, 10);
-    let length = state::get(s, state::CALL_PLAN_LENGTH);
-    if how == 0 {
-        let shorter = random::below(s, length);
-        state::set(s, state::CALL_PLAN_LENGTH, shorter);
+// The plan is damaged, or another plan takes its place.
+fn spoil_plan(random: &mut Random, plan: &mut Spelled) {
+    let how = random.below(10);
+    match how {
+        0 => plan.set_len(random.below(plan.len())),
+        1 => plan.set_len(plan.len().saturating_add(1)),
+        2 => put_star(plan, random.between(13, 19)),
+        3 => put_limit_range(random, plan),
+        _ => (),
     }
-    if how == 1 {
-        state::set(s, state::CALL_PLAN_LENGTH, num::next(length));
+    spoil_byte(random, plan, if how < 6 { 256 } else { 14 });
+}
+
+// Spoilt settings, or a spoilt plan.
+fn spoilt_settings(v: &mut Vote, b: usize) -> Settings {
+    let mut settings = v.settings(b);
+    if v.random.once_in(4) {
+        spoil_terms(&mut v.random, &mut settings.terms);
+    } else {
+        v.damaged = v.plan.spelled;
+        spoil_plan(&mut v.random, &mut v.damaged);
+        settings.is_damaged = true;
     }
-    if how == 2 {
-        let leaves = random::between(s, 13, 19);
-        put_star(s, leaves);
-    }
-    if how == 3 {
-        put_limit_range(s);
-    }
-    if how < 6 {
-        spoil_plan_byte(s, 256);
-    }
-    if 5 < how {
-        spoil_plan_byte(s, 14);
-    }
+    settings
 }
 
 // A set-up, or a restore from an empty journal, of spoilt settings or a spoilt plan.
-fn bench_settings(s: &mut State, b: usize) -> usize {
-    seats::own_settings(s, b);
-    copy_plan(s);
-    if random::once_in(s, 4) {
-        spoil_settings(s);
-    } else {
-        spoil_plan(s);
+fn set_up(v: &mut Vote, b: usize) -> Call {
+    let settings = spoilt_settings(v, b);
+    v.seats.at_mut(Seat::Bench).used = 0;
+    if v.random.once_in(4) {
+        return restore(v, settings, 0);
     }
-    state::put(s, state::USED, call::BENCH, 0);
-    if random::once_in(s, 4) {
-        seats::plain(s, call::BENCH, call::RESTORE);
-        seats::set_room(s, 0);
-        seats::lend_out(s);
-        return call::BENCH;
-    }
-    seats::plain(s, call::BENCH, call::SET_UP)
+    v.call(Seat::Bench, Request::SetUp(settings))
+}
+
+// A restore from so many bytes of the bench's journal.
+fn restore(v: &mut Vote, settings: Settings, length: usize) -> Call {
+    let mut call = v.call(Seat::Bench, Request::Restore(settings));
+    call.set_room(length);
+    call.lend_out(&mut v.random);
+    call
 }
 
 // A restore from a board's journal, damaged.
-fn bench_journal(s: &mut State, journals: &mut Journals, board: usize) -> usize {
-    let used = state::of(s, state::USED, board);
-    let from = call::journal_at(board);
-    let to = call::journal_at(call::BENCH);
-    damage::copy(journals, from, to, used);
-    let length = damage::damage(s, journals, call::BENCH, used);
-    seats::own_settings(s, board);
-    seats::plain(s, call::BENCH, call::RESTORE);
-    seats::set_room(s, length);
-    seats::lend_out(s);
-    call::BENCH
+fn restore_damaged(v: &mut Vote, journals: &mut Seats<Journal>, board: usize) -> Call {
+    let used = v.seats.board(board).used;
+    let journal = *journals.board(board);
+    let copy = journals.at_mut(Seat::Bench);
+    copy.copy_from(&journal, used);
+    let length = damage::damage(&mut v.random, copy, used);
+    restore(v, v.settings(board), length)
 }
 
 // One of two values of the kind, or any.
-fn bench_value(s: &mut State, kind: usize) -> usize {
-    let column = random::below(s, 4);
-    let value = lies::saying(s, 0, column, 0, kind);
-    if value < 17 {
-        if column < 2 {
-            return value;
-        }
+fn value(v: &mut Vote, kind: Kind) -> usize {
+    let column = v.random.below(4);
+    match lies::saying(v, 0, column, 0, kind) {
+        Some(value) if column < 2 => value,
+        _ => lies::any_value(v),
     }
-    lies::any_value(s)
 }
 
 // Any message, mostly of level 0.
-fn write_bench(s: &mut State) {
-    let kind = random::between(s, 1, 6);
-    let value = bench_value(s, kind);
-    let number = state::get(s, state::NUMBER);
-    if random::once_in(s, 4) {
-        let level = lies::any_level(s);
-        pool::write(s, number, level, kind, value);
-        return;
-    }
-    pool::write(s, number, 0, kind, value);
+fn any_message(v: &mut Vote) -> Message {
+    let kind = message::draw_kind(&mut v.random);
+    let value = value(v, kind);
+    let level = if v.random.once_in(4) {
+        lies::any_level(v)
+    } else {
+        0
+    };
+    Message::new(v.agreement, Said { level, kind, value })
 }
 
-// Any message, from any board or from none.
-fn bench_take(s: &mut State) -> usize {
-    write_bench(s);
-    let n = state::get(s, state::BOARDS);
-    let sender = random::below(s, n);
-    state::set(s, state::SENDER, sender);
-    if random::once_in(s, 16) {
-        let other = random::below(s, 18);
-        state::set(s, state::SENDER, other);
+// Any message, from any board or from none, unless it comes slowly.
+fn take(v: &mut Vote) -> Option<Call> {
+    let message = any_message(v);
+    let mut sender = v.random.below(v.boards);
+    if v.random.once_in(16) {
+        sender = v.random.below(18);
     }
-    if lies::is_slow(s, 0) {
-        if random::below(s, 24) != 0 {
-            return call::NOBODY;
-        }
+    if lies::is_slow(v, sender, &message, 0) && v.random.below(24) != 0 {
+        return None;
     }
-    seats::plain(s, call::BENCH, call::TAKE)
-}
-
-// A restore from the bench's own journal.
-fn bench_restore(s: &mut State) -> usize {
-    seats::own_settings(s, 0);
-    seats::plain(s, call::BENCH, call::RESTORE);
-    state::copy(s, state::CALL_USED, state::ROOM);
-    seats::lend_out(s);
-    call::BENCH
+    Some(calls::take(v, Seat::Bench, sender, message, Origin::Other))
 }
 
 // A start, take or restore of the party that the bench holds.
-pub fn bench_call(s: &mut State) -> usize {
-    if !seats::is_up(s, call::BENCH) {
-        return call::NOBODY;
+pub fn call(v: &mut Vote) -> Option<Call> {
+    let bench = v.seats.at(Seat::Bench);
+    if !bench.is_up() {
+        return None;
     }
-    let how = random::below(s, 24);
-    if how == 0 {
-        return bench_restore(s);
-    }
-    if how == 1 {
-        let seat = seats::start_anyhow(s, call::BENCH);
-        seats::lend_journal(s);
-        seats::lend_out(s);
-        return seat;
-    }
-    let seat = bench_take(s);
-    seats::lend_journal(s);
-    seats::lend_out(s);
-    seat
+    let used = bench.used;
+    let call = match v.random.below(24) {
+        0 => return Some(restore(v, v.settings(0), used)),
+        1 => Some(calls::start_anyhow(v, Seat::Bench)),
+        _ => take(v),
+    };
+    calls::lend(v, call, true)
 }
 
 // A call of the bench.
-pub fn bench(s: &mut State, journals: &mut Journals, board: usize) -> usize {
-    let how = random::below(s, 8);
-    if how < 3 {
-        return bench_settings(s, board);
+pub fn any_call(v: &mut Vote, journals: &mut Seats<Journal>, board: usize) -> Option<Call> {
+    match v.random.below(8) {
+        0..3 => Some(set_up(v, board)),
+        3 | 4 => Some(restore_damaged(v, journals, board)),
+        _ => call(v),
     }
-    if how < 5 {
-        return bench_journal(s, journals, board);
-    }
-    bench_call(s)
 }

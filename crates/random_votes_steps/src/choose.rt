@@ -1,175 +1,172 @@
 // The next call of a vote.
 use crate::{bench, deliver};
-use random_votes_seats::{bad, cuts, lies, seats};
-use random_votes_state::call::Journals;
-use random_votes_state::state::State;
-use random_votes_state::{call, pool, queue, random, state};
-use second_wire::num;
+use random_votes_seats::{bad, calls, cuts, lies};
+use random_votes_state::both::Journal;
+use random_votes_state::call::{Call, Origin, Request};
+use random_votes_state::message::Message;
+use random_votes_state::seats::{Seat, Seats};
+use random_votes_state::totals::Totals;
+use random_votes_state::vote::{Phase, Vote};
 
 // One of the messages handed over, or of the last twelve.
-fn some_pooled(s: &mut State, pooled: usize) -> usize {
-    if random::once_in(s, 2) {
-        return random::between(s, num::less(pooled, 12), num::less(pooled, 1));
+fn some_pooled(v: &mut Vote) -> usize {
+    let pooled = v.pool.len();
+    if v.random.once_in(2) {
+        return v
+            .random
+            .between(pooled.saturating_sub(12), pooled.saturating_sub(1));
     }
-    random::below(s, pooled)
+    v.random.below(pooled)
 }
 
-// A message handed over, unless it is forgotten or comes slowly.
-fn take_pooled(s: &mut State, b: usize) -> usize {
-    let pooled = state::get(s, state::POOLED);
-    if pooled == 0 {
-        return call::NOBODY;
+// The take of a message handed over, unless it is forgotten or comes slowly.
+fn take_pooled(v: &mut Vote, b: usize) -> Option<Call> {
+    if v.pool.is_empty() {
+        return None;
     }
-    let i = some_pooled(s, pooled);
-    if queue::is_gone(s, i) {
-        return call::NOBODY;
+    let i = some_pooled(v);
+    let handed = v.pool.get(i)?;
+    let sender = handed.sender;
+    let message = Message::from(handed.message.as_slice());
+    if lies::is_slow(v, sender, &message, b) && v.random.below(24) != 0 {
+        return None;
     }
-    pool::pick(s, i);
-    if lies::is_slow(s, b) {
-        if random::below(s, 24) != 0 {
-            return call::NOBODY;
-        }
-    }
-    seats::take_picked(s, b, i)
+    Some(calls::take(v, Seat::Board(b), sender, message, Origin::Pool(i)))
 }
 
 // A start, take, reading or restore of a board that is up.
-fn play_up(s: &mut State, b: usize) -> usize {
-    let how = random::below(s, 128);
-    if how < 2 {
-        return seats::start_anyhow(s, b);
+fn play_up(v: &mut Vote, b: usize) -> Option<Call> {
+    let how = v.random.below(128);
+    let is_started = v.seats.board(b).started.is_some();
+    match how {
+        0 | 1 => Some(calls::start_anyhow(v, Seat::Board(b))),
+        2..12 if !is_started => Some(calls::start_anyhow(v, Seat::Board(b))),
+        2..6 => Some(v.call(Seat::Board(b), Request::Read)),
+        6 => Some(calls::restore(v, b)),
+        7..16 => Some(bad::take(v, b)),
+        _ if how < v.lies.saturating_add(16) => lies::take(v, b),
+        _ => take_pooled(v, b),
     }
-    if how < 12 {
-        if !seats::is_started(s, b) {
-            return seats::start_anyhow(s, b);
-        }
-    }
-    if how < 6 {
-        return seats::plain(s, b, call::READ);
-    }
-    if how < 7 {
-        return seats::restore(s, b);
-    }
-    if how < 16 {
-        return bad::take(s, b);
-    }
-    if how < num::add(16, state::get(s, state::LIES)) {
-        return lies::take_lie(s, b);
-    }
-    take_pooled(s, b)
 }
 
-// The same with what is lent to it.
-fn play_lent(s: &mut State, b: usize) -> usize {
-    let seat = play_up(s, b);
-    if state::get(s, state::CALL) != call::RESTORE {
-        seats::lend_journal(s);
-    }
-    seats::lend_out(s);
-    seat
+// The same with what is lent to it. Where there is no call, numbers are drawn as after the last one: the program's output depends on them.
+fn play_lent(v: &mut Vote, b: usize) -> Option<Call> {
+    let call = play_up(v, b);
+    let is_restore = match &call {
+        Some(call) => call.request.is_restore(),
+        None => v.was_restore,
+    };
+    calls::lend(v, call, !is_restore)
 }
 
 // A step of a board: a call if it is up, a restore or another cut if it is down.
-fn play_board(s: &mut State, b: usize) -> usize {
-    if !seats::is_sound(s, b) {
-        return call::NOBODY;
+fn play_board(v: &mut Vote, totals: &mut Totals, b: usize) -> Option<Call> {
+    if !v.is_sound(b) {
+        return None;
     }
-    if seats::is_up(s, b) {
-        return play_lent(s, b);
+    if v.seats.board(b).is_up() {
+        return play_lent(v, b);
     }
-    if cuts::comes(s, 6) {
-        cuts::cut_again(s, b);
-        return call::NOBODY;
+    if cuts::comes(v, 6) {
+        cuts::cut_again(v, totals, b);
+        return None;
     }
-    let seat = seats::restore(s, b);
-    seats::lend_out(s);
-    seat
+    let mut call = calls::restore(v, b);
+    call.lend_out(&mut v.random);
+    Some(call)
 }
 
 // A random step of a board or of the bench.
-fn play(s: &mut State, journals: &mut Journals) -> usize {
-    let n = state::get(s, state::BOARDS);
-    let b = random::below(s, n);
-    if state::get(s, state::FLOOD) == 1 {
-        if random::once_in(s, 4) {
-            return play_board(s, b);
+fn play(v: &mut Vote, totals: &mut Totals, journals: &mut Seats<Journal>) -> Option<Call> {
+    let b = v.random.below(v.boards);
+    if v.is_flooded {
+        if v.random.once_in(4) {
+            return play_board(v, totals, b);
         }
-        return bench::bench_call(s);
+        return bench::call(v);
     }
-    if random::once_in(s, 16) {
-        return bench::bench(s, journals, b);
+    if v.random.once_in(16) {
+        return bench::any_call(v, journals, b);
     }
-    play_board(s, b)
+    play_board(v, totals, b)
 }
 
 // A board's set-up; after the last board the bench's, as a board 0.
-fn set_up_if(s: &mut State, b: usize) -> usize {
-    if b == state::get(s, state::BOARDS) {
-        seats::own_settings(s, 0);
-        return seats::plain(s, call::BENCH, call::SET_UP);
+fn set_up(v: &Vote, b: usize) -> Option<Call> {
+    if b == v.boards {
+        return Some(v.call(Seat::Bench, Request::SetUp(v.settings(0))));
     }
-    if seats::is_sound(s, b) {
-        return seats::set_up(s, b);
+    if v.is_sound(b) {
+        return Some(calls::set_up(v, b));
     }
-    call::NOBODY
+    None
 }
 
 // How many turns the vote's phase has.
-fn turns(s: &State, phase: usize) -> usize {
-    match phase {
-        0 => num::next(state::get(s, state::BOARDS)),
-        1 => state::get(s, state::STEPS),
-        2 => deliver::turns(s),
-        _ => 32,
+fn turns(v: &Vote) -> usize {
+    match v.phase {
+        Phase::SettingUp => v.boards.saturating_add(1),
+        Phase::Playing => v.steps,
+        Phase::Delivering => deliver::turns(v),
+        Phase::Reading => 32,
+        Phase::Done => 0,
     }
 }
 
-// The call of a turn of the phase.
-fn step(s: &mut State, phase: usize, turn: usize, journals: &mut Journals) -> usize {
-    match phase {
-        0 => set_up_if(s, turn),
-        1 => play(s, journals),
-        2 => deliver::deliver(s, turn),
-        _ => deliver::read_last(s, turn),
+// The call of a turn of the phase, if there is one.
+fn step(
+    v: &mut Vote,
+    totals: &mut Totals,
+    turn: usize,
+    journals: &mut Seats<Journal>,
+) -> Option<Call> {
+    match v.phase {
+        Phase::SettingUp => set_up(v, turn),
+        Phase::Playing => play(v, totals, journals),
+        Phase::Delivering => deliver::deliver(v, totals, turn),
+        Phase::Reading => deliver::read_last(v, totals, turn),
+        Phase::Done => None,
     }
 }
 
-// The next round of deliveries, or the next phase.
-fn go_on(s: &mut State, phase: usize) {
-    if phase == call::DELIVERING {
-        if deliver::follow(s) {
-            return;
+// The next phase, or the next round of deliveries.
+fn go_on(v: &mut Vote) {
+    let phase = v.phase;
+    let next = match phase {
+        Phase::SettingUp => Phase::Playing,
+        Phase::Playing => {
+            deliver::begin(v, 0);
+            Phase::Delivering
         }
-    }
-    if phase == call::PLAYING {
-        deliver::begin(s, 0);
-    }
-    state::set(s, state::TURN, 0);
-    state::set(s, state::PHASE, num::next(phase));
+        Phase::Delivering if deliver::follow(v) => return,
+        Phase::Delivering => Phase::Reading,
+        Phase::Reading | Phase::Done => Phase::Done,
+    };
+    v.turn = 0;
+    v.phase = next;
 }
 
-// The seat of the next turn's call, or 17.
-fn next(s: &mut State, journals: &mut Journals) -> usize {
-    let phase = state::get(s, state::PHASE);
-    let turn = state::get(s, state::TURN);
-    if turn < turns(s, phase) {
-        state::set(s, state::TURN, num::next(turn));
-        return step(s, phase, turn, journals);
+// The next turn's call, if it has one.
+fn next(v: &mut Vote, totals: &mut Totals, journals: &mut Seats<Journal>) -> Option<Call> {
+    let turn = v.turn;
+    if turn < turns(v) {
+        v.turn = turn + 1;
+        return step(v, totals, turn, journals);
     }
-    go_on(s, phase);
-    call::NOBODY
+    go_on(v);
+    None
 }
 
-// The seat of the next call, or 17 at the end of the vote.
-pub fn seek(s: &mut State, journals: &mut Journals) -> usize {
-    for _ in 0usize..100000 {
-        if state::get(s, state::PHASE) == call::DONE {
+// The next call, or none at the end of the vote.
+pub fn seek(v: &mut Vote, totals: &mut Totals, journals: &mut Seats<Journal>) -> Option<Call> {
+    for _ in 0..100000 {
+        if v.phase == Phase::Done {
             break;
         }
-        let b = next(s, journals);
-        if b < 17 {
-            return b;
+        let call = next(v, totals, journals);
+        if call.is_some() {
+            return call;
         }
     }
-    call::NOBODY
+    None
 }

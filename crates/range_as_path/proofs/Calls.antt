@@ -7,16 +7,16 @@ use Prim.Native.Nat.{ℕ, zero, suc, ◌+◌, ◌<◌}
 use lib.Dec.{T, leb, ltb, eqb, ltb→lt, eqb→eq}
 use lib.IntN.{ℤ}
 use lib.ListN.{length}
+use Rattle.std.specs.Prelude.{Ok, None, Err}
 use Rattle.base.specs.Pick.{pick}
 use Rattle.base.specs.Put.{put_at}
 use Rattle.base.specs.Sets.{Set}
 use Rattle.base.specs.Limits.{outgoing_size, level_count}
-use Rattle.base.specs.declared.Verdict.{Verdict}
+use Rattle.base.specs.Verdict.{Verdict}
 use Rattle.base.proofs.Bools.{T-left, T-right, or_split, true→T}
 use Rattle.base.specs.Found.{Found, found, ask}
 use Rattle.message.specs.declared.Message.{Message}
-use Rattle.message.specs.declared.Exactly.{Exactly}
-use Rattle.message.specs.Reading.{exact_message}
+use Rattle.message.specs.Reading.{Exactly, broken, exact_message}
 use Rattle.level.specs.Level.{no_output}
 use Rattle.journal.specs.declared.Record.{Record}
 use Rattle.journal.specs.declared.Record.TheVariants.{Start, Taken}
@@ -25,10 +25,8 @@ use Rattle.party.specs.Party.{Party, level_at, started, held_by, output_of}
 use Rattle.party.specs.Run.{Ran, starting, taking, bytes_of}
 use Rattle.party.specs.Valid.{every_level, settings_pass, sets_pass, output_passes, place_passes, results_pass, level_passes, party_valid}
 use Rattle.plan.specs.Valid.{plan_valid}
-use Rattle.board_calls.specs.declared.Answer.{Answer}
-use Rattle.board_calls.specs.declared.Answered.{Answered}
 use Rattle.board_calls.specs.Answers.{position_of, answer_of}
-use Rattle.board_calls.specs.Calls.{Entry, again, fresh, at_door, fitting, start_questions, take_message, take_questions, answered_of}
+use Rattle.board_calls.specs.Calls.{Entry, again, fresh, at_door, fitting, start_questions, take_message, take_questions, answered_of, Answered}
 use Rattle.range_as_path.specs.Twin.{TwinParties, TwinRan, TwinFound, both, neither, TwinEntry, held, recorded, TwinCall, nothing, TwinAnswered}
 use Rattle.range_as_path.proofs.Twins.{twin_started, twin_held, twin_output, twin_valid, twin_starting, twin_taking}
 use Rattle.range_as_path.proofs.Positions.{twin_answer}
@@ -82,7 +80,7 @@ module _ (p p' : Party) (w : TwinParties p p') (room used : ℕ) where
 
   -- a take of the same bytes
   twin_message : (s : ℕ) (x : Exactly) → TwinFound TwinEntry (take_message p s room used x) (take_message p' s room used x)
-  twin_message s (Exactly.One m) =
+  twin_message s (Ok m) =
       twin_ask (eqb m.number p.agreement) (eqb m.number p'.agreement) (ap (eqb m.number) w.agreement) 16 0
       (pick (held_by p s m) (found again) (fitting room used (Taken s m) (taking p s m)))
       (pick (held_by p' s m) (found again) (fitting room used (Taken s m) (taking p' s m)))
@@ -92,7 +90,7 @@ module _ (p p' : Party) (w : TwinParties p p') (room used : ℕ) where
       go : (c : Bool) → TwinFound TwinEntry (pick c (found again) (fitting room used (Taken s m) (taking p s m))) (pick c (found again) (fitting room used (Taken s m) (taking p' s m)))
       go true = both held
       go false = twin_fitting (Taken s m) (taking p s m) (taking p' s m) (twin_taking p p' w s m)
-  twin_message s (Exactly.Broken fault at) = neither
+  twin_message s (Err e) = neither
 
   pub twin_take : (s : ℕ) (bytes : List ℕ) (out : ℕ) → TwinFound TwinEntry (take_questions p s bytes room used out) (take_questions p' s bytes room used out)
   unfolding take_questions
@@ -150,7 +148,7 @@ twin_answered p p' w =
     subst₂ (λ (v : Bool) (x : ℕ). TwinAnswered p.plan (given (party_valid p) p (output_of p)) (given v p' x)) (twin_valid p p' w) (twin_output p p' w) (go (party_valid p) refl)
   where
     given : Bool → Party → ℕ → Answered
-    given v p x = pick v (record { verdict = Verdict.Accepted; answer = answer_of p.plan x }) (record { verdict = Verdict.Refused 19 0; answer = Answer.None })
+    given v p x = pick v (record { verdict = Verdict.Accepted; answer = answer_of p.plan x }) (record { verdict = Verdict.Refused 19 0; answer = None })
 
     go : (v : Bool) → party_valid p ≡ v → TwinAnswered p.plan (given v p (output_of p)) (given v p' (output_of p))
     go true e = record { verdict = refl; answer = twin_answer p.plan p'.plan w.plans (output_of p) (valid_output p (true→T e)) }

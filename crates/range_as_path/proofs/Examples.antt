@@ -3,9 +3,9 @@ use mathlib.Core.Path.{◌≡◌, refl}
 use mathlib.Core.List.{[], ◌∷◌}
 use native.Mathlib.Omega.{arith}
 use lib.IntN.{pos}
+use Rattle.std.specs.Prelude.{Some}
 use Rattle.plan.specs.Plan.{Plan}
 use Rattle.plan.specs.Positions.{range_plan, tree_plan, reading_of}
-use Rattle.board_calls.specs.declared.Answer.{Answer}
 use Rattle.board_calls.specs.Answers.{answer_of}
 use Rattle.range_as_path.specs.Twin.{TwinAnswer, position}
 
@@ -16,9 +16,9 @@ range = range_plan 2147483653 2
 abbrev path : Plan
 path = tree_plan 3 (record { one = 1; two = 2 } ∷ record { one = 0; two = 1 } ∷ [])
 
-pub answers : (answer_of range 1 ≡ Answer.At (pos 6)) × (answer_of path 1 ≡ Answer.At (pos 1))
+pub answers : (answer_of range 1 ≡ Some (pos 6)) × (answer_of path 1 ≡ Some (pos 1))
 unfolding answer_of reading_of
 answers = (refl, refl)
 
-pub answers_alike : TwinAnswer range (Answer.At (pos 6)) (Answer.At (pos 1))
+pub answers_alike : TwinAnswer range (Some (pos 6)) (Some (pos 1))
 answers_alike = position {x = 1} (omega arith)

@@ -14,7 +14,7 @@ use native.Mathlib.Omega.{arith}
 use lib.ListN.{length}
 use Rattle.base.specs.Limits.{max_vertices}
 use Rattle.base.specs.Sets.{Set}
-use Rattle.base.specs.declared.Verdict.{Verdict}
+use Rattle.base.specs.Verdict.{Verdict}
 use Rattle.varint.specs.Varint.{varint_bytes}
 use Rattle.tree.specs.Edges.{Edges}
 use Rattle.base.specs.Found.{Found, found}

@@ -7,13 +7,13 @@ use native.Mathlib.Omega.{arith}
 use lib.Dec.{leb, ltb, eqb}
 use lib.IntN.{ℤ, pos, negsuc}
 use borrow.Author.Tests.{eq-eqb, ne_eqb, lt-ltb, le-leb, leb-true, leb-false, eqb-false}
+use Rattle.std.specs.Prelude.{Some, None}
 use Rattle.base.specs.Limits.{offset_zero}
 use Rattle.base.specs.Pick.{pick}
 use Rattle.signed.specs.Signed.{from_offset}
 use Rattle.plan.specs.Plan.{Plan}
 use Rattle.plan.specs.Positions.{reading_of}
 use Rattle.level.specs.Level.{no_output}
-use Rattle.board_calls.specs.declared.Answer.{Answer}
 use Rattle.board_calls.specs.Answers.{on_plan, vertex_of, range_position, position_of, answer_of}
 use Rattle.range_as_path.specs.Twin.{TwinPlans, TwinAnswer, nothing, position}
 
@@ -81,11 +81,11 @@ module _ (r q : Plan) (w : TwinPlans r q) where
   -- and answers of the same position
   pub twin_answer : (x : ℕ) → (x ≡ no_output) ⊎ (x < r.count) → TwinAnswer r (answer_of r x) (answer_of q x)
   unfolding answer_of
-  twin_answer x h = subst₂ (λ (a b : ℤ). TwinAnswer r (pick (eqb x no_output) Answer.None (Answer.At a)) (pick (eqb x no_output) Answer.None (Answer.At b)))
+  twin_answer x h = subst₂ (λ (a b : ℤ). TwinAnswer r (pick (eqb x no_output) None (Some a)) (pick (eqb x no_output) None (Some b)))
       (sym (range_reading r w.range x)) (sym (tree_reading q w.tree x)) (go (eqb x no_output) refl h)
     where
       go : (b : Bool) → eqb x no_output ≡ b → (x ≡ no_output) ⊎ (x < r.count)
-          → TwinAnswer r (pick b Answer.None (Answer.At (from_offset (r.low + x)))) (pick b Answer.None (Answer.At (pos x)))
+          → TwinAnswer r (pick b None (Some (from_offset (r.low + x)))) (pick b None (Some (pos x)))
       go true e h = nothing
       go false e (inl i) = absurd (eqb-false x no_output e i)
       go false e (inr l) = position l

@@ -5,6 +5,7 @@ use mathlib.Core.List.{List}
 use Prim.Native.Nat.{ℕ, zero, suc}
 use lib.Dec.{leb, ltb, eqb}
 use lib.ListN.{length}
+use Rattle.std.specs.Prelude.{Err, Ok}
 use Rattle.base.specs.Put.{put_at}
 use Rattle.base.specs.Limits.{outgoing_size}
 use Rattle.base.specs.Found.{Found, ask}
@@ -13,8 +14,8 @@ use Rattle.plan.specs.Plan.{Plan}
 use Rattle.plan.specs.Reading.{plan_of, settled_plan}
 use Rattle.message.specs.declared.Message.{Message}
 use Rattle.journal.specs.declared.Record.{Record}
-use Rattle.journal.specs.declared.RecordRead.{RecordRead}
-use Rattle.journal.specs.Reading.{record_at}
+use Rattle.journal.specs.declared.RecordError.TheVariants.{Torn, Bad}
+use Rattle.journal.specs.Reading.{RecordRead, whole_record, record_at}
 use Rattle.party.specs.Party.{Party, new_party}
 use Rattle.party.specs.Run.{Ran, resting, bytes_of}
 use Rattle.party_life.specs.Life.{replayed, following, fault}
@@ -56,13 +57,13 @@ twin_replay (suc f) j at a b w = ended (leb (length j) at) refl (record_at j at)
         → ((at : ℕ) (a b : Ran) → TwinRan a b → TwinFound TwinReplay (replay_from f j at a) (replay_from f j at b))
         → TwinFound TwinReplay (replay_from (suc f) j at a) (replay_from (suc f) j at b)
     ended true e x i ih = rw e (both (record { ran = w; used = refl }))
-    ended false e (RecordRead.Read r next) i ih =
-        rw (e, i) (twin_record a.party b.party w.party at r
-        (replay_from f j next (following a (replayed a.party r))) (replay_from f j next (following b (replayed b.party r)))
-        (ih next (following a (replayed a.party r)) (following b (replayed b.party r))
-        (twin_following a b (replayed a.party r) (replayed b.party r) w (twin_replayed a.party b.party w.party r))))
-    ended false e RecordRead.Torn i ih = rw (e, i) (both (record { ran = w; used = refl }))
-    ended false e RecordRead.Bad i ih = rw (e, i) neither
+    ended false e (Ok x) i ih =
+        rw (e, i) (twin_record a.party b.party w.party at x.value
+        (replay_from f j x.next (following a (replayed a.party x.value))) (replay_from f j x.next (following b (replayed b.party x.value)))
+        (ih x.next (following a (replayed a.party x.value)) (following b (replayed b.party x.value))
+        (twin_following a b (replayed a.party x.value) (replayed b.party x.value) w (twin_replayed a.party b.party w.party x.value))))
+    ended false e (Err Torn) i ih = rw (e, i) (both (record { ran = w; used = refl }))
+    ended false e (Err Bad) i ih = rw (e, i) neither
 
 twin_read : (n t own agreement : ℕ) (j : List ℕ) (a b : Found Plan) → TwinFound TwinPlans a b
     → TwinFound TwinReplay (on_plan_read n t own agreement j a) (on_plan_read n t own agreement j b)

@@ -1,7 +1,7 @@
 -- Demand 2: "A range of at most 255 readings behaves, position for position, as the same path given as a tree numbered along it."
 -- Which plans, parties and results of calls are twins: the same but for the way in which the path was given.
-use Rattle.std.specs.Prelude.{◌≡◌, ◌⊎◌, ◌↔◌, List, ℕ, suc, ◌+◌, ◌-◌, ◌<◌, T, ℤ, pos, length}
-use Rattle.base.specs.declared.Verdict.{Verdict}
+use Rattle.std.specs.Prelude.{◌≡◌, ◌⊎◌, ◌↔◌, List, ℕ, suc, ◌+◌, ◌-◌, ◌<◌, T, ℤ, pos, length, Some, None}
+use Rattle.base.specs.Verdict.{Verdict}
 use Rattle.signed.specs.Signed.{from_offset}
 use Rattle.tree.specs.Edges.{Edges, Adjacent}
 use Rattle.base.specs.Found.{Found, found, refused}
@@ -12,10 +12,8 @@ use Rattle.plan.specs.Valid.{plan_valid}
 use Rattle.journal.specs.declared.Record.{Record}
 use Rattle.party.specs.Party.{Party}
 use Rattle.party.specs.Run.{Ran}
-use Rattle.board_calls.specs.declared.Answered.{Answered}
-use Rattle.board_calls.specs.declared.Answer.{Answer}
-use Rattle.board_calls.specs.Answers.{position_of}
-use Rattle.board_calls.specs.Calls.{Called, SetUp, Entry, again, fresh, no_party, set_up_of, start_questions, take_questions, called_of, journal_after, outgoing_after, answered_of}
+use Rattle.board_calls.specs.Answers.{position_of, Answer}
+use Rattle.board_calls.specs.Calls.{Called, SetUp, Entry, again, fresh, no_party, set_up_of, start_questions, take_questions, called_of, journal_after, outgoing_after, answered_of, Answered}
 use Rattle.board_calls.specs.Restore.{Replay, restore_questions, restored_of, restore_outgoing}
 
 -- ---- plans
@@ -110,8 +108,8 @@ pub record TwinRestore (out : List ℕ) (a b : Found Replay) : Type 0 where
 
 -- none yet, or the same position x: reading low + x of the range, vertex x of the tree
 pub data TwinAnswer (r : Plan) : Answer → Answer → Type 0 where
-  nothing : TwinAnswer r Answer.None Answer.None
-  position : {x : ℕ} → x < r.count → TwinAnswer r (Answer.At (from_offset (r.low + x))) (Answer.At (pos x))
+  nothing : TwinAnswer r None None
+  position : {x : ℕ} → x < r.count → TwinAnswer r (Some (from_offset (r.low + x))) (Some (pos x))
 
 pub record TwinAnswered (r : Plan) (a b : Answered) : Type 0 where
   pub verdict : a.verdict ≡ b.verdict

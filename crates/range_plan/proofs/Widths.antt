@@ -4,13 +4,13 @@ use mathlib.Core.Bool.{Bool, true, false}
 use Prim.Native.Nat.{ℕ, zero, suc, ◌+◌, ◌-◌, ◌≤◌, ◌<◌}
 use native.Mathlib.Omega.{arith}
 use lib.Dec.{ltb}
+use Rattle.std.specs.Prelude.{Some, None}
 use lib.IntN.{ℤ, pos, negsuc, neg_ℤ, sub_ℕ, ◌-ℤ◌}
 use borrow.Author.Tests.{ltb-true, ltb-false, lt-ltb, le-ltb, le-leb, lt-leb}
 use Rattle.base.specs.Pick.{pick}
 use Rattle.base.specs.Limits.{max_number}
 use Rattle.signed.specs.Signed.{zigzag}
 use Rattle.script_numbers.specs.declared.Reading.{Reading}
-use Rattle.range_plan.specs.declared.Fields.{Fields}
 use Rattle.range_plan.specs.Range.{integer, with_width, fields_of, raised_by}
 
 -- ---- a minus b, of natural numbers
@@ -66,15 +66,15 @@ module _ (low high : Reading) {z a b : ℕ} (e : z ≡ zigzag (integer low)) (f 
     unfolding fields_of
     low_fits h = rw (le-leb (zigzag (integer low)) max_number (subst (λ v. v ≤ max_number) e h)) (ap₂ with_width (sym e) difference)
 
-    pub no_low : max_number < z → Fields.None ≡ fields_of low high
+    pub no_low : max_number < z → None ≡ fields_of low high
     unfolding fields_of
     no_low h = rw (lt-leb (zigzag (integer low)) max_number (subst (λ v. max_number < v) e h))
 
-    pub no_width : z ≤ max_number → b < a → Fields.None ≡ fields_of low high
+    pub no_width : z ≤ max_number → b < a → None ≡ fields_of low high
     no_width h l = sym (low_fits h ∙ ap (with_width z) (sym (below b a (a - suc b) l refl)))
 
-    pub too_wide : z ≤ max_number → a ≤ b → max_number < b - a → Fields.None ≡ fields_of low high
+    pub too_wide : z ≤ max_number → a ≤ b → max_number < b - a → None ≡ fields_of low high
     too_wide h l w = sym (low_fits h ∙ ap (with_width z) (sym (above b a (b - a) l refl)) ∙ rw (lt-leb (b - a) max_number w))
 
-    pub both_fit : z ≤ max_number → a ≤ b → b - a ≤ max_number → Fields.Varints z (b - a) ≡ fields_of low high
+    pub both_fit : z ≤ max_number → a ≤ b → b - a ≤ max_number → Some (record { low = z; width = b - a }) ≡ fields_of low high
     both_fit h l w = sym (low_fits h ∙ ap (with_width z) (sym (above b a (b - a) l refl)) ∙ rw (le-leb (b - a) max_number w))

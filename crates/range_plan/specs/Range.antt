@@ -1,5 +1,5 @@
 -- What the contracts of this crate cite: the number that a reading stands for, and the plan of a range.
-use Rattle.std.specs.Prelude.{List, ◌++◌, ℕ, ◌+◌, ◌-◌, leb, ℤ, pos, negsuc, neg_ℤ, ◌-ℤ◌}
+use Rattle.std.specs.Prelude.{Option, Some, None, List, ◌++◌, ℕ, ◌+◌, ◌-◌, leb, ℤ, pos, negsuc, neg_ℤ, ◌-ℤ◌}
 use Rattle.base.specs.Pick.{pick}
 use Rattle.base.specs.Limits.{max_number}
 use Rattle.varint.specs.Varint.{varint_bytes}
@@ -16,13 +16,13 @@ abbrev pub range_plan : ℕ → ℕ → List ℕ
 range_plan low width = (varint_bytes 2 ++ varint_bytes low) ++ varint_bytes width
 
 -- a width, if it has a varint
-abbrev pub with_width : ℕ → ℤ → Fields
-with_width low (pos width) = pick (leb width max_number) (Fields.Varints low width) Fields.None
-with_width low (negsuc n) = Fields.None
+abbrev pub with_width : ℕ → ℤ → Option Fields
+with_width low (pos width) = pick (leb width max_number) (Some (record { low = low; width = width })) None
+with_width low (negsuc n) = None
 
 -- the numbers of the plan of a range, if both have varints
-unfoldable pub fields_of : Reading → Reading → Fields
-fields_of low high = pick (leb (zigzag (integer low)) max_number) (with_width (zigzag (integer low)) (integer high -ℤ integer low)) Fields.None
+unfoldable pub fields_of : Reading → Reading → Option Fields
+fields_of low high = pick (leb (zigzag (integer low)) max_number) (with_width (zigzag (integer low)) (integer high -ℤ integer low)) None
 
 -- inner: a reading plus 2^32
 abbrev pub raised_by : Reading → ℕ

@@ -17,18 +17,18 @@ const MOST: u64 = base::MAX_NUMBER as u64;
 // Readings stand so much higher while they are compared.
 const RAISE: u64 = MOST + 1;
 
-// The numbers of a range's plan, if both have varints: the one whose varint is the low reading, and the width, high minus low.
-#[derive(Clone, Copy)]
-pub enum Fields {
-    Varints { low: u32, width: u32 },
-    None,
+// The numbers of a range's plan: the one whose varint is the low reading, and the width, high minus low.
+#[derive(Clone, Copy, Debug, PartialEq, Eq)]
+pub struct Fields {
+    pub low: u32,
+    pub width: u32,
 }
 
-// The number whose varint stands for a reading: 2z, or -2z-1 of a negative z.
+// The number whose varint stands for a reading: 2z, or -2z-1 of a negative z. Not signed::zigzag_of, which takes an i32: a line may have any reading.
 fn zigzag(r: Reading) -> u64
     ensures { result ≡ Signed.zigzag (integer r) }
 {
-    let m = r.magnitude as u64;
+    let m = u64::from(r.magnitude);
     if m == 0 {
         return 0;
     }
@@ -42,33 +42,33 @@ fn zigzag(r: Reading) -> u64
 fn raised(r: Reading) -> u64
     ensures { result ≡ raised_by r }
 {
-    let m = r.magnitude as u64;
+    let m = u64::from(r.magnitude);
     if r.negative {
         return RAISE - m;
     }
     RAISE + m
 }
 
-// The numbers of the plan of a range.
-pub fn fields_of(low: Reading, high: Reading) -> Fields
+// The numbers of the plan of a range, if both have varints.
+pub fn fields_of(low: Reading, high: Reading) -> Option<Fields>
     ensures { result ≡ fields_of low high }
 {
     let z = zigzag(low);
     let a = raised(low);
     let b = raised(high);
     if MOST < z {
-        return Fields::None;
+        return None;
     }
     if b < a {
-        return Fields::None;
+        return None;
     }
     if MOST < b - a {
-        return Fields::None;
+        return None;
     }
-    Fields::Varints {
+    Some(Fields {
         low: z as u32,
         width: (b - a) as u32,
-    }
+    })
 }
 
 // The plan of a range is written; its length.

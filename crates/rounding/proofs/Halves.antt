@@ -4,7 +4,7 @@ use Prim.Native.Nat.{ℕ, ◌+◌, ◌*◌, ◌/◌}
 use native.Mathlib.Nat.{mul-zero, mul-one}
 use native.Mathlib.Omega.{arith}
 use lib.Dec.{T}
-use lib.IntN.{ℤ, pos, neg_ℤ, nat_abs, +ℤ_comm, +ℤ_idr, neg_ℤ-+ℤ, ◌+ℤ◌, ◌-ℤ◌, ◌*ℤ◌}
+use lib.IntN.{pos, neg_ℤ, nat_abs, +ℤ_comm, +ℤ_idr, neg_ℤ-+ℤ, ◌+ℤ◌, ◌-ℤ◌, ◌*ℤ◌}
 use Rattle.rounding.specs.Rounding.{size_passes, nearest_step}
 use Rattle.integers.proofs.Magnitudes.{nat_abs_neg}
 use Rattle.rounding.proofs.Steps.{even}

@@ -10,7 +10,7 @@ use mir.Syntax.{w64}
 use mir.Val.{SFits, to_z, of_z}
 use mir.ValLaws.{to_z-of_z}
 use Rattle.rounding.specs.Rounding.{size_passes, with_sign, nearest_step, remainder}
-use Rattle.integers.proofs.Signs.{is_back, opposite_fits, opposite_back}
+use Rattle.integers.proofs.Signs.{is_back, opposite_back}
 use Rattle.rounding.proofs.Steps.{least, most, sign_size, few_steps, nearest_below, nearest_above, remainder_below, remainder_above}
 
 module _ (g : ℕ) (n : ℤ) (m : ℕ) (f : SFits w64 n) (p : T (size_passes g)) (e : m ≡ nat_abs (to_z w64 (of_z w64 n))) where
@@ -33,9 +33,6 @@ module _ (g : ℕ) (n : ℤ) (m : ℕ) (f : SFits w64 n) (p : T (size_passes g))
 
     read : to_z w64 (of_z w64 x) ≡ with_sign n k
     read = is_back w64 x signed small
-
-    pub against_fits : SFits w64 (pos 0 -ℤ to_z w64 (of_z w64 x))
-    against_fits = opposite_fits w64 (to_z w64 (of_z w64 x)) read small
 
     against : to_z w64 (of_z w64 (pos 0 -ℤ to_z w64 (of_z w64 x))) ≡ neg_ℤ (with_sign n k)
     against = opposite_back w64 (to_z w64 (of_z w64 x)) read small

@@ -1,2 +1,2 @@
-pub mod Lines
-pub mod Examples
+mod Lines
+mod Examples

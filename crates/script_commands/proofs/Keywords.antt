@@ -9,11 +9,12 @@ use native.Mathlib.Omega.{arith}
 use lib.Dec.{eqb, ltb}
 use lib.ListN.{length, get_or, drop, drop_of_length-le}
 use lib.Seq.{drop-cons}
-use borrow.Author.Tests.{eq-eqb, ne_eqb, ltb-true, ltb-false, le-ltb}
+use borrow.Author.Tests.{eq-eqb, ne_eqb, ltb-true, ltb-false}
 use Rattle.script_commands.proofs.Laws.{letter_within}
+use Rattle.std.specs.Prelude.{Option, Some, None}
 use Rattle.base.specs.Pick.{pick}
 use Rattle.script_commands.specs.declared.Command.{Command}
-use Rattle.script_commands.specs.declared.Command.TheVariants.{Unknown, Boards, Agreement, Range, Start, Give}
+use Rattle.script_commands.specs.declared.Command.TheVariants.{Boards, Agreement, Range, Start, Give}
 use Rattle.script_commands.specs.declared.Keyword.{Keyword}
 use Rattle.script_commands.specs.Commands.{spelling, same, command_of}
 use Rattle.script_commands.specs.Inner.{byte_is, no_keyword, by_initial, keyword_with, command_named}
@@ -28,18 +29,18 @@ unfolding keyword_from
 keyword_more k [] b = refl
 keyword_more k (a ∷ s) b = keyword_more (keyword_with k a) s b
 
-abbrev letters : Command → ℕ → Keyword
+abbrev letters : Option Command → ℕ → Keyword
 letters c i = record { command = c; letters = i }
 
 -- ---- a name that is spelt wrong
 
-wrong_with : (i b : ℕ) → 0 < i → keyword_with (letters Unknown i) b ≡ letters Unknown i
+wrong_with : (i b : ℕ) → 0 < i → keyword_with (letters None i) b ≡ letters None i
 unfolding keyword_with
-wrong_with i b h = rw (ne_eqb i 0 (λ e. omega arith), le-ltb i 0 (omega arith))
+wrong_with i b h = rw (ne_eqb i 0 (λ e. omega arith))
 
-wrong_named : (i : ℕ) (s : List ℕ) → 0 < i → command_named (keyword_from (letters Unknown i) s) ≡ Unknown
+wrong_named : (i : ℕ) (s : List ℕ) → 0 < i → command_named (keyword_from (letters None i) s) ≡ None
 unfolding keyword_from command_named
-wrong_named i [] h = rw (ne_eqb i 0 (λ e. omega arith))
+wrong_named i [] h = refl
 wrong_named i (b ∷ s) h = ap (λ (k : Keyword). command_named (keyword_from k s)) (wrong_with i b h) ∙ wrong_named i s h
 
 -- ---- the rest of a name, from place i on
@@ -63,17 +64,17 @@ next_same n i b s = go (ltb i (length n)) refl
     go false q = let l : length n ≤ i = ltb-false i (length n) q in rw (drop_of_length-le n l)
 
 named_next : (c : Command) (i b : ℕ) (s : List ℕ) → 0 < i → i ≤ length (spelling c)
-    → (byte_is (spelling c) i b ≡ true → command_named (keyword_from (letters c (i + 1)) s) ≡ pick (same s (drop (i + 1) (spelling c))) c Unknown)
-    → command_named (keyword_from (keyword_with (letters c i) b) s) ≡ pick (same (b ∷ s) (drop i (spelling c))) c Unknown
+    → (byte_is (spelling c) i b ≡ true → command_named (keyword_from (letters (Some c) (i + 1)) s) ≡ pick (same s (drop (i + 1) (spelling c))) (Some c) None)
+    → command_named (keyword_from (keyword_with (letters (Some c) i) b) s) ≡ pick (same (b ∷ s) (drop i (spelling c))) (Some c) None
 unfolding keyword_with
 named_next c i b s h l ih = rw (ne_eqb i 0 (λ e. omega arith), ← next_same (spelling c) i b s) (go (byte_is (spelling c) i b) refl)
   where
     go : (t : Bool) → byte_is (spelling c) i b ≡ t
-        → command_named (keyword_from (pick t (letters c (i + 1)) (letters Unknown i)) s) ≡ pick (t && same s (drop (i + 1) (spelling c))) c Unknown
+        → command_named (keyword_from (pick t (letters (Some c) (i + 1)) (letters None i)) s) ≡ pick (t && same s (drop (i + 1) (spelling c))) (Some c) None
     go true q = ih q
     go false q = wrong_named i s h
 
-named_from : (c : Command) (i : ℕ) (s : List ℕ) → 0 < i → i ≤ length (spelling c) → command_named (keyword_from (letters c i) s) ≡ pick (same s (drop i (spelling c))) c Unknown
+named_from : (c : Command) (i : ℕ) (s : List ℕ) → 0 < i → i ≤ length (spelling c) → command_named (keyword_from (letters (Some c) i) s) ≡ pick (same s (drop i (spelling c))) (Some c) None
 unfolding keyword_from command_named
 named_from c i [] h l = rw (end_same (spelling c) i l)
 named_from c i (b ∷ s) h l = named_next c i b s h l (λ q. named_from c (i + 1) s (omega arith) (omega (arith, letter_within c i b q)))

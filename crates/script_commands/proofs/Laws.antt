@@ -7,13 +7,12 @@ use lib.Dec.{eqb, ltb, ltb→lt}
 use lib.ListN.{length, get_or}
 use Rattle.base.proofs.Bools.{T-left, true→T}
 use Rattle.script_commands.specs.declared.Command.{Command}
-use Rattle.script_commands.specs.declared.Command.TheVariants.{Unknown, Boards, Agreement, Range, Start, Give}
+use Rattle.script_commands.specs.declared.Command.TheVariants.{Boards, Agreement, Range, Start, Give}
 use Rattle.script_commands.specs.Commands.{spelling}
 use Rattle.script_commands.specs.Inner.{byte_is}
 
 -- a name has at most nine letters
 pub name_short : (c : Command) → length (spelling c) ≤ 9
-name_short Unknown = omega arith
 name_short Boards = omega arith
 name_short Agreement = omega arith
 name_short Range = omega arith

@@ -1,17 +1,18 @@
 -- A word read digit by digit is the number that it stands for.
-use mathlib.Core.Path.{◌≡◌, refl, sym, ◌∙◌}
+use mathlib.Core.Path.{◌≡◌, refl, sym, ap, ◌∙◌}
 use mathlib.Core.Bool.{Bool, true, false, ◌&&◌, ◌||◌}
 use mathlib.Core.List.{List, [], ◌∷◌, ◌++◌}
-use mathlib.Core.Option.{Option, none, some}
+use Rattle.std.specs.Prelude.{Option, Some, None}
 use Prim.Native.Nat.{ℕ, ◌+◌, ◌-◌, ◌*◌, ◌≤◌, ◌<◌}
 use native.Mathlib.Omega.{arith}
-use lib.Dec.{eqb, ltb, leb}
-use borrow.Author.Tests.{eqb-true, ltb-true, ltb-false, le-leb, lt-leb}
+use lib.Dec.{eqb, leb}
+use borrow.Author.Tests.{eqb-true, leb-true, leb-false, le-leb, lt-leb}
 use Rattle.base.specs.Pick.{pick}
 use Rattle.script_numbers.specs.declared.Number.{Number}
+use Rattle.script_numbers.specs.declared.Number.TheVariants.{Begun, Digits, Unreadable}
 use Rattle.script_numbers.specs.declared.Reading.{Reading}
 use Rattle.script_numbers.specs.Numbers.{is_digit, all_digits, value_from, largest, digits_of, number_of}
-use Rattle.script_numbers.specs.Inner.{no_number, unread, minus_with, digit_with, number_with, is_number, reading_of}
+use Rattle.script_numbers.specs.Inner.{no_number, minus_with, appended, digits, digit_with, number_with, reading_of}
 
 -- the number after bytes
 unfoldable pub number_from : Number → List ℕ → Number
@@ -24,36 +25,23 @@ number_more x [] b = refl
 number_more x (a ∷ s) b = number_more (number_with x a) s b
 
 abbrev pub read_number : Number → Option Reading
-read_number x = pick (is_number x) (some (reading_of x)) none
-
--- what both choices have, the choice has
-either : {A : Type 0} (P : A → Type 0) (t : Bool) (a b : A) → P a → P b → P (pick t a b)
-either P true a b p q = p
-either P false a b p q = q
+read_number x = reading_of x
 
 -- ---- unreadable once, unreadable for good
 
-abbrev Bad : Number → Type 0
-Bad x = x.bad ≡ true
-
-bad_with : (x : Number) (b : ℕ) → Bad x → Bad (number_with x b)
+unreadable_with : (b : ℕ) → number_with Unreadable b ≡ Unreadable
 unfolding number_with
-bad_with x b h =
-    either Bad (eqb b 45) (minus_with x) (pick (is_digit b) (digit_with x (b - 48)) (unread x))
-    (either Bad x.negative (unread x) _ refl (either Bad x.begun (unread x) _ refl h))
-    (either Bad (is_digit b) (digit_with x (b - 48)) (unread x) (either Bad (ltb largest (10 * x.magnitude + (b - 48))) (unread x) _ refl h) refl)
-
-bad_unread : (x : Number) → Bad x → read_number x ≡ none
-bad_unread x h = rw h (go x.begun)
+unreadable_with b = go (eqb b 45) (is_digit b)
   where
-    go : (t : Bool) → pick (t && false) (some (reading_of x)) none ≡ none
-    go true = refl
-    go false = refl
+    go : (t u : Bool) → pick t Unreadable (pick u Unreadable Unreadable) ≡ Unreadable
+    go true u = refl
+    go false true = refl
+    go false false = refl
 
-bad_for_good : (x : Number) (s : List ℕ) → Bad x → read_number (number_from x s) ≡ none
+bad_for_good : (s : List ℕ) → read_number (number_from Unreadable s) ≡ None
 unfolding number_from
-bad_for_good x [] h = bad_unread x h
-bad_for_good x (b ∷ s) h = bad_for_good (number_with x b) s (bad_with x b h)
+bad_for_good [] = refl
+bad_for_good (b ∷ s) = ap (λ (x : Number). read_number (number_from x s)) (unreadable_with b) ∙ bad_for_good s
 
 -- ---- digits
 
@@ -66,58 +54,69 @@ value_grows m (b ∷ s) = omega (arith, value_grows (10 * m + (b - 48)) s)
 minus_digit : (b : ℕ) → eqb b 45 ≡ true → is_digit b ≡ false
 minus_digit b e = rw (eqb-true b 45 e)
 
--- a number that can still be read
+-- a number that can still be read: before its first digit, or after digits of the value m
 abbrev so_far : Bool → Bool → ℕ → Number
-so_far n begun m = record { negative = n; begun = begun; bad = false; magnitude = m }
+so_far n false m = Begun n
+so_far n true m = Digits (record { negative = n; magnitude = m })
+
+abbrev value_of : Bool → ℕ → ℕ
+value_of false m = 0
+value_of true m = m
 
 abbrev reading : Bool → ℕ → Option Reading
-reading n m = some (record { negative = n; magnitude = m })
+reading n m = Some (record { negative = n; magnitude = m })
 
 -- the digits s, after digits of the value m
 abbrev the_rest : Bool → ℕ → List ℕ → Option Reading
-the_rest n m s = pick (all_digits s && leb (value_from m s) largest) (reading n (value_from m s)) none
+the_rest n m s = pick (all_digits s && leb (value_from m s) largest) (reading n (value_from m s)) None
 
-too_large : (n : Bool) (m : ℕ) (s : List ℕ) → largest < m → the_rest n m s ≡ none
+too_large : (n : Bool) (m : ℕ) (s : List ℕ) → largest < m → the_rest n m s ≡ None
 too_large n m s h = rw (lt-leb (value_from m s) largest (omega (arith, value_grows m s))) (go (all_digits s))
   where
-    go : (t : Bool) → pick (t && false) (reading n (value_from m s)) none ≡ none
+    go : (t : Bool) → pick (t && false) (reading n (value_from m s)) None ≡ None
     go true = refl
     go false = refl
 
--- one byte more, which is no minus, and what follows it
-next_read : (n begun : Bool) (m b : ℕ) (s : List ℕ) → ((k : ℕ) → k ≤ largest → read_number (number_from (so_far n true k) s) ≡ the_rest n k s)
-    → eqb b 45 ≡ false → read_number (number_from (number_with (so_far n begun m) b) s) ≡ the_rest n m (b ∷ s)
-unfolding number_with all_digits value_from
-next_read n begun m b s ih e = rw e (at (is_digit b))
+-- a digit more, and what follows it
+digit_read : (n : Bool) (m b : ℕ) (s : List ℕ) → ((k : ℕ) → k ≤ largest → read_number (number_from (so_far n true k) s) ≡ the_rest n k s)
+    → read_number (number_from (digits n (appended m (b - 48))) s) ≡ the_rest n (10 * m + (b - 48)) s
+digit_read n m b s ih = sized (leb v largest) refl
   where
     v : ℕ
     v = 10 * m + (b - 48)
 
-    sized : (t : Bool) → ltb largest v ≡ t → read_number (number_from (pick t (unread (so_far n begun m)) (so_far n true v)) s) ≡ the_rest n v s
-    sized true q = bad_for_good (unread (so_far n begun m)) s refl ∙ sym (too_large n v s (ltb-true largest v q))
-    sized false q = ih v (ltb-false largest v q)
+    sized : (t : Bool) → leb v largest ≡ t → read_number (number_from (digits n (pick t (Some v) None)) s) ≡ the_rest n v s
+    sized true q = ih v (leb-true v largest q)
+    sized false q = bad_for_good s ∙ sym (too_large n v s (leb-false v largest q))
 
-    at : (t : Bool) → read_number (number_from (pick t (digit_with (so_far n begun m) (b - 48)) (unread (so_far n begun m))) s)
-        ≡ pick ((t && all_digits s) && leb (value_from v s) largest) (reading n (value_from v s)) none
-    at true = sized (ltb largest v) refl
-    at false = bad_for_good (unread (so_far n begun m)) s refl
+-- one byte more, which is no minus, and what follows it
+next_read : (n begun : Bool) (m b : ℕ) (s : List ℕ) → ((k : ℕ) → k ≤ largest → read_number (number_from (so_far n true k) s) ≡ the_rest n k s)
+    → eqb b 45 ≡ false → read_number (number_from (number_with (so_far n begun m) b) s) ≡ the_rest n (value_of begun m) (b ∷ s)
+unfolding number_with all_digits value_from
+next_read n begun m b s ih e = rw e (at (is_digit b) begun)
+  where
+    at : (t begun : Bool) → read_number (number_from (pick t (digit_with (so_far n begun m) (b - 48)) Unreadable) s)
+        ≡ pick ((t && all_digits s) && leb (value_from (10 * value_of begun m + (b - 48)) s) largest) (reading n (value_from (10 * value_of begun m + (b - 48)) s)) None
+    at true true = digit_read n m b s ih
+    at true false = digit_read n 0 b s ih
+    at false begun = bad_for_good s
 
 -- a minus behind a minus or a digit
-minus_read : (n begun : Bool) (m b : ℕ) (s : List ℕ) → n || begun ≡ true → eqb b 45 ≡ true → read_number (number_from (number_with (so_far n begun m) b) s) ≡ the_rest n m (b ∷ s)
+minus_read : (n begun : Bool) (m b : ℕ) (s : List ℕ) → n || begun ≡ true → eqb b 45 ≡ true → read_number (number_from (number_with (so_far n begun m) b) s) ≡ the_rest n (value_of begun m) (b ∷ s)
 unfolding number_with all_digits value_from
 minus_read n begun m b s h e = rw (e, minus_digit b e) (go n begun h)
   where
-    go : (n begun : Bool) → n || begun ≡ true → read_number (number_from (minus_with (so_far n begun m)) s) ≡ none
-    go true begun h = bad_for_good (unread (so_far true begun m)) s refl
-    go false true h = bad_for_good (unread (so_far false true m)) s refl
+    go : (n begun : Bool) → n || begun ≡ true → read_number (number_from (minus_with (so_far n begun m)) s) ≡ None
+    go n true h = bad_for_good s
+    go true false h = bad_for_good s
     go false false h = let z : ◌≡◌ {A = ℕ} 0 1 = cc in absurd (omega arith)
 
 -- one byte more, and what follows it
 byte_read : (n begun : Bool) (m b : ℕ) (s : List ℕ) → ((k : ℕ) → k ≤ largest → read_number (number_from (so_far n true k) s) ≡ the_rest n k s)
-    → (eqb b 45 ≡ true → n || begun ≡ true) → read_number (number_from (number_with (so_far n begun m) b) s) ≡ the_rest n m (b ∷ s)
+    → (eqb b 45 ≡ true → n || begun ≡ true) → read_number (number_from (number_with (so_far n begun m) b) s) ≡ the_rest n (value_of begun m) (b ∷ s)
 byte_read n begun m b s ih h = go (eqb b 45) refl
   where
-    go : (t : Bool) → eqb b 45 ≡ t → read_number (number_from (number_with (so_far n begun m) b) s) ≡ the_rest n m (b ∷ s)
+    go : (t : Bool) → eqb b 45 ≡ t → read_number (number_from (number_with (so_far n begun m) b) s) ≡ the_rest n (value_of begun m) (b ∷ s)
     go true e = minus_read n begun m b s (h e) e
     go false e = next_read n begun m b s ih e
 
@@ -130,7 +129,7 @@ unfolding number_from all_digits value_from
 rest_read n m [] h = rw (le-leb m largest h)
 rest_read n m (b ∷ s) h = byte_read n true m b s (λ k l. rest_read n k s l) (λ e. or_true n)
 
-minus_first : (b : ℕ) → eqb b 45 ≡ true → number_with no_number b ≡ so_far true false 0
+minus_first : (b : ℕ) → eqb b 45 ≡ true → number_with no_number b ≡ Begun true
 unfolding number_with
 minus_first b e = rw e
 
@@ -139,7 +138,7 @@ unfolding number_from
 number_read [] = refl
 number_read (b ∷ s) = go (eqb b 45) refl
   where
-    after_minus : (s : List ℕ) → read_number (number_from (so_far true false 0) s) ≡ digits_of true s
+    after_minus : (s : List ℕ) → read_number (number_from (Begun true) s) ≡ digits_of true s
     after_minus [] = refl
     after_minus (b ∷ s) = byte_read true false 0 b s (λ k l. rest_read true k s l) (λ e. refl)
 

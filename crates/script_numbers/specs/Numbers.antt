@@ -1,6 +1,5 @@
 -- Document 01, "The bench program": a number is an optional minus (45) and one digit or more (48 to 57), at most 2^32 - 1.
-use Rattle.std.specs.Prelude.{Bool, true, false, ◌&&◌, List, [], ◌∷◌, ℕ, ◌+◌, ◌-◌, ◌*◌, eqb, leb}
-use Rattle.std.proofs.Math.Option.{Option, none, some}
+use Rattle.std.specs.Prelude.{Bool, true, false, ◌&&◌, Option, Some, None, List, [], ◌∷◌, ℕ, ◌+◌, ◌-◌, ◌*◌, eqb, leb}
 use Rattle.base.specs.Pick.{pick}
 use Rattle.script_numbers.specs.declared.Reading.{Reading}
 
@@ -24,11 +23,11 @@ largest = 4294967295
 
 -- digits, after a minus or not
 abbrev pub digits_of : Bool → List ℕ → Option Reading
-digits_of minus [] = none
+digits_of minus [] = None
 digits_of minus (b ∷ s) =
-    pick (all_digits (b ∷ s) && leb (value_from 0 (b ∷ s)) largest) (some (record { negative = minus; magnitude = value_from 0 (b ∷ s) })) none
+    pick (all_digits (b ∷ s) && leb (value_from 0 (b ∷ s)) largest) (Some (record { negative = minus; magnitude = value_from 0 (b ∷ s) })) None
 
 -- the number that a word stands for
 abbrev pub number_of : List ℕ → Option Reading
-number_of [] = none
+number_of [] = None
 number_of (b ∷ s) = pick (eqb b 45) (digits_of true s) (digits_of false (b ∷ s))

@@ -1,142 +1,117 @@
-// Questions at the door. Each function gives the number of the first that is answered no, or 0; of
-// a message its place too.
-use second_plan::plans::Verdict;
+// Questions at the door: each function asks some in order, and gives the first that is answered no.
+use crate::Settings;
+use second_plan::question::{Question, Refusal};
+use second_plan::table;
 use second_plan::table::Table;
-use second_plan::{plans, table};
-use second_wire::{group, num, wire};
-
-// A refusal by this number, or where it is 0 what is asked after.
-pub fn then(number: u32, after: Verdict) -> Verdict {
-    if number == 0 {
-        return after;
-    }
-    plans::decided(number, 0)
-}
+use second_wire::group::Fault;
+use second_wire::reader::{Broken, Reader};
+use second_wire::room::OUTGOING;
+use second_wire::wire::{Message, Record};
 
 // Questions 1 to 3; t above 5 is refused first, so that 3t is small.
-pub fn settings(n: u32, t: u32, own: u32) -> u32 {
-    if n < 1 {
-        return 1;
+pub fn settings(settings: &Settings) -> Result<(), Question> {
+    let Settings {
+        boards: n,
+        faults: t,
+        own,
+        ..
+    } = *settings;
+    if n < 1 || 16 < n {
+        return Err(Question::Boards);
     }
-    if 16 < n {
-        return 1;
-    }
-    if 5 < t {
-        return 2;
-    }
-    if n <= 3 * t {
-        return 2;
+    if 5 < t || n <= 3 * t {
+        return Err(Question::Faults);
     }
     if n <= own {
-        return 3;
+        return Err(Question::Own);
     }
-    0
+    Ok(())
 }
 
 // Question 19: only where there is no party are there no boards.
-pub fn is_party(table: &Table) -> bool {
-    table::at(table, table::VOTE, table::BOARDS) != 0
-}
-
-// The plan is a range.
-pub fn is_range(table: &Table) -> bool {
-    table::at(table, table::VOTE, table::KIND) == plans::RANGE
+pub fn party(table: &Table) -> Result<(), Question> {
+    match table.at(table::VOTE, table::BOARDS) {
+        0 => Err(Question::Party),
+        _ => Ok(()),
+    }
 }
 
 // Questions 19, 18 and 20 of a start or take.
-pub fn call(table: &Table, journal: &[u8], used: usize, out: &[u8]) -> u32 {
-    if !is_party(table) {
-        return 19;
-    }
-    if out.len() < num::OUTGOING {
-        return 18;
+pub fn call(table: &Table, journal: &[u8], used: usize, out: &[u8]) -> Result<(), Question> {
+    party(table)?;
+    if out.len() < OUTGOING {
+        return Err(Question::Outgoing);
     }
     if journal.len() < used {
-        return 20;
+        return Err(Question::Used);
     }
-    0
+    Ok(())
+}
+
+// Question 12 of a position, if it is any.
+pub fn on_plan(table: &Table, position: Option<usize>) -> Result<usize, Question> {
+    position
+        .filter(|position| *position <= table.at(table::VOTE, table::LAST))
+        .ok_or(Question::Position)
 }
 
 // Questions 13 and 12 of a start.
-pub fn start(table: &Table, position: usize) -> u32 {
-    if table::is_set(table, 0, table::ENTERED) {
-        return 13;
+pub fn start(table: &Table, position: Option<usize>) -> Result<usize, Question> {
+    if table.is_set(0, table::ENTERED) {
+        return Err(Question::Started);
     }
-    if table::at(table, table::VOTE, table::LAST) < position {
-        return 12;
-    }
-    0
+    on_plan(table, position)
 }
 
-// What is wrong with a message's group of this state: the bytes end inside it, it is too long or
-// too large, or it is outside the table.
-fn broken(state: usize) -> u32 {
-    match state {
-        group::MALFORMED => 22,
-        group::OUTSIDE => 23,
-        _ => 15,
+// Question 14.
+pub fn sender(table: &Table, sender: usize) -> Result<(), Question> {
+    if table.at(table::VOTE, table::BOARDS) <= sender {
+        return Err(Question::Sender);
+    }
+    Ok(())
+}
+
+// What is wrong with a message's group: the bytes end inside it, it is too long or too large, or it is
+// outside the table.
+pub fn broken(broken: Broken) -> Refusal {
+    let question = match broken.fault {
+        Fault::Malformed => Question::Malformed,
+        Fault::Outside => Question::Outside,
+        Fault::Cut { .. } | Fault::CutAbove => Question::Cut,
+    };
+    question.at(broken.place)
+}
+
+// Question 16.
+fn number(table: &Table, number: usize) -> Result<(), Question> {
+    if number != table.at(table::VOTE, table::NUMBER) {
+        return Err(Question::Number);
+    }
+    Ok(())
+}
+
+// Questions 24 and 16 of a message that was read.
+pub fn message(table: &Table, message: &Message, reader: &Reader) -> Result<(), Refusal> {
+    if !reader.is_at_end() {
+        return Err(Question::End.at(reader.place()));
+    }
+    number(table, message.number)?;
+    Ok(())
+}
+
+// Whether the record is one of a message held already; a start never is.
+pub fn is_held(table: &Table, record: &Record) -> bool {
+    match record {
+        Record::Start { .. } => false,
+        Record::Taken { sender, message } => table.is_said(message, *sender),
     }
 }
 
-// Question 14 of a message of so many bytes; 15, 22, 23 and 24, the leftmost first; and 16.
-pub fn message(table: &Table, sender: usize, record: wire::Record, length: usize) -> Verdict {
-    if table::at(table, table::VOTE, table::BOARDS) <= sender {
-        return plans::decided(14, 0);
+// Questions 16, 14, 13 and 12 of a record.
+pub fn record(table: &Table, record: &Record) -> Result<(), Question> {
+    number(table, record.number())?;
+    match record {
+        Record::Start { position, .. } => start(table, Some(*position)).map(|_| ()),
+        Record::Taken { sender: from, .. } => sender(table, *from),
     }
-    if record.state != group::WHOLE {
-        return plans::decided(broken(record.state), record.next);
-    }
-    if record.next < length {
-        return plans::decided(24, record.next);
-    }
-    if record.number != table::long(table, table::NUMBER) {
-        return plans::decided(16, 0);
-    }
-    plans::decided(0, 0)
-}
-
-// Whether the record is one of a message held already; a start has no kind and never is.
-pub fn is_held(table: &Table, record: wire::Record) -> bool {
-    table::is_said(
-        table,
-        record.level,
-        record.kind,
-        record.value,
-        record.sender,
-    )
-}
-
-// Question 17 of a record that would end at `after`.
-pub fn fits(table: &Table, record: wire::Record, journal: &[u8], after: usize) -> u32 {
-    if after <= journal.len() {
-        return 0;
-    }
-    if is_held(table, record) {
-        return 0;
-    }
-    17
-}
-
-// Not a question's number: the torn last record.
-pub const TORN: u32 = 99;
-
-// Questions 21, 16, 14, 13 and 12 of a record. It is torn only where further bytes could make it
-// whole.
-pub fn record(table: &Table, record: wire::Record) -> u32 {
-    if record.state == group::CUT {
-        return TORN;
-    }
-    if record.state != group::WHOLE {
-        return 21;
-    }
-    if record.number != table::long(table, table::NUMBER) {
-        return 16;
-    }
-    if record.sort == wire::START {
-        return start(table, record.position);
-    }
-    if table::at(table, table::VOTE, table::BOARDS) <= record.sender {
-        return 14;
-    }
-    0
 }

@@ -9,71 +9,57 @@ pub mod reading;
 pub mod record;
 
 use record::Done;
-use second_plan::plans::Verdict;
+use second_plan::question::{Question, Refusal};
 use second_plan::table::Table;
 use second_plan::{plans, table};
-use second_wire::{num, wire};
+use second_wire::reader::Reader;
+use second_wire::room::{OUTGOING, Room};
+use second_wire::wire::Record;
+use second_wire::{room, wire};
 
-// An answer, if it is there.
-#[derive(Clone, Copy)]
-pub struct Found {
-    pub there: bool,
-    pub value: i64,
+// The settings of a vote: n, t, the board's own number and the agreement number.
+#[derive(Clone, Copy, Debug, PartialEq, Eq)]
+pub struct Settings {
+    pub boards: u32,
+    pub faults: u32,
+    pub own: u32,
+    pub number: u32,
 }
 
 // Keeps n, the three thresholds and the agreement number.
-fn keep_settings(table: &mut Table, n: usize, t: usize, agreement: usize) {
-    table::set(table, table::VOTE, table::BOARDS, n);
-    table::set(table, table::VOTE, table::FEW, num::next(t));
-    table::set(table, table::VOTE, table::MANY, num::next(num::add(t, t)));
-    table::set(table, table::VOTE, table::MOST, num::less(n, t));
-    table::set_long(table, table::NUMBER, agreement);
+fn keep_settings(table: &mut Table, settings: &Settings) {
+    let n = settings.boards as usize;
+    let t = settings.faults as usize;
+    table.set(table::VOTE, table::BOARDS, n);
+    table.set(table::VOTE, table::FEW, t + 1);
+    table.set(table::VOTE, table::MANY, 2 * t + 1);
+    table.set(table::VOTE, table::MOST, n.saturating_sub(t));
+    table.set(table::VOTE, table::NUMBER, settings.number as usize);
 }
 
 // Questions 1 to 11, which fill the table anew.
-fn prepare(n: u32, t: u32, own: u32, agreement: u32, bytes: &[u8], table: &mut Table) -> Verdict {
-    *table = table::empty();
-    let number = ask::settings(n, t, own);
-    if number != 0 {
-        return plans::decided(number, 0);
-    }
-    keep_settings(table, n as usize, t as usize, agreement as usize);
-    plans::read(bytes, table)
+fn prepare(table: &mut Table, settings: &Settings, plan: &[u8]) -> Result<(), Refusal> {
+    *table = Table::new();
+    ask::settings(settings)?;
+    keep_settings(table, settings);
+    plans::read(plan, table)
 }
 
-// A refused set-up or restore leaves no party: its table is empty.
-fn leave(table: &mut Table, number: u32) {
-    if number != 0 {
-        *table = table::empty();
+// Set-up: questions 1 to 11. The table that is lent becomes the party's; a refused set-up leaves no
+// party: its table is empty.
+pub fn set_up(table: &mut Table, settings: &Settings, plan: &[u8]) -> Result<(), Refusal> {
+    let prepared = prepare(table, settings, plan);
+    if prepared.is_err() {
+        *table = Table::new();
     }
-}
-
-// Set-up: questions 1 to 11. The table that is lent becomes the party's.
-pub fn set_up(table: &mut Table, n: u32, t: u32, own: u32, agreement: u32, plan: &[u8]) -> Verdict {
-    let verdict = prepare(n, t, own, agreement, plan, table);
-    leave(table, verdict.number);
-    verdict
-}
-
-// No answer.
-pub fn nothing() -> Found {
-    Found {
-        there: false,
-        value: 0,
-    }
+    prepared
 }
 
 // Level 0's output, if there is one, as a start takes it.
-pub fn answer(table: &Table) -> Found {
-    if table::is_set(table, 0, table::OUTPUT_THERE) {
-        let output = table::at(table, 0, table::OUTPUT);
-        let base = table::long(table, table::BASE);
-        return Found {
-            there: true,
-            value: reading::lowered(num::add(base, output)),
-        };
-    }
-    nothing()
+pub fn answer(table: &Table) -> Option<i64> {
+    let output = table.get(0, table::OUTPUT)?;
+    let base = table.at(table::VOTE, table::BASE);
+    Some(reading::lowered(base.saturating_add(output)))
 }
 
 // Start: questions 19, 18, 20, 13, 12 and 17.
@@ -83,14 +69,29 @@ pub fn start(
     journal: &mut [u8],
     used: usize,
     out: &mut [u8],
-) -> Done {
-    let position = reading::above(table::long(table, table::BASE), input);
-    let verdict = ask::then(
-        ask::call(table, journal, used, out),
-        plans::decided(ask::start(table, position), 0),
-    );
-    let record = wire::start_of(table::long(table, table::NUMBER), position, 0);
-    record::commit(verdict, table, record, journal, used, out)
+) -> Result<Done, Refusal> {
+    ask::call(table, journal, used, out)?;
+    let position = reading::above(table.at(table::VOTE, table::BASE), input);
+    start_at(table, position, journal, used, out)
+}
+
+// A start, after the questions of each call, at a position that an input has, if any.
+pub fn start_at(
+    table: &mut Table,
+    position: Option<usize>,
+    journal: &mut [u8],
+    used: usize,
+    out: &mut [u8],
+) -> Result<Done, Refusal> {
+    let position = ask::start(table, position)?;
+    let number = table.at(table::VOTE, table::NUMBER);
+    record::commit(
+        table,
+        &Record::Start { number, position },
+        journal,
+        used,
+        out,
+    )
 }
 
 // Take: questions 19, 18, 20, 14, then 15, 22, 23 and 24, then 16 and 17.
@@ -101,57 +102,53 @@ pub fn take(
     journal: &mut [u8],
     used: usize,
     out: &mut [u8],
-) -> Done {
-    let record = wire::read_message(bytes, 0, sender as usize);
-    let verdict = ask::then(
-        ask::call(table, journal, used, out),
-        ask::message(table, sender as usize, record, bytes.len()),
-    );
-    record::commit(verdict, table, record, journal, used, out)
+) -> Result<Done, Refusal> {
+    ask::call(table, journal, used, out)?;
+    let sender = sender as usize;
+    ask::sender(table, sender)?;
+    let mut reader = Reader::new(bytes, 0);
+    let message = wire::read_message(&mut reader).map_err(ask::broken)?;
+    ask::message(table, &message, &reader)?;
+    record::commit(
+        table,
+        &Record::Taken { sender, message },
+        journal,
+        used,
+        out,
+    )
 }
 
-// Replays the journal over a table that was not refused. Only when no record is refused do the
-// messages of all of them go to the outgoing buffer's first bytes.
-fn recover(verdict: Verdict, table: &mut Table, journal: &[u8], out: &mut [u8]) -> Done {
-    if verdict.number != 0 {
-        return record::idle(verdict.number, verdict.place, 0);
-    }
-    let mut room = num::empty_room();
-    let done = record::replay(table, journal, &mut room);
-    num::copy(&room, done.sent, out, 0);
-    done
-}
-
-// Question 18 of a buffer of so many bytes, then 1 to 11.
-fn ask_restore(
-    room: usize,
-    n: u32,
-    t: u32,
-    own: u32,
-    agreement: u32,
-    plan: &[u8],
+// Questions 18 and 1 to 11, then those of each record. Only when no record is refused do the messages
+// of all of them go to the outgoing buffer's first bytes.
+fn recover(
     table: &mut Table,
-) -> Verdict {
-    if room < num::OUTGOING {
-        return plans::decided(18, 0);
-    }
-    prepare(n, t, own, agreement, plan, table)
-}
-
-// Restore: questions 18 and 1 to 11, then those of each record. The table that is lent becomes the
-// party's.
-pub fn restore(
-    table: &mut Table,
-    n: u32,
-    t: u32,
-    own: u32,
-    agreement: u32,
+    settings: &Settings,
     plan: &[u8],
     journal: &[u8],
     out: &mut [u8],
-) -> Done {
-    let verdict = ask_restore(out.len(), n, t, own, agreement, plan, table);
-    let done = recover(verdict, table, journal, out);
-    leave(table, done.number);
+) -> Result<Done, Refusal> {
+    if out.len() < OUTGOING {
+        return Err(Question::Outgoing.at(0));
+    }
+    prepare(table, settings, plan)?;
+    let mut messages = Room::new();
+    let done = record::replay(table, journal, &mut messages)?;
+    room::copy(messages.as_slice(), out);
+    Ok(done)
+}
+
+// Restore: questions 18 and 1 to 11, then those of each record. The table that is lent becomes the
+// party's; a refused restore leaves no party: its table is empty.
+pub fn restore(
+    table: &mut Table,
+    settings: &Settings,
+    plan: &[u8],
+    journal: &[u8],
+    out: &mut [u8],
+) -> Result<Done, Refusal> {
+    let done = recover(table, settings, plan, journal, out);
+    if done.is_err() {
+        *table = Table::new();
+    }
     done
 }

@@ -2,7 +2,6 @@
 // two ways. Of it only is proved that it is safe and ends.
 #![tactic(auto)]
 
-mod bits;
 pub mod cycle;
 mod joined;
 pub mod path;

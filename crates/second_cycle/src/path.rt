@@ -1,80 +1,78 @@
 // The cycle by distances: the rejected edge, and before it the edges on the path between its ends.
-use crate::cycle;
-use crate::cycle::Cycle;
-use second_plan::table::Table;
+use crate::cycle::{Cycle, Found, PlanEdge};
+use second_plan::plans;
+use second_plan::question::{Question, Refusal};
+use second_plan::table::{Edge, Table};
 use second_plan::trees::Distances;
-use second_plan::{plans, table, trees};
-use second_wire::{group, num};
+use second_wire::reader::Reader;
 
 // Whether the way from a to p, over an edge to q, and on to b is as long as the path from a to b.
 fn is_way(d: &Distances, a: usize, b: usize, p: usize, q: usize) -> bool {
-    let there = num::next(trees::between(d, a, p));
-    num::add(there, trees::between(d, q, b)) == trees::between(d, a, b)
+    let there = d.between(a, p).saturating_add(1);
+    there.saturating_add(d.between(q, b)) == d.between(a, b)
 }
 
-// Whether the edge of p and q is on the path from a to b.
-fn is_on_path(d: &Distances, a: usize, b: usize, p: usize, q: usize) -> bool {
-    if is_way(d, a, b, p, q) {
-        return true;
+// Whether an edge is on the path between the ends of another.
+fn is_on_path(d: &Distances, path: Edge, edge: Edge) -> bool {
+    is_way(d, path.a, path.b, edge.a, edge.b) || is_way(d, path.a, path.b, edge.b, edge.a)
+}
+
+// A plan's vertex count, which stands after its kind.
+pub fn read_vertices(reader: &mut Reader) -> Option<usize> {
+    reader.group().ok()?;
+    reader.group().ok()
+}
+
+// The next edge.
+pub fn read_edge(reader: &mut Reader) -> Option<Edge> {
+    let a = reader.group().ok()?;
+    let b = reader.group().ok()?;
+    Some(Edge { a, b })
+}
+
+// The edge after so many others.
+fn edge_after(bytes: &[u8], edges: usize) -> Option<Edge> {
+    let mut reader = Reader::new(bytes, 0);
+    read_vertices(&mut reader)?;
+    for _ in 0..edges {
+        read_edge(&mut reader)?;
     }
-    is_way(d, a, b, q, p)
+    read_edge(&mut reader)
 }
 
-// Lists edge e, if it is on the path from a to b.
-fn list_edge(t: &Table, d: &Distances, e: usize, a: usize, b: usize, c: &mut Cycle) {
-    if e < table::VERTICES {
-        let p = table::end_of(t, 2 * e);
-        let q = table::end_of(t, 2 * e + 1);
-        if is_on_path(d, a, b, p, q) {
-            cycle::list(c, e, p, q);
+// Lists an edge.
+fn list(cycle: &mut Cycle, number: usize, ends: Edge) {
+    let _ = cycle.try_push(PlanEdge { number, ends });
+}
+
+// The cycle that the edge after those of the table closes.
+fn closed_cycle(bytes: &[u8], t: &Table) -> Cycle {
+    let mut cycle = Cycle::new();
+    let edges = t.edges().iter().flatten().count();
+    if let Some(rejected) = edge_after(bytes, edges) {
+        let d = Distances::of(t);
+        for (number, edge) in t.edges().iter().flatten().enumerate() {
+            if is_on_path(&d, rejected, *edge) {
+                list(&mut cycle, number, *edge);
+            }
         }
+        list(&mut cycle, edges, rejected);
     }
+    cycle
 }
 
-// Lists the edges on the path from a to b.
-fn list_path(t: &Table, edges: usize, a: usize, b: usize, c: &mut Cycle) {
-    let d = trees::distances(t);
-    for e in 0..edges {
-        list_edge(t, &d, e, a, b, c);
-    }
-}
-
-// The place after so many groups.
-pub fn past(bytes: &[u8], groups: usize) -> usize {
-    let mut at = 0;
-    for _ in 0..groups {
-        let g = group::read(bytes, at);
-        at = g.next;
-    }
-    at
-}
-
-// The place of edge e, after the plan's kind and vertex count.
-pub fn place_of(bytes: &[u8], e: usize) -> usize {
-    past(bytes, num::add(2, num::add(e, e)))
-}
-
-// Lists the cycle that the edge after those of the table closes.
-fn list_cycle(bytes: &[u8], t: &Table, c: &mut Cycle) {
-    let edges = table::at(t, table::VOTE, table::EDGES);
-    let first = group::read(bytes, place_of(bytes, edges));
-    let second = group::read(bytes, first.next);
-    list_path(t, edges, first.value, second.value, c);
-    cycle::list(c, edges, first.value, second.value);
-    cycle::set_read(c, num::next(edges));
-}
-
-// A u32 as a number.
-fn wide(x: u32) -> usize {
-    x as usize
-}
-
-// Number and place of the plan's refusal; where the number is 8, the cycle.
-pub fn find(bytes: &[u8], c: &mut Cycle) {
-    let mut t = table::empty();
-    let v = plans::read(bytes, &mut t);
-    cycle::set_refusal(c, wide(v.number), v.place);
-    if v.number == 8 {
-        list_cycle(bytes, &t, c);
-    }
+// Whether the plan passes; where question 8 refuses it, the cycle.
+pub fn find(bytes: &[u8]) -> Found {
+    let mut t = Table::new();
+    let verdict = plans::read(bytes, &mut t);
+    let cycle = match verdict {
+        Err(
+            Refusal {
+                question: Question::Joined,
+                ..
+            },
+        ) => closed_cycle(bytes, &t),
+        _ => Cycle::new(),
+    };
+    Found { verdict, cycle }
 }

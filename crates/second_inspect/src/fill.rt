@@ -1,62 +1,51 @@
 // "whose sender sets name only boards below n"; and what is kept of a record without a question:
 // its flags and proposals.
-use second_plan::table;
 use second_plan::table::Table;
+use second_plan::{bits, table};
 use second_sheet::sheet;
 use second_sheet::sheet::Sheet;
-use second_wire::{num, wire};
+use second_wire::wire;
+use second_wire::wire::{Kind, Message};
 
-// Whether board b is in the set: bit b of the mask.
-fn is_in(set: usize, b: usize) -> bool {
-    if b < wire::SENDERS {
-        return (set >> b) % 2 == 1;
-    }
-    false
-}
-
-// Board b's message of the kind and value is kept, if b is in the set; whether it may be there.
-fn sender_passes(
-    t: &mut Table,
-    set: usize,
-    level: usize,
-    kind: usize,
-    value: usize,
-    b: usize,
-) -> bool {
-    if is_in(set, b) {
-        table::hear(t, level, kind, value, b);
-        return b < table::at(t, table::VOTE, table::BOARDS);
+// The message is kept of the boards of a set; whether all of them may be there.
+fn set_passes(t: &mut Table, set: usize, message: &Message) -> bool {
+    for b in 0..wire::SENDERS {
+        if bits::has(set, b) {
+            t.hear(message, b);
+            if t.at(table::VOTE, table::BOARDS) <= b {
+                return false;
+            }
+        }
     }
     true
 }
 
-// All boards of a set.
-fn set_passes(t: &mut Table, set: usize, level: usize, kind: usize, value: usize) -> bool {
-    if set == 0 {
-        return true;
-    }
-    for b in 0..wire::SENDERS {
-        if !sender_passes(t, set, level, kind, value, b) {
+// The sets of a level and kind, one for each value.
+fn kind_passes(sheet: &Sheet, t: &mut Table, level: usize, kind: Kind) -> bool {
+    let first = sheet::SETS.saturating_add(kind.number().saturating_mul(sheet::VALUES));
+    let number = t.at(table::VOTE, table::NUMBER);
+    for value in 0..sheet::VALUES {
+        let message = Message {
+            number,
+            level,
+            kind,
+            value,
+        };
+        let set = sheet.at(level, first.saturating_add(value));
+        if !set_passes(t, set, &message) {
             return false;
         }
     }
     true
 }
 
-// The set at a level and place, which is that of a kind and value.
-fn place_passes(sheet: &Sheet, t: &mut Table, level: usize, place: usize) -> bool {
-    let set = sheet::at(sheet, level, num::add(sheet::SETS, place));
-    set_passes(t, set, level, place / sheet::VALUES, place % sheet::VALUES)
-}
-
-// The sets of all levels and of six kinds.
-const PLACES: usize = 7 * sheet::VALUES;
-
 // All sets of all levels.
 pub fn sets_pass(sheet: &Sheet, t: &mut Table) -> bool {
-    for i in 0..sheet::LEVELS * PLACES {
-        if !place_passes(sheet, t, i / PLACES, i % PLACES) {
-            return false;
+    for level in 0..sheet::LEVELS {
+        for kind in Kind::ALL {
+            if !kind_passes(sheet, t, level, kind) {
+                return false;
+            }
         }
     }
     true
@@ -64,8 +53,13 @@ pub fn sets_pass(sheet: &Sheet, t: &mut Table) -> bool {
 
 // A number of the record goes to the table as a flag: whether it is another than `absent`.
 fn keep_flag(sheet: &Sheet, t: &mut Table, level: usize, from: usize, to: usize, absent: usize) {
-    let x = sheet::at(sheet, level, from);
-    table::set(t, level, to, (x != absent) as usize);
+    t.set(level, to, usize::from(sheet.at(level, from) != absent));
+}
+
+// A number of the record goes to the table, if it is another than `absent`.
+fn keep_value(sheet: &Sheet, t: &mut Table, level: usize, from: usize, to: usize, absent: usize) {
+    let value = sheet.at(level, from);
+    t.put(level, to, Some(value).filter(|x| *x != absent));
 }
 
 // What was made at a level.
@@ -94,49 +88,29 @@ fn keep_made(sheet: &Sheet, t: &mut Table, level: usize) {
 // Which values were second-echoed.
 fn keep_echoes(sheet: &Sheet, t: &mut Table, level: usize) {
     for w in 0..sheet::VALUES {
-        let from = num::add(sheet::ECHOED, w);
-        let to = num::add(table::ECHOED_AGAIN, w);
-        keep_flag(sheet, t, level, from, to, 0);
+        keep_flag(
+            sheet,
+            t,
+            level,
+            sheet::ECHOED + w,
+            table::ECHOED_AGAIN + w,
+            0,
+        );
     }
-}
-
-// A number of the record goes to the table, with a flag, if it is another than `absent`.
-fn keep_value(sheet: &Sheet, t: &mut Table, level: usize, from: usize, to: usize, absent: usize) {
-    let x = sheet::at(sheet, level, from);
-    if x == absent {
-        table::set(t, level, to, 0);
-        return;
-    }
-    table::set(t, level, to, x);
 }
 
 // The grade of the second result: 0 of none, 2 where it is sure.
 fn grade(sheet: &Sheet, level: usize) -> usize {
-    if sheet::at(sheet, level, sheet::RESULT) < sheet::NONE {
-        return num::next(sheet::at(sheet, level, sheet::SURE));
+    if sheet.at(level, sheet::RESULT) < sheet::NONE {
+        sheet.at(level, sheet::SURE).saturating_add(1)
+    } else {
+        0
     }
-    0
 }
 
 // The two results.
 fn keep_results(sheet: &Sheet, t: &mut Table, level: usize) {
-    keep_flag(
-        sheet,
-        t,
-        level,
-        sheet::FIRST,
-        table::FIRST_THERE,
-        sheet::NOT_YET,
-    );
     keep_value(sheet, t, level, sheet::FIRST, table::FIRST, sheet::NOT_YET);
-    keep_flag(
-        sheet,
-        t,
-        level,
-        sheet::RESULT,
-        table::SECOND_THERE,
-        sheet::NOT_YET,
-    );
     keep_value(
         sheet,
         t,
@@ -145,19 +119,14 @@ fn keep_results(sheet: &Sheet, t: &mut Table, level: usize) {
         table::SECOND,
         sheet::NOT_YET,
     );
-    table::set(t, level, table::GRADE, grade(sheet, level));
+    t.set(level, table::GRADE, grade(sheet, level));
 }
 
-// The output.
-fn keep_output(sheet: &Sheet, t: &mut Table, level: usize) {
-    keep_flag(
-        sheet,
-        t,
-        level,
-        sheet::OUTPUT,
-        table::OUTPUT_THERE,
-        sheet::NO_OUTPUT,
-    );
+// All of a level but its senders and its entry.
+pub fn keep_level(sheet: &Sheet, t: &mut Table, level: usize) {
+    keep_made(sheet, t, level);
+    keep_echoes(sheet, t, level);
+    keep_results(sheet, t, level);
     keep_value(
         sheet,
         t,
@@ -166,12 +135,4 @@ fn keep_output(sheet: &Sheet, t: &mut Table, level: usize) {
         table::OUTPUT,
         sheet::NO_OUTPUT,
     );
-}
-
-// All of a level but its senders and its entry.
-pub fn keep_level(sheet: &Sheet, t: &mut Table, level: usize) {
-    keep_made(sheet, t, level);
-    keep_echoes(sheet, t, level);
-    keep_results(sheet, t, level);
-    keep_output(sheet, t, level);
 }

@@ -11,7 +11,7 @@ pub mod entry;
 pub mod fill;
 pub mod part;
 
-use second_plan::table;
+use second_plan::question::Question;
 use second_plan::table::Table;
 use second_sheet::sheet;
 use second_sheet::sheet::Sheet;
@@ -28,23 +28,17 @@ fn levels_pass(sheet: &Sheet, table: &mut Table) -> bool {
 
 // The settings, the plan, the senders and the levels are asked and filled.
 fn passes(sheet: &Sheet, table: &mut Table) -> bool {
-    if !part::read(sheet, table) {
-        return false;
-    }
-    if !part::comes_back(sheet) {
-        return false;
-    }
-    if !fill::sets_pass(sheet, table) {
-        return false;
-    }
-    levels_pass(sheet, table)
+    part::read(sheet, table)
+        && part::comes_back(sheet)
+        && fill::sets_pass(sheet, table)
+        && levels_pass(sheet, table)
 }
 
-// Question 19 of a record: 0, and the table is filled; or 19, and it is empty.
-pub fn inspect(sheet: &Sheet, table: &mut Table) -> u32 {
+// Question 19 of a record: where it passes the table is filled, and else it is empty.
+pub fn inspect(sheet: &Sheet, table: &mut Table) -> Result<(), Question> {
     if passes(sheet, table) {
-        return 0;
+        return Ok(());
     }
-    *table = table::empty();
-    19
+    *table = Table::new();
+    Err(Question::Party)
 }

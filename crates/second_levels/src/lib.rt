@@ -4,46 +4,30 @@
 #![tactic(auto)]
 
 mod chains;
-mod sides;
 
-use second_plan::{plans, table, trees};
+use second_plan::plans;
+use second_plan::question::Refusal;
+use second_plan::table::Table;
+use second_plan::trees::Distances;
 
-// The most levels that send, and the most different messages of a board at each.
-const SENDING: usize = 15;
-
+// The most different messages of a board at a level.
 const MESSAGES: usize = 7;
 
-// Number and place of the plan's refusal, 0 if there is none; where the plan passes, how many levels
-// the deepest component needs to send, and 7 times that, else 0.
-#[derive(Clone, Copy)]
+// How many levels the deepest component of a plan needs to send, and 7 times that.
+#[derive(Clone, Copy, Debug, PartialEq, Eq)]
 pub struct Bound {
-    pub number: u32,
-    pub place: usize,
     pub levels: usize,
     pub messages: usize,
 }
 
-// The messages of so many levels.
-fn messages_of(levels: usize) -> usize {
-    if levels <= SENDING {
-        return MESSAGES * levels;
-    }
-    0
-}
-
-// What is found of a plan.
-pub fn find(bytes: &[u8]) -> Bound {
-    let mut t = table::empty();
-    let v = plans::read(bytes, &mut t);
-    let mut levels = 0;
-    if v.number == 0 {
-        let d = trees::distances(&t);
-        levels = chains::deepest(&mut t, &d);
-    }
-    Bound {
-        number: v.number,
-        place: v.place,
+// What is found of a plan that passes.
+pub fn find(bytes: &[u8]) -> Result<Bound, Refusal> {
+    let mut t = Table::new();
+    plans::read(bytes, &mut t)?;
+    let d = Distances::of(&t);
+    let levels = chains::deepest(&mut t, &d, 0);
+    Ok(Bound {
         levels,
-        messages: messages_of(levels),
-    }
+        messages: levels.saturating_mul(MESSAGES),
+    })
 }

@@ -2,6 +2,11 @@
 // sentences. Of it only is proved that it is safe and ends.
 #![tactic(auto)]
 
+pub mod bits;
+pub mod cells;
+pub mod paths;
 pub mod plans;
+pub mod question;
+pub mod sides;
 pub mod table;
 pub mod trees;

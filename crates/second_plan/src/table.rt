@@ -1,42 +1,25 @@
-// A board's memory: one table of numbers below 65,536, a flag being 0 or 1.
-use second_wire::{num, wire};
-
-// What a cell holds is below this.
-const CELL: usize = 65536;
+// A board's memory: one table of numbers, a flag being 0 or 1; the edges of its plan, the sides of each
+// level's vertices, and which messages it took.
+//
+// Rows and columns are numbers, and no structs with named fields: that is how this implementation is
+// to differ from the library (docs/DECISIONS.md).
+use crate::cells::Cells;
+use crate::question::Question;
+use second_wire::wire;
+use second_wire::wire::{Kind, Message};
 
 // Levels 0 to 15 have a row each, and after them the vote.
 const LEVELS: usize = 16;
 
 pub const VOTE: usize = LEVELS;
 
-const ROWS: usize = LEVELS + 1;
-
-const COLUMNS: usize = 64;
-
 // The most vertices of a tree.
 pub const VERTICES: usize = 255;
 
-// After the rows: the ends of the plan's edges.
-const ENDS: usize = ROWS * COLUMNS;
-
-const ALL_ENDS: usize = 2 * VERTICES;
-
-// After those: for each level and vertex its side.
-const SIDES: usize = ENDS + ALL_ENDS;
-
-// After those: for each sending level, kind (0 is no kind), value and sender whether that message
-// was taken.
-const SAID: usize = SIDES + LEVELS * VERTICES;
-
-const KINDS: usize = wire::CENTRE + 1;
-
+// How many values a message may have: 0 to 15, and none.
 pub const VALUES: usize = wire::NONE + 1;
 
-const SIZE: usize = SAID + wire::SENDING * KINDS * VALUES * wire::SENDERS;
-
-pub type Table = [u16; SIZE];
-
-// Columns of the vote's row: n, t+1, 2t+1 and n-t; the agreement number, which takes two.
+// Columns of the vote's row: n, t+1, 2t+1 and n-t; the agreement number.
 pub const BOARDS: usize = 0;
 
 pub const FEW: usize = 1;
@@ -47,25 +30,13 @@ pub const MOST: usize = 3;
 
 pub const NUMBER: usize = 4;
 
-// The plan's kind, its last position, how many edges were read, and the reading of position 0,
-// which takes two columns; a tree's vertices are readings from 0 on.
+// The plan's kind, its last position, and the reading of position 0; a tree's vertices are readings
+// from 0 on.
 pub const KIND: usize = 6;
 
 pub const LAST: usize = 7;
 
-pub const EDGES: usize = 8;
-
 pub const BASE: usize = 9;
-
-// What the rule just applied wants: the kind of message to send (0: none), its value, the side to
-// enter (0: none) and the position there.
-pub const SAY_KIND: usize = 11;
-
-pub const SAY_VALUE: usize = 12;
-
-pub const GO_SIDE: usize = 13;
-
-pub const GO_TO: usize = 14;
 
 // Columns of a level's row. SMALL: the component has one or two positions, and no rule applies.
 pub const ENTERED: usize = 0;
@@ -88,30 +59,26 @@ pub const HIGH: usize = 7;
 
 pub const MEMBERS: usize = 8;
 
-// What was said once, and the two results.
+// What was said once.
 pub const ECHOED_PORT: usize = 9;
 
 pub const ECHOED_NONE: usize = 10;
 
 pub const PROPOSED: usize = 11;
 
-pub const FIRST_THERE: usize = 12;
+pub const PROPOSED_AGAIN: usize = 12;
 
-pub const FIRST: usize = 13;
+pub const SAID_CENTRE: usize = 13;
 
-pub const PROPOSED_AGAIN: usize = 15;
+// What may be there: the two results, and the output.
+pub const FIRST: usize = 14;
 
-pub const SECOND_THERE: usize = 16;
+pub const SECOND: usize = 15;
 
-pub const SECOND: usize = 17;
+pub const OUTPUT: usize = 16;
 
-pub const GRADE: usize = 18;
-
-pub const SAID_CENTRE: usize = 19;
-
-pub const OUTPUT_THERE: usize = 20;
-
-pub const OUTPUT: usize = 21;
+// The grade of the second result.
+pub const GRADE: usize = 17;
 
 // From here: whether value w was second-echoed.
 pub const ECHOED_AGAIN: usize = 24;
@@ -119,122 +86,198 @@ pub const ECHOED_AGAIN: usize = 24;
 // From here: neighbour k of the centre.
 pub const NEIGHBOUR: usize = 44;
 
-// A table of zeros.
-pub fn empty() -> Table {
-    [0u16; SIZE]
+// Kinds of plans, by their numbers.
+#[derive(Clone, Copy, Debug, PartialEq, Eq)]
+pub enum PlanKind {
+    Tree = 1,
+    Range = 2,
 }
 
-// A cell as a number.
-fn wide(x: u16) -> usize {
-    x as usize
-}
-
-// The number at a row and column, or 0.
-pub fn at(table: &Table, row: usize, column: usize) -> usize {
-    if row < ROWS {
-        if column < COLUMNS {
-            return wide(table[row * COLUMNS + column]);
-        }
-    }
-    0
-}
-
-// Sets the number at a row and column.
-pub fn set(table: &mut Table, row: usize, column: usize, value: usize) {
-    if row < ROWS {
-        if column < COLUMNS {
-            table[row * COLUMNS + column] = (value % CELL) as u16;
-        }
+impl PlanKind {
+    // The kind's number.
+    pub fn number(self) -> usize {
+        self as usize
     }
 }
 
-// Whether a flag is set.
-pub fn is_set(table: &Table, row: usize, column: usize) -> bool {
-    at(table, row, column) == 1
-}
+// plan_groups::Kind has the same: the second implementation shares no code (docs/DECISIONS.md).
+impl TryFrom<usize> for PlanKind {
+    type Error = Question;
 
-// A number of the vote that takes two columns, the high half first.
-pub fn long(table: &Table, column: usize) -> usize {
-    let high = at(table, VOTE, column);
-    let low = at(table, VOTE, num::next(column));
-    if high < CELL {
-        return num::add(high * CELL, low);
-    }
-    0
-}
-
-// Sets a number of the vote that takes two columns.
-pub fn set_long(table: &mut Table, column: usize, value: usize) {
-    set(table, VOTE, column, value / CELL);
-    set(table, VOTE, num::next(column), value);
-}
-
-// The ends of edge e stand at 2e and 2e+1.
-pub fn end_of(table: &Table, i: usize) -> usize {
-    if i < ALL_ENDS {
-        return wide(table[ENDS + i]);
-    }
-    0
-}
-
-// Sets an edge's end.
-pub fn set_end(table: &mut Table, i: usize, vertex: usize) {
-    if i < ALL_ENDS {
-        table[ENDS + i] = (vertex % CELL) as u16;
-    }
-}
-
-// The side of a vertex that is not in the level's component.
-pub const OUTSIDE: usize = 16;
-
-// On which side of the level's centre vertex v lies: 0 at the centre, or OUTSIDE.
-pub fn side_of(table: &Table, level: usize, v: usize) -> usize {
-    if level < LEVELS {
-        if v < VERTICES {
-            return wide(table[SIDES + level * VERTICES + v]);
-        }
-    }
-    OUTSIDE
-}
-
-// Sets the side of vertex v.
-pub fn set_side(table: &mut Table, level: usize, v: usize, side: usize) {
-    if level < LEVELS {
-        if v < VERTICES {
-            table[SIDES + level * VERTICES + v] = (side % CELL) as u16;
+    fn try_from(number: usize) -> Result<PlanKind, Question> {
+        match number {
+            1 => Ok(PlanKind::Tree),
+            2 => Ok(PlanKind::Range),
+            _ => Err(Question::PlanKind),
         }
     }
 }
 
-// The place of a message, or SIZE.
-fn spot(level: usize, kind: usize, value: usize, sender: usize) -> usize {
-    if level < wire::SENDING {
-        if kind < KINDS {
-            if value < VALUES {
-                if sender < wire::SENDERS {
-                    return SAID
-                        + ((level * KINDS + kind) * VALUES + value) * wire::SENDERS
-                        + sender;
-                }
+// The ends of an edge of the plan.
+#[derive(Clone, Copy, Debug, Default, PartialEq, Eq)]
+pub struct Edge {
+    pub a: usize,
+    pub b: usize,
+}
+
+// What was said in messages of a kind: for each value and sender whether the sender said it.
+#[derive(Clone, Copy, PartialEq, Eq)]
+pub struct Said {
+    pub values: [[bool; wire::SENDERS]; VALUES],
+}
+
+// What was said at a level, for each kind.
+#[derive(Clone, Copy, PartialEq, Eq)]
+struct Kinds {
+    said: [Said; wire::KINDS],
+}
+
+impl Kinds {
+    // Nothing was said.
+    fn none() -> Kinds {
+        let said = Said {
+            values: [[false; wire::SENDERS]; VALUES],
+        };
+        Kinds {
+            said: [said; wire::KINDS],
+        }
+    }
+}
+
+// For each vertex on which side of a level's centre it lies, 0 at the centre; none where it is not in
+// the level's component.
+#[derive(Clone, Copy, PartialEq, Eq)]
+struct Sides {
+    of: [Option<usize>; VERTICES],
+}
+
+impl Sides {
+    // No vertex is in the component.
+    fn none() -> Sides {
+        Sides {
+            of: [None; VERTICES],
+        }
+    }
+}
+
+#[derive(Clone, Copy)]
+pub struct Table {
+    cells: Cells,
+    // The edges read of a tree, one after the other: Options in an array and no ArrayVec, since a table
+    // is copied.
+    edges: [Option<Edge>; VERTICES],
+    sides: [Sides; LEVELS],
+    // For each sending level what was said.
+    kinds: [Kinds; wire::SENDING],
+}
+
+impl Table {
+    // A table of zeros.
+    pub fn new() -> Table {
+        Table {
+            cells: Cells::new(),
+            edges: [None; VERTICES],
+            sides: [Sides::none(); LEVELS],
+            kinds: [Kinds::none(); wire::SENDING],
+        }
+    }
+
+    // The number at a row and column, or 0.
+    pub fn at(&self, row: usize, column: usize) -> usize {
+        self.cells.at(row, column)
+    }
+
+    // Sets the number at a row and column.
+    pub fn set(&mut self, row: usize, column: usize, value: usize) {
+        self.cells.set(row, column, value);
+    }
+
+    // The number at a row and column where it may be missing: it is kept as one more, and 0 is none.
+    pub fn get(&self, row: usize, column: usize) -> Option<usize> {
+        self.at(row, column).checked_sub(1)
+    }
+
+    // Sets a number that may be missing.
+    pub fn put(&mut self, row: usize, column: usize, value: Option<usize>) {
+        self.set(row, column, value.map_or(0, |x| x.saturating_add(1)));
+    }
+
+    // Whether a flag is set.
+    pub fn is_set(&self, row: usize, column: usize) -> bool {
+        self.at(row, column) == 1
+    }
+
+    // Whether the plan is a range.
+    pub fn is_range(&self) -> bool {
+        self.at(VOTE, KIND) == PlanKind::Range.number()
+    }
+
+    // Whether two tables say the same of a board; the order of a tree's edges says nothing.
+    pub fn says_same(&self, other: &Table) -> bool {
+        self.cells == other.cells && self.sides == other.sides && self.kinds == other.kinds
+    }
+
+    // The edges read of a tree, one after the other.
+    pub fn edges(&self) -> &[Option<Edge>] {
+        &self.edges
+    }
+
+    // Keeps an edge after the others.
+    pub fn keep_edge(&mut self, edge: Edge) {
+        for place in self.edges.iter_mut() {
+            if place.is_none() {
+                *place = Some(edge);
+                return;
             }
         }
     }
-    SIZE
+
+    // On which side of the level's centre vertex v lies, 0 at the centre; none where v is not in the
+    // level's component.
+    pub fn side_of(&self, level: usize, v: usize) -> Option<usize> {
+        *self.sides.get(level)?.of.get(v)?
+    }
+
+    // Whether v is in the level's component.
+    pub fn is_inside(&self, level: usize, v: usize) -> bool {
+        self.side_of(level, v).is_some()
+    }
+
+    // Sets the side of vertex v.
+    pub fn set_side(&mut self, level: usize, v: usize, side: Option<usize>) {
+        if let Some(sides) = self.sides.get_mut(level)
+            && let Some(cell) = sides.of.get_mut(v)
+        {
+            *cell = side;
+        }
+    }
+
+    // What was said at a level in messages of a kind.
+    pub fn said(&self, level: usize, kind: Kind) -> Option<&Said> {
+        self.kinds.get(level)?.said.get(place(kind))
+    }
+
+    // Whether the message was taken from the sender.
+    pub fn is_said(&self, message: &Message, sender: usize) -> bool {
+        self.said(message.level, message.kind)
+            .and_then(|said| said.values.get(message.value))
+            .and_then(|senders| senders.get(sender))
+            .is_some_and(|said| *said)
+    }
+
+    // Keeps a message of the sender.
+    pub fn hear(&mut self, message: &Message, sender: usize) {
+        if let Some(kinds) = self.kinds.get_mut(message.level)
+            && let Some(said) = kinds.said.get_mut(place(message.kind))
+            && let Some(senders) = said.values.get_mut(message.value)
+            && let Some(said) = senders.get_mut(sender)
+        {
+            *said = true;
+        }
+    }
 }
 
-// Whether the message was taken from the sender.
-pub fn is_said(table: &Table, level: usize, kind: usize, value: usize, sender: usize) -> bool {
-    let i = spot(level, kind, value, sender);
-    if i < SIZE {
-        return table[i] == 1;
-    }
-    false
-}
-
-// Keeps a message of the sender.
-pub fn hear(table: &mut Table, level: usize, kind: usize, value: usize, sender: usize) {
-    let i = spot(level, kind, value, sender);
-    if i < SIZE {
-        table[i] = 1;
-    }
+// The place of a message's kind among all.
+fn place(kind: Kind) -> usize {
+    kind.number().saturating_sub(1)
 }

@@ -1,209 +1,201 @@
 // Trees by the distances between their vertices: u lies nearer than v to exactly those vertices
 // that are on u's side of the edge between them.
 use crate::table;
-use crate::table::{Table, VERTICES};
-use second_wire::num;
+use crate::table::{Edge, Table, VERTICES};
 
 // The distance of two vertices that are not joined: above every other.
-pub const APART: usize = VERTICES;
+const APART: u8 = u8::MAX;
 
-// A distance for each two vertices.
-pub type Distances = [u8; VERTICES * VERTICES];
+// The distances of one vertex from all.
+type Row = [u8; VERTICES];
 
-// Vertices in a row.
-type List = [usize; VERTICES];
+// A distance for each two vertices: how many edges their path has.
+#[derive(Clone, Copy)]
+pub struct Distances {
+    rows: [Row; VERTICES],
+}
 
-// The distance of v and w: how many edges their path has.
-pub fn between(d: &Distances, v: usize, w: usize) -> usize {
-    if v < VERTICES {
-        if w < VERTICES {
-            return num::wide(d[v * VERTICES + w]);
+impl Distances {
+    // No edges: every vertex is joined with itself only, and apart from the others.
+    pub fn alone() -> Distances {
+        let mut d = Distances {
+            rows: [[APART; VERTICES]; VERTICES],
+        };
+        for v in 0..VERTICES {
+            d.set(v, v, 0);
+        }
+        d
+    }
+
+    // The distances in the plan's tree.
+    pub fn of(table: &Table) -> Distances {
+        let mut d = Distances::alone();
+        for edge in table.edges().iter().flatten() {
+            d.join(*edge);
+        }
+        d
+    }
+
+    // The distances of v from all.
+    fn row(&self, v: usize) -> Row {
+        self.rows.get(v).map_or([APART; VERTICES], |row| *row)
+    }
+
+    // The distance of v and w.
+    pub fn between(&self, v: usize, w: usize) -> u8 {
+        self.rows
+            .get(v)
+            .and_then(|row| row.get(w))
+            .map_or(APART, |x| *x)
+    }
+
+    // Whether v and w are joined.
+    pub fn are_joined(&self, v: usize, w: usize) -> bool {
+        self.between(v, w) < APART
+    }
+
+    // Whether v and w are the ends of an edge.
+    pub fn are_neighbours(&self, v: usize, w: usize) -> bool {
+        self.between(v, w) == 1
+    }
+
+    // Whether w lies nearer to u than to v.
+    fn is_nearer(&self, w: usize, u: usize, v: usize) -> bool {
+        self.between(w, u) < self.between(w, v)
+    }
+
+    // Sets the distance from v to w.
+    fn set(&mut self, v: usize, w: usize, length: u8) {
+        if let Some(row) = self.rows.get_mut(v)
+            && let Some(cell) = row.get_mut(w)
+        {
+            *cell = length;
         }
     }
-    APART
-}
 
-// Sets the distance from v to w.
-fn set_one(d: &mut Distances, v: usize, w: usize, length: usize) {
-    if v < VERTICES {
-        if w < VERTICES {
-            d[v * VERTICES + w] = (length % 256) as u8;
-        }
-    }
-}
-
-// Sets the distance of v and w.
-fn set_both(d: &mut Distances, v: usize, w: usize, length: usize) {
-    set_one(d, v, w, length);
-    set_one(d, w, v, length);
-}
-
-// No edges: every vertex is joined with itself only, and APART from the others.
-pub fn alone() -> Distances {
-    let mut d = [255u8; VERTICES * VERTICES];
-    for v in 0..VERTICES {
-        set_one(&mut d, v, v, 0);
-    }
-    d
-}
-
-// Lists a vertex after `count` others if it is one to list, and gives how many there are then.
-fn list_if(wanted: bool, list: &mut List, count: usize, v: usize) -> usize {
-    if wanted {
-        if count < VERTICES {
-            list[count] = v;
-            return count + 1;
-        }
-    }
-    count
-}
-
-// Lists the vertices joined with v, and gives how many they are.
-fn list_joined(d: &Distances, v: usize, list: &mut List) -> usize {
-    let mut count = 0;
-    for w in 0..VERTICES {
-        count = list_if(between(d, v, w) < APART, list, count, w);
-    }
-    count
-}
-
-// Vertex i of a list.
-fn listed(list: &List, i: usize) -> usize {
-    if i < VERTICES {
-        return list[i];
-    }
-    APART
-}
-
-// Joins v with the listed vertices, over b, which is `length` away from v.
-fn join_one(d: &mut Distances, v: usize, b: usize, length: usize, list: &List, count: usize) {
-    for i in 0..count {
-        let w = listed(list, i);
-        set_both(d, v, w, num::add(length, between(d, b, w)));
-    }
-}
-
-// An edge from a to b joins all vertices joined with a and all joined with b.
-pub fn join(d: &mut Distances, a: usize, b: usize) {
-    let mut left = [0usize; VERTICES];
-    let mut right = [0usize; VERTICES];
-    let lefts = list_joined(d, a, &mut left);
-    let rights = list_joined(d, b, &mut right);
-    for i in 0..lefts {
-        let v = listed(&left, i);
-        join_one(d, v, b, num::next(between(d, v, a)), &right, rights);
-    }
-}
-
-// How many edges end at v.
-pub fn degree(d: &Distances, v: usize) -> usize {
-    let mut count = 0;
-    for w in 0..VERTICES {
-        count = num::add(count, (between(d, v, w) == 1) as usize);
-    }
-    count
-}
-
-// Joins the ends of edge e.
-fn join_ends(t: &Table, e: usize, d: &mut Distances) {
-    if e < VERTICES {
-        join(d, table::end_of(t, 2 * e), table::end_of(t, 2 * e + 1));
-    }
-}
-
-// The distances in the plan's tree.
-pub fn distances(t: &Table) -> Distances {
-    let edges = table::at(t, table::VOTE, table::EDGES);
-    let mut d = alone();
-    for e in 0..edges {
-        join_ends(t, e, &mut d);
-    }
-    d
-}
-
-// Whether v is in the level's component.
-pub fn is_inside(t: &Table, level: usize, v: usize) -> bool {
-    table::side_of(t, level, v) < table::OUTSIDE
-}
-
-// Whether w is in the component, on the side of the vertex v that its neighbour u is on.
-pub fn is_beyond(t: &Table, d: &Distances, level: usize, v: usize, u: usize, w: usize) -> bool {
-    if is_inside(t, level, w) {
-        return between(d, w, u) < between(d, w, v);
-    }
-    false
-}
-
-// How many members of the component are on the side of v that u is on, if u is a neighbour of v.
-fn members_beyond(t: &Table, d: &Distances, level: usize, v: usize, u: usize) -> usize {
-    if between(d, v, u) != 1 {
-        return 0;
-    }
-    let mut count = 0;
-    for w in 0..VERTICES {
-        count = num::add(count, is_beyond(t, d, level, v, u, w) as usize);
-    }
-    count
-}
-
-// Whether v is a member whose removal leaves parts of at most half of the members.
-fn is_light(t: &Table, d: &Distances, level: usize, v: usize) -> bool {
-    if is_inside(t, level, v) {
-        let half = table::at(t, level, table::MEMBERS) / 2;
-        for u in 0..VERTICES {
-            if half < members_beyond(t, d, level, v, u) {
-                return false;
+    // Joins v with the vertices that a row is joined with, over the row's vertex, which is `length`
+    // away from v.
+    fn join_all(&mut self, v: usize, row: &Row, length: u8) {
+        for (w, x) in row.iter().enumerate() {
+            if *x < APART {
+                let sum = length.saturating_add(*x);
+                self.set(v, w, sum);
+                self.set(w, v, sum);
             }
         }
-        return true;
     }
-    false
-}
 
-// The centre: the smallest-numbered such vertex.
-pub fn centre_of(t: &Table, d: &Distances, level: usize) -> usize {
-    for v in 0..VERTICES {
-        if is_light(t, d, level, v) {
-            return v;
+    // An edge joins all vertices joined with one end and all joined with the other.
+    pub fn join(&mut self, edge: Edge) {
+        let left = self.row(edge.a);
+        let right = self.row(edge.b);
+        for (v, x) in left.iter().enumerate() {
+            if *x < APART {
+                self.join_all(v, &right, x.saturating_add(1));
+            }
         }
     }
-    0
+
+    // How many edges end at v.
+    pub fn degree(&self, v: usize) -> usize {
+        self.row(v).iter().filter(|x| **x == 1).count()
+    }
+}
+
+// The component of a level.
+#[derive(Clone, Copy)]
+struct Component<'a> {
+    table: &'a Table,
+    distances: &'a Distances,
+    level: usize,
+}
+
+impl Component<'_> {
+    // Whether w is a member on the side of the vertex v that its neighbour u is on.
+    fn is_beyond(&self, v: usize, u: usize, w: usize) -> bool {
+        self.table.is_inside(self.level, w) && self.distances.is_nearer(w, u, v)
+    }
+
+    // How many members are on the side of v that its neighbour u is on.
+    fn members_beyond(&self, v: usize, u: usize) -> usize {
+        (0..VERTICES).filter(|w| self.is_beyond(v, u, *w)).count()
+    }
+
+    // Whether v is a member whose removal leaves parts of at most half of the members.
+    fn is_light(&self, v: usize) -> bool {
+        let half = self.table.at(self.level, table::MEMBERS) / 2;
+        self.table.is_inside(self.level, v)
+            && (0..VERTICES)
+                .filter(|u| self.distances.are_neighbours(v, *u))
+                .all(|u| self.members_beyond(v, u) <= half)
+    }
+
+    // The centre: the smallest-numbered such vertex.
+    fn centre(&self) -> usize {
+        (0..VERTICES).find(|v| self.is_light(*v)).unwrap_or(0)
+    }
 }
 
 // The members on the side of the centre that its neighbour u is on get the side k.
-pub fn mark_side(t: &mut Table, d: &Distances, level: usize, centre: usize, u: usize, k: usize) {
+fn mark_side(t: &mut Table, d: &Distances, level: usize, centre: usize, u: usize, k: usize) {
     for w in 0..VERTICES {
-        if is_beyond(t, d, level, centre, u, w) {
-            table::set_side(t, level, w, k);
+        if t.is_inside(level, w) && d.is_nearer(w, u, centre) {
+            t.set_side(level, w, Some(k));
         }
     }
 }
 
-// A vertex becomes a member or not; gives the count of members with it.
-fn enter_vertex(t: &mut Table, level: usize, v: usize, member: bool, count: usize) -> usize {
-    if member {
-        table::set_side(t, level, v, 0);
-        return num::next(count);
+// The sides of a level's centre from 1 on are those of its neighbours in the component, in rising order.
+// Marks them, keeps the neighbours and how many they are, and gives how many.
+fn mark_sides(t: &mut Table, d: &Distances, level: usize, centre: usize) -> usize {
+    let mut k = 0usize;
+    for u in 0..VERTICES {
+        if t.is_inside(level, u) && d.are_neighbours(centre, u) {
+            k = k.saturating_add(1);
+            t.set(level, table::NEIGHBOUR.saturating_add(k), u);
+            mark_side(t, d, level, centre, u, k);
+        }
     }
-    table::set_side(t, level, v, table::OUTSIDE);
-    count
+    t.set(level, table::DEGREE, k);
+    k
+}
+
+// Finds the centre and the sides of a level's component; gives how many sides it has: one of one or two
+// positions has none.
+pub fn open(t: &mut Table, d: &Distances, level: usize) -> usize {
+    if t.at(level, table::MEMBERS) < 3 {
+        return 0;
+    }
+    let centre = Component {
+        table: t,
+        distances: d,
+        level,
+    }
+    .centre();
+    t.set(level, table::CENTRE, centre);
+    mark_sides(t, d, level, centre)
 }
 
 // The next level's component becomes side k of this one's.
 pub fn enter_side(t: &mut Table, level: usize, k: usize) {
-    let below = num::next(level);
-    let mut count = 0;
+    let below = level.saturating_add(1);
+    let mut members = 0usize;
     for v in 0..VERTICES {
-        let member = table::side_of(t, level, v) == k;
-        count = enter_vertex(t, below, v, member, count);
+        let side = if t.side_of(level, v) == Some(k) {
+            members = members.saturating_add(1);
+            Some(0)
+        } else {
+            None
+        };
+        t.set_side(below, v, side);
     }
-    table::set(t, below, table::MEMBERS, count);
+    t.set(below, table::MEMBERS, members);
 }
 
 // Level 0's component becomes the tree of so many vertices.
 pub fn enter_whole(t: &mut Table, vertices: usize) {
     for v in 0..VERTICES {
-        enter_vertex(t, 0, v, v < vertices, 0);
+        t.set_side(0, v, if v < vertices { Some(0) } else { None });
     }
-    table::set(t, 0, table::MEMBERS, vertices);
+    t.set(0, table::MEMBERS, vertices);
 }

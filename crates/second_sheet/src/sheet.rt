@@ -1,23 +1,15 @@
 // A record as a sheet of numbers: a row for each level, one for the vote, and the rows of the plan.
-// A flag is 0 or 1, a set of senders a mask with bit b for board b.
+// A flag is 0 or 1, a set of senders a mask with bit b for board b. Rows and columns are numbers, and no
+// structs with named fields, so that a random change is a number at any place.
+use second_plan::cells::Cells;
+use second_plan::table::PlanKind;
 
 // Levels 0 to 15 have a row each, and after them the vote.
 pub const LEVELS: usize = 16;
 
 pub const VOTE: usize = LEVELS;
 
-const COLUMNS: usize = 160;
-
-// After the rows: the vertices that the plan's rows lead from, and those that they lead to.
-const FROM: usize = (LEVELS + 1) * COLUMNS;
-
 pub const PLAN_ROWS: usize = 254;
-
-const TO: usize = FROM + PLAN_ROWS;
-
-const SIZE: usize = TO + PLAN_ROWS;
-
-pub type Sheet = [usize; SIZE];
 
 // Columns of the vote's row: n, t, own number and agreement number; the plan's kind, how many
 // positions it has and its low reading, kept as the reading plus 2,147,483,648.
@@ -77,68 +69,86 @@ pub const NOT_YET: usize = 17;
 
 pub const NO_OUTPUT: usize = 65536;
 
-// A sheet of zeros.
-pub fn empty() -> Sheet {
-    [0usize; SIZE]
+// A row of the plan: the vertex that it leads from, and the one that it leads to.
+#[derive(Clone, Copy, Debug, Default, PartialEq, Eq)]
+pub struct PlanRow {
+    pub from: usize,
+    pub to: usize,
 }
 
-// The number at a row and column, or 0.
-pub fn at(sheet: &Sheet, row: usize, column: usize) -> usize {
-    if row <= LEVELS {
-        if column < COLUMNS {
-            return sheet[row * COLUMNS + column];
-        }
-    }
-    0
-}
-
-// Sets the number at a row and column.
-pub fn set(sheet: &mut Sheet, row: usize, column: usize, value: usize) {
-    if row <= LEVELS {
-        if column < COLUMNS {
-            sheet[row * COLUMNS + column] = value;
+impl PlanRow {
+    // The row the other way round.
+    pub fn turned(self) -> PlanRow {
+        PlanRow {
+            from: self.to,
+            to: self.from,
         }
     }
 }
 
-// The vertex that row i of the plan leads from.
-pub fn from(sheet: &Sheet, i: usize) -> usize {
-    if i < PLAN_ROWS {
-        return sheet[FROM + i];
-    }
-    0
+#[derive(Clone, Copy, PartialEq, Eq)]
+pub struct Sheet {
+    cells: Cells,
+    plan: [PlanRow; PLAN_ROWS],
 }
 
-// The vertex that it leads to.
-pub fn to(sheet: &Sheet, i: usize) -> usize {
-    if i < PLAN_ROWS {
-        return sheet[TO + i];
-    }
-    0
-}
-
-// Row i of the plan leads from a to b.
-pub fn set_row(sheet: &mut Sheet, i: usize, a: usize, b: usize) {
-    if i < PLAN_ROWS {
-        sheet[FROM + i] = a;
-        sheet[TO + i] = b;
-    }
-}
-
-// The number at a place of all, or 0.
-fn cell(sheet: &Sheet, i: usize) -> usize {
-    if i < SIZE {
-        return sheet[i];
-    }
-    0
-}
-
-// Whether two sheets are the same.
-pub fn is_same(a: &Sheet, b: &Sheet) -> bool {
-    for i in 0..SIZE {
-        if cell(a, i) != cell(b, i) {
-            return false;
+impl Sheet {
+    // A sheet of zeros.
+    pub fn new() -> Sheet {
+        Sheet {
+            cells: Cells::new(),
+            plan: [PlanRow::default(); PLAN_ROWS],
         }
     }
-    true
+
+    // The number at a row and column, or 0.
+    pub fn at(&self, row: usize, column: usize) -> usize {
+        self.cells.at(row, column)
+    }
+
+    // Sets the number at a row and column.
+    pub fn set(&mut self, row: usize, column: usize, value: usize) {
+        self.cells.set(row, column, value);
+    }
+
+    // The number at a row and column as a u32, without what does not fit.
+    pub fn word(&self, row: usize, column: usize) -> u32 {
+        (self.at(row, column) % 4294967296) as u32
+    }
+
+    // The number of the vote's row at a column, or 0.
+    pub fn of_vote(&self, column: usize) -> usize {
+        self.at(VOTE, column)
+    }
+
+    // Whether the plan is a range.
+    pub fn is_range(&self) -> bool {
+        self.of_vote(KIND) == PlanKind::Range.number()
+    }
+
+    // How many rows the plan uses: one fewer than its positions, and none of a range.
+    pub fn rows_used(&self) -> usize {
+        if self.is_range() {
+            0
+        } else {
+            self.of_vote(COUNT).saturating_sub(1)
+        }
+    }
+
+    // The rows of the plan.
+    pub fn plan(&self) -> &[PlanRow] {
+        &self.plan
+    }
+
+    // Row i of the plan, or zeros.
+    pub fn plan_row(&self, i: usize) -> PlanRow {
+        self.plan.get(i).copied().unwrap_or_default()
+    }
+
+    // Sets row i of the plan.
+    pub fn set_plan_row(&mut self, i: usize, row: PlanRow) {
+        if let Some(cell) = self.plan.get_mut(i) {
+            *cell = row;
+        }
+    }
 }

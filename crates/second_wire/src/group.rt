@@ -1,176 +1,110 @@
 // Groups: seven-bit pieces, low piece first, the top bit set on every byte but the last, in the
 // fewest bytes, at most 4,294,967,295.
-use crate::num;
-use crate::num::Room;
+use crate::room;
+use arrayvec::ArrayVec;
 
-// What reading found: more bytes wanted; a whole group; one too long or too large, whatever bytes
-// follow; or the end of the bytes inside one.
-const OPEN: usize = 0;
-
-pub const WHOLE: usize = 1;
-
-pub const MALFORMED: usize = 2;
-
-pub const CUT: usize = 3;
-
-// What limits make of it: a whole group outside them, or one cut short that can only come to lie
-// above them.
-pub const OUTSIDE: usize = 4;
-
-pub const CUT_ABOVE: usize = 5;
+// The most bytes of a group.
+const MOST_BYTES: usize = 5;
 
 // The largest value of a group.
 pub const LARGEST: usize = 4294967295;
 
-// The value of the pieces read, how many they are, and the place after them.
-#[derive(Clone, Copy)]
+// Why no group stands at a place, whatever bytes follow, or none within its limits.
+#[derive(Clone, Copy, Debug, PartialEq, Eq)]
+pub enum Fault {
+    // The bytes end inside it; the least value that it can get from further bytes.
+    Cut { least: usize },
+    // The bytes end inside it, and it can only come to lie above its limits.
+    CutAbove,
+    // It is too long or too large.
+    Malformed,
+    // It is whole, and outside its limits.
+    Outside,
+}
+
+// A whole group: its value, and how many bytes it has.
+#[derive(Clone, Copy, Debug, PartialEq, Eq)]
 pub struct Group {
-    pub state: usize,
     pub value: usize,
-    pub pieces: usize,
-    pub next: usize,
+    pub length: usize,
 }
 
 // The value of byte b's piece where `pieces` stand before it; above every limit for a sixth.
-pub fn piece(b: usize, pieces: usize) -> usize {
-    let low = b % 128;
+fn piece(b: usize, pieces: usize) -> usize {
     match pieces {
-        0 => low,
-        1 => low * 128,
-        2 => low * 16384,
-        3 => low * 2097152,
-        4 => low * 268435456,
-        _ => 34359738368,
+        0..=4 => (b % 128) << (7 * pieces),
+        _ => 1 << 35,
     }
 }
 
-// The group in another state.
-fn ended(g: Group, state: usize) -> Group {
-    Group {
-        state,
-        value: g.value,
-        pieces: g.pieces,
-        next: g.next,
+// A group of this value whose last byte, after so many pieces, is b: a needless last byte or too large
+// a value is refused.
+fn ended(value: usize, b: u8, pieces: usize) -> Result<Group, Fault> {
+    if LARGEST < value || b == 0 && 0 < pieces {
+        return Err(Fault::Malformed);
     }
-}
-
-// What a group's last byte makes of it: a needless last byte or too large a value is refused.
-fn last_state(b: usize, pieces: usize, value: usize) -> usize {
-    if 128 <= b {
-        return OPEN;
-    }
-    if LARGEST < value {
-        return MALFORMED;
-    }
-    if b == 0 {
-        if 0 < pieces {
-            return MALFORMED;
-        }
-    }
-    WHOLE
-}
-
-// The group with byte b, its last or not.
-fn with_byte(g: Group, b: usize) -> Group {
-    let value = num::add(g.value, piece(b, g.pieces));
-    Group {
-        state: last_state(b, g.pieces, value),
+    Ok(Group {
         value,
-        pieces: num::next(g.pieces),
-        next: num::next(g.next),
+        length: pieces.saturating_add(1),
+    })
+}
+
+// The least value of a group cut short after so many pieces of this value.
+fn least(value: usize, pieces: usize) -> usize {
+    match pieces {
+        0 => 0,
+        _ => value.saturating_add(piece(1, pieces)),
     }
 }
 
-// The group with the byte after it, if it is open. After five bytes none is asked for: it is too
-// long even where the bytes end there.
-fn step(bytes: &[u8], g: Group) -> Group {
-    if g.state != OPEN {
-        return g;
-    }
-    if 4 < g.pieces {
-        return ended(g, MALFORMED);
-    }
-    if bytes.len() <= g.next {
-        return ended(g, CUT);
-    }
-    with_byte(g, num::byte_at(bytes, g.next))
-}
-
-// The group at `at`.
-pub fn read(bytes: &[u8], at: usize) -> Group {
-    let mut g = Group {
-        state: OPEN,
-        value: 0,
-        pieces: 0,
-        next: at,
-    };
-    for _ in 0usize..6 {
-        g = step(bytes, g);
-    }
-    g
-}
-
-// The least value that a group cut short can get from further bytes.
-fn least(g: Group) -> usize {
-    if g.pieces == 0 {
-        return 0;
-    }
-    num::add(g.value, piece(1, g.pieces))
-}
-
-// The state of a group that is to be from `low` to `high`.
-fn limited(g: Group, low: usize, high: usize) -> usize {
-    if g.state == CUT {
-        if high < least(g) {
-            return CUT_ABOVE;
+// The group that the bytes begin with. After five bytes none is asked for: it is too long even where
+// the bytes end there.
+pub fn read(bytes: &[u8]) -> Result<Group, Fault> {
+    let mut value = 0usize;
+    for (pieces, b) in bytes.iter().take(MOST_BYTES).enumerate() {
+        value = value.saturating_add(piece(usize::from(*b), pieces));
+        if *b < 128 {
+            return ended(value, *b, pieces);
         }
     }
-    if g.state == WHOLE {
-        if g.value < low {
-            return OUTSIDE;
-        }
-        if high < g.value {
-            return OUTSIDE;
-        }
+    if MOST_BYTES <= bytes.len() {
+        return Err(Fault::Malformed);
     }
-    g.state
+    Err(Fault::Cut {
+        least: least(value, bytes.len()),
+    })
 }
 
-// The group at `at`, which is to be from `low` to `high`.
-pub fn within(bytes: &[u8], at: usize, low: usize, high: usize) -> Group {
-    let g = read(bytes, at);
-    ended(g, limited(g, low, high))
+// The group that the bytes begin with, which is to be from `low` to `high`.
+pub fn within(bytes: &[u8], low: usize, high: usize) -> Result<Group, Fault> {
+    match read(bytes) {
+        Ok(g) if g.value < low || high < g.value => Err(Fault::Outside),
+        Err(Fault::Cut { least }) if high < least => Err(Fault::CutAbove),
+        read => read,
+    }
 }
 
 // How many bytes a group has, by document 02's printed table. Writing does not ask it.
+// varint::size has the same table on purpose: the second implementation shares no code (docs/DECISIONS.md).
 pub fn size(value: usize) -> usize {
-    if value <= 127 {
-        return 1;
+    match value {
+        0..=127 => 1,
+        128..=16383 => 2,
+        16384..=2097151 => 3,
+        2097152..=268435455 => 4,
+        _ => 5,
     }
-    if value <= 16383 {
-        return 2;
-    }
-    if value <= 2097151 {
-        return 3;
-    }
-    if value <= 268435455 {
-        return 4;
-    }
-    5
 }
 
-// Writes the group of `value` at `at` and gives the place after it.
-pub fn write(room: &mut Room, at: usize, value: usize) -> usize {
-    let mut place = at;
+// Writes the group of a value.
+pub fn write<const N: usize>(room: &mut ArrayVec<u8, N>, value: usize) {
     let mut rest = value;
-    for _ in 0usize..4 {
+    for _ in 1..MOST_BYTES {
         if rest < 128 {
             break;
         }
-        num::put(room, place, 128 + rest % 128);
-        place = num::next(place);
-        rest = rest / 128;
+        room::put(room, (128 + rest % 128) as u8);
+        rest /= 128;
     }
-    num::put(room, place, rest);
-    num::next(place)
+    room::put(room, (rest % 256) as u8);
 }

@@ -3,5 +3,6 @@
 #![tactic(auto)]
 
 pub mod group;
-pub mod num;
+pub mod reader;
+pub mod room;
 pub mod wire;

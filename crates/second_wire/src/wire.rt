@@ -1,24 +1,13 @@
 // Messages and journal records.
 use crate::group;
-use crate::num::Room;
+use crate::group::Fault;
+use crate::reader::{Broken, Reader};
+use crate::room::Room;
 
 // Sorts of records.
 pub const START: usize = 1;
 
 pub const TAKEN: usize = 2;
-
-// Kinds of messages.
-pub const FIRST_ECHO: usize = 1;
-
-pub const FIRST_PROPOSAL: usize = 2;
-
-pub const SECOND_ECHO: usize = 3;
-
-pub const SECOND_PROPOSAL: usize = 4;
-
-pub const SIDE: usize = 5;
-
-pub const CENTRE: usize = 6;
 
 // The value that stands for none, after 0 to 15.
 pub const NONE: usize = 16;
@@ -32,180 +21,168 @@ pub const SENDERS: usize = 16;
 // Positions are 0 to 65,535.
 pub const LAST_POSITION: usize = 65535;
 
-// A start at a position, or a message of a sender, and the place after it. The state is that of the
-// first group that is not whole within its limits, and the place then its first byte's.
-#[derive(Clone, Copy)]
-pub struct Record {
-    pub state: usize,
-    pub sort: usize,
+// Kinds of messages, by their numbers.
+#[derive(Clone, Copy, Debug, PartialEq, Eq)]
+pub enum Kind {
+    FirstEcho = 1,
+    FirstProposal = 2,
+    SecondEcho = 3,
+    SecondProposal = 4,
+    Side = 5,
+    Centre = 6,
+}
+
+// How many kinds there are.
+pub const KINDS: usize = 6;
+
+impl Kind {
+    pub const ALL: [Kind; KINDS] = [
+        Kind::FirstEcho,
+        Kind::FirstProposal,
+        Kind::SecondEcho,
+        Kind::SecondProposal,
+        Kind::Side,
+        Kind::Centre,
+    ];
+
+    // The kind's number.
+    pub fn number(self) -> usize {
+        self as usize
+    }
+
+    // The lowest value of a message of the kind.
+    fn lowest(self) -> usize {
+        match self {
+            Kind::Side => 1,
+            _ => 0,
+        }
+    }
+
+    // The highest value: none, where the kind has it. Centre has no value, which is kept as 0.
+    fn highest(self) -> usize {
+        match self {
+            Kind::FirstEcho | Kind::SecondEcho | Kind::SecondProposal => NONE,
+            Kind::FirstProposal | Kind::Side => NONE - 1,
+            Kind::Centre => 0,
+        }
+    }
+}
+
+impl TryFrom<usize> for Kind {
+    type Error = Fault;
+
+    fn try_from(number: usize) -> Result<Kind, Fault> {
+        match number {
+            1 => Ok(Kind::FirstEcho),
+            2 => Ok(Kind::FirstProposal),
+            3 => Ok(Kind::SecondEcho),
+            4 => Ok(Kind::SecondProposal),
+            5 => Ok(Kind::Side),
+            6 => Ok(Kind::Centre),
+            _ => Err(Fault::Outside),
+        }
+    }
+}
+
+// A message: agreement number, level, kind and value.
+#[derive(Clone, Copy, Debug, PartialEq, Eq)]
+pub struct Message {
     pub number: usize,
-    pub position: usize,
-    pub sender: usize,
     pub level: usize,
-    pub kind: usize,
+    pub kind: Kind,
     pub value: usize,
-    pub next: usize,
 }
 
-// A record whose group at `at` has this state.
-fn broken(state: usize, at: usize) -> Record {
-    Record {
-        state,
-        sort: 0,
-        number: 0,
-        position: 0,
-        sender: 0,
-        level: 0,
-        kind: 0,
-        value: 0,
-        next: at,
+// A start at a position, or a message taken from a sender.
+#[derive(Clone, Copy, Debug, PartialEq, Eq)]
+pub enum Record {
+    Start { number: usize, position: usize },
+    Taken { sender: usize, message: Message },
+}
+
+impl Record {
+    // The agreement number.
+    pub fn number(&self) -> usize {
+        match self {
+            Record::Start { number, .. } => *number,
+            Record::Taken { message, .. } => message.number,
+        }
     }
 }
 
-// A whole record of a start.
-pub fn start_of(number: usize, position: usize, next: usize) -> Record {
-    Record {
-        state: group::WHOLE,
-        sort: START,
-        number,
-        position,
-        sender: 0,
-        level: 0,
-        kind: 0,
-        value: 0,
-        next,
+// A message's kind.
+fn read_kind(reader: &mut Reader) -> Result<Kind, Broken> {
+    let place = reader.place();
+    let number = reader.within(1, KINDS)?;
+    Kind::try_from(number).map_err(|fault| Broken { fault, place })
+}
+
+// A message's value.
+fn read_value(reader: &mut Reader, kind: Kind) -> Result<usize, Broken> {
+    match kind {
+        Kind::Centre => Ok(0),
+        _ => reader.within(kind.lowest(), kind.highest()),
     }
 }
 
-// A whole record of a taken message.
-fn message_of(
-    sender: usize,
-    number: usize,
-    level: usize,
-    kind: usize,
-    value: usize,
-    next: usize,
-) -> Record {
-    Record {
-        state: group::WHOLE,
-        sort: TAKEN,
+// The next message: agreement number, level, kind, value.
+pub fn read_message(reader: &mut Reader) -> Result<Message, Broken> {
+    let number = reader.group()?;
+    let level = reader.within(0, SENDING - 1)?;
+    let kind = read_kind(reader)?;
+    let value = read_value(reader, kind)?;
+    Ok(Message {
         number,
-        position: 0,
-        sender,
         level,
         kind,
         value,
-        next,
-    }
-}
-
-// The lowest value of a kind.
-fn lowest(kind: usize) -> usize {
-    if kind == SIDE {
-        return 1;
-    }
-    0
-}
-
-// The highest value of a kind: none, where the kind has it.
-fn highest(kind: usize) -> usize {
-    if kind == FIRST_PROPOSAL {
-        return NONE - 1;
-    }
-    if kind == SIDE {
-        return NONE - 1;
-    }
-    NONE
-}
-
-// A message's kind and value.
-fn read_body(bytes: &[u8], at: usize, sender: usize, number: usize, level: usize) -> Record {
-    let kind = group::within(bytes, at, FIRST_ECHO, CENTRE);
-    if kind.state != group::WHOLE {
-        return broken(kind.state, at);
-    }
-    if kind.value == CENTRE {
-        return message_of(sender, number, level, CENTRE, 0, kind.next);
-    }
-    let value = group::within(bytes, kind.next, lowest(kind.value), highest(kind.value));
-    if value.state != group::WHOLE {
-        return broken(value.state, kind.next);
-    }
-    message_of(sender, number, level, kind.value, value.value, value.next)
-}
-
-// The message at `at`, of a sender: agreement number, level, kind, value.
-pub fn read_message(bytes: &[u8], at: usize, sender: usize) -> Record {
-    let number = group::within(bytes, at, 0, group::LARGEST);
-    if number.state != group::WHOLE {
-        return broken(number.state, at);
-    }
-    let level = group::within(bytes, number.next, 0, SENDING - 1);
-    if level.state != group::WHOLE {
-        return broken(level.state, number.next);
-    }
-    read_body(bytes, level.next, sender, number.value, level.value)
+    })
 }
 
 // A start's agreement number and position.
-fn read_start(bytes: &[u8], at: usize) -> Record {
-    let number = group::within(bytes, at, 0, group::LARGEST);
-    if number.state != group::WHOLE {
-        return broken(number.state, at);
-    }
-    let position = group::within(bytes, number.next, 0, LAST_POSITION);
-    if position.state != group::WHOLE {
-        return broken(position.state, number.next);
-    }
-    start_of(number.value, position.value, position.next)
+fn read_start(reader: &mut Reader) -> Result<Record, Broken> {
+    let number = reader.group()?;
+    let position = reader.within(0, LAST_POSITION)?;
+    Ok(Record::Start { number, position })
 }
 
 // A taken message's sender and message.
-fn read_taken(bytes: &[u8], at: usize) -> Record {
-    let sender = group::within(bytes, at, 0, SENDERS - 1);
-    if sender.state != group::WHOLE {
-        return broken(sender.state, at);
-    }
-    read_message(bytes, sender.next, sender.value)
+fn read_taken(reader: &mut Reader) -> Result<Record, Broken> {
+    let sender = reader.within(0, SENDERS - 1)?;
+    let message = read_message(reader)?;
+    Ok(Record::Taken { sender, message })
 }
 
-// The record at `at`: group 1 and a start, or group 2 and a taken message.
-pub fn read_record(bytes: &[u8], at: usize) -> Record {
-    let sort = group::within(bytes, at, START, TAKEN);
-    if sort.state != group::WHOLE {
-        return broken(sort.state, at);
+// The next record: group 1 and a start, or group 2 and a taken message.
+pub fn read_record(reader: &mut Reader) -> Result<Record, Broken> {
+    match reader.within(START, TAKEN)? {
+        START => read_start(reader),
+        _ => read_taken(reader),
     }
-    if sort.value == START {
-        return read_start(bytes, sort.next);
-    }
-    read_taken(bytes, sort.next)
 }
 
-// Writes a message at `at` and gives the place after it.
-pub fn write_message(
-    room: &mut Room,
-    at: usize,
-    number: usize,
-    level: usize,
-    kind: usize,
-    value: usize,
-) -> usize {
-    let a = group::write(room, at, number);
-    let b = group::write(room, a, level);
-    let c = group::write(room, b, kind);
-    if kind == CENTRE {
-        return c;
+// Writes a message.
+pub fn write_message(room: &mut Room, message: &Message) {
+    group::write(room, message.number);
+    group::write(room, message.level);
+    group::write(room, message.kind.number());
+    if message.kind != Kind::Centre {
+        group::write(room, message.value);
     }
-    group::write(room, c, value)
 }
 
-// Writes a record at the room's start and gives its length.
-pub fn write_record(room: &mut Room, r: Record) -> usize {
-    let a = group::write(room, 0, r.sort);
-    if r.sort == START {
-        let b = group::write(room, a, r.number);
-        return group::write(room, b, r.position);
+// Writes a record.
+pub fn write_record(room: &mut Room, record: &Record) {
+    match record {
+        Record::Start { number, position } => {
+            group::write(room, START);
+            group::write(room, *number);
+            group::write(room, *position);
+        }
+        Record::Taken { sender, message } => {
+            group::write(room, TAKEN);
+            group::write(room, *sender);
+            write_message(room, message);
+        }
     }
-    let b = group::write(room, a, r.sender);
-    write_message(room, b, r.number, r.level, r.kind, r.value)
 }

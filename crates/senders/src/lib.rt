@@ -5,7 +5,8 @@ ghost use Rattle.std.specs.Prelude.{◌≡◌, ◌<◌, ◌≤◌, ◌^◌};
 ghost use Rattle.base.specs.Limits.{max_boards};
 ghost use Rattle.senders.specs.Senders.{is_in, with_sender, union, at_least};
 
-// A set of senders: a digit for each of base::MAX_BOARDS boards.
+// A set of senders: a digit for each of base::MAX_BOARDS boards. An alias with functions and no struct with methods: that sets are unsigned masks is a
+// rule of the project, and the definitions speak of them as numbers (`is_in`, the party's list of them).
 pub type Mask = u16;
 
 // The set m with sender s.
@@ -17,6 +18,7 @@ pub fn add(m: Mask, s: u8) -> Mask
 }
 
 // Is sender s in the set?
+#[tactic(auto, unfolding(crate::specs::Senders::is_in))]
 pub fn contains(m: Mask, s: u8) -> bool
     requires { s < max_boards }
     ensures { result ≡ is_in m s }
@@ -50,8 +52,5 @@ pub fn only_below(m: Mask, n: u32) -> bool
     requires { n ≤ max_boards }
     ensures { result ≡ Rattle.senders.specs.Senders.only_below m n }
 {
-    if n == base::MAX_BOARDS {
-        return true;
-    }
-    m < (1u16 << n)
+    n == base::MAX_BOARDS || m < (1u16 << n)
 }

@@ -2,23 +2,23 @@
 #![tactic(auto)]
 
 ghost use Rattle.std.specs.Prelude.{◌≡◌};
+ghost use Rattle.base.specs.Verdict.{fault_number};
 ghost use Rattle.settings.specs.Settings.{settings_fault};
 
-// The number of the first of questions 1 to 3 that the settings fail, or 0.
-pub fn fault(n: u32, t: u32, own: u32) -> u8
-    ensures { result ≡ settings_fault n t own }
+use base::Question;
+
+// The first of questions 1 to 3 that the settings fail is the error.
+pub fn check(n: u32, t: u32, own: u32) -> Result<(), Question>
+    ensures { fault_number result ≡ settings_fault n t own }
 {
-    if n < 1 {
-        return 1;
+    if n < 1 || base::MAX_BOARDS < n {
+        return Err(Question::Boards);
     }
-    if base::MAX_BOARDS < n {
-        return 1;
-    }
-    if n as u64 <= 3 * (t as u64) {
-        return 2;
+    if u64::from(n) <= 3 * u64::from(t) {
+        return Err(Question::FaultyBoards);
     }
     if n <= own {
-        return 3;
+        return Err(Question::OwnNumber);
     }
-    0
+    Ok(())
 }

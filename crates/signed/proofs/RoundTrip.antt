@@ -12,11 +12,11 @@ use lib.Signed.{mag, le_z}
 use borrow.Author.Tests.{le-leb, lt-leb}
 use Rattle.base.specs.Limits.{offset_zero}
 use Rattle.base.specs.Pick.{pick}
-use Rattle.varint.specs.declared.VarintRead.{VarintRead}
+use Rattle.std.specs.Prelude.{Ok, Err}
 use Rattle.varint.specs.Varint.{AllBytes}
-use Rattle.varint.specs.Reading.{varint_at}
+use Rattle.varint.specs.Reading.{VarintRead, value, varint_at}
+use Rattle.varint.proofs.Laws.{same_parsed}
 use Rattle.varint.proofs.RoundTrip.{varint_read, varint_was_written}
-use Rattle.signed.specs.declared.SignedRead.{SignedRead}
 use Rattle.signed.specs.Signed.{zigzag, unzigzag, signed_bytes, signed_of, signed_at, offset, from_offset, offset_of_zigzag}
 use Rattle.signed.proofs.Laws.{unzigzag_even, unzigzag_odd}
 
@@ -45,20 +45,18 @@ unzigzag_mag v h = go (eqb (v % 2) 0)
 
 -- ---- in bytes
 
-pub signed_read : (z : ℤ) (p q : List ℕ) → mag z < 2 ^ 31 → signed_at (p ++ (signed_bytes z ++ q)) (length p) ≡ SignedRead.Value z (length p + length (signed_bytes z))
+pub signed_read : (z : ℤ) (p q : List ℕ) → mag z < 2 ^ 31 → signed_at (p ++ (signed_bytes z ++ q)) (length p) ≡ Ok (record { value = z; next = length p + length (signed_bytes z) })
 signed_read z p q h =
-    ap signed_of (varint_read (zigzag z) p q (zigzag_fits z h)) ∙ ap (λ (x : ℤ). SignedRead.Value x (length p + length (signed_bytes z))) (unzigzag_zigzag z)
+    ap signed_of (varint_read (zigzag z) p q (zigzag_fits z h)) ∙ ap (λ (x : ℤ). Ok (record { value = x; next = length p + length (signed_bytes z) })) (unzigzag_zigzag z)
 
 -- a signed value comes from a varint
-of_varint : (r : VarintRead) (z : ℤ) (next : ℕ) → signed_of r ≡ SignedRead.Value z next → r ≡ VarintRead.Value (zigzag z) next
-of_varint (VarintRead.Value v n) z next e =
-    let ez : unzigzag v ≡ z = cc in
-    let en : n ≡ next = cc in
-    ap₂ VarintRead.Value (sym (zigzag_unzigzag v) ∙ ap zigzag ez) en
-of_varint (VarintRead.Short least) z next e = let x : ◌≡◌ {A = ℕ} 0 1 = cc in absurd (omega arith)
-of_varint VarintRead.Malformed z next e = let x : ◌≡◌ {A = ℕ} 0 1 = cc in absurd (omega arith)
+of_varint : (r : VarintRead) (z : ℤ) (next : ℕ) → signed_of r ≡ Ok (record { value = z; next = next }) → r ≡ value (zigzag z) next
+of_varint (Ok r) z next e =
+    let w = same_parsed e in
+    ap₂ value (sym (zigzag_unzigzag r.value) ∙ ap zigzag w.0) w.1
+of_varint (Err x) z next e = let y : ◌≡◌ {A = ℕ} 0 1 = cc in absurd (omega arith)
 
-pub signed_was_written : (s : List ℕ) (at : ℕ) (z : ℤ) (next : ℕ) → AllBytes s → signed_at s at ≡ SignedRead.Value z next
+pub signed_was_written : (s : List ℕ) (at : ℕ) (z : ℤ) (next : ℕ) → AllBytes s → signed_at s at ≡ Ok (record { value = z; next = next })
     → (mag z < 2 ^ 31) × (at < next) × (next ≤ length s) × (take (next - at) (drop at s) ≡ signed_bytes z)
 signed_was_written s at z next h e =
     let r = varint_was_written s at (zigzag z) next h (of_varint (varint_at s at) z next e) in

@@ -1,11 +1,11 @@
 -- "A signed number z is the group of 2z if z is 0 or more, else of -2z-1; so -5 is 09."
-use Rattle.std.specs.Prelude.{List, ℕ, ◌+◌, ◌-◌, ◌*◌, ◌/◌, ◌%◌, eqb, leb, ℤ, pos, negsuc}
+use Rattle.std.specs.Prelude.{List, ℕ, ◌+◌, ◌-◌, ◌*◌, ◌/◌, ◌%◌, eqb, leb, ℤ, pos, negsuc, Result, Ok, Err}
 use Rattle.base.specs.Limits.{offset_zero}
 use Rattle.base.specs.Pick.{pick}
-use Rattle.varint.specs.declared.VarintRead.{VarintRead}
+use Rattle.varint.specs.declared.Parsed.{Parsed}
+use Rattle.varint.specs.declared.VarintError.{VarintError}
 use Rattle.varint.specs.Varint.{varint_bytes}
-use Rattle.varint.specs.Reading.{varint_at}
-use Rattle.signed.specs.declared.SignedRead.{SignedRead}
+use Rattle.varint.specs.Reading.{VarintRead, varint_at}
 
 -- negsuc n is -(n + 1)
 abbrev pub zigzag : ℤ → ℕ
@@ -19,10 +19,12 @@ abbrev pub signed_bytes : ℤ → List ℕ
 signed_bytes z = varint_bytes (zigzag z)
 
 -- what reading a signed number finds
+abbrev pub SignedRead : Type 0
+SignedRead = Result (Parsed ℤ) VarintError
+
 abbrev pub signed_of : VarintRead → SignedRead
-signed_of (VarintRead.Value v next) = SignedRead.Value (unzigzag v) next
-signed_of (VarintRead.Short least) = SignedRead.Short
-signed_of VarintRead.Malformed = SignedRead.Malformed
+signed_of (Ok r) = Ok (record { value = unzigzag r.value; next = r.next })
+signed_of (Err e) = Err e
 
 abbrev pub signed_at : List ℕ → ℕ → SignedRead
 signed_at s at = signed_of (varint_at s at)

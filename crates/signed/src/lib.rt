@@ -1,29 +1,23 @@
 // Signed numbers as varints: 2z for z of 0 or more, else -2z-1.
 #![tactic(auto)]
 
-ghost use Rattle.std.specs.Prelude.{◌≡◌, ◌+◌, ◌≤◌};
+ghost use Rattle.std.specs.Prelude.{◌≡◌};
 ghost use Rattle.varint.specs.Writing.{written_of, buffer_of};
-ghost use Rattle.signed.specs.Signed.{zigzag, unzigzag, signed_at, signed_bytes, offset, from_offset, offset_of_zigzag};
+ghost use Rattle.signed.specs.Signed.{zigzag, unzigzag, signed_at, signed_bytes, offset_of_zigzag};
+
+use varint::{NoRoom, Parsed, VarintError};
 
 // Where -1 stands in offset binary.
 const MINUS_ONE: u32 = base::OFFSET_ZERO - 1;
-
-// What reading a signed number finds: as for a varint.
-#[derive(Clone, Copy)]
-pub enum SignedRead {
-    Value { value: i32, next: usize },
-    Short,
-    Malformed,
-}
 
 // The whole number whose varint stands for z.
 pub fn zigzag_of(z: i32) -> u32
     ensures { result ≡ zigzag z }
 {
     if z < 0 {
-        return 2 * ((-1 - z) as u32) + 1;
+        return 2 * (-1 - z).unsigned_abs() + 1;
     }
-    2 * (z as u32)
+    2 * z.unsigned_abs()
 }
 
 // The signed number that the varint of v stands for.
@@ -47,22 +41,17 @@ pub fn offset_of_zigzag(v: u32) -> u32
     MINUS_ONE - v / 2
 }
 
-// The signed number at `at`.
-pub fn read(s: &[u8], at: usize) -> SignedRead
+// The signed number at `at`, or why none was read: as for a varint.
+pub fn read(s: &[u8], at: usize) -> Result<Parsed<i32>, VarintError>
     ensures { result ≡ signed_at s.now at }
 {
-    match varint::read(s, at) {
-        varint::VarintRead::Value { value: v, next } => SignedRead::Value {
-            value: number_of(v),
-            next,
-        },
-        varint::VarintRead::Short { least: _ } => SignedRead::Short,
-        varint::VarintRead::Malformed => SignedRead::Malformed,
-    }
+    let Parsed { value, next } = varint::read(s, at)?;
+    let value = number_of(value);
+    Ok(Parsed { value, next })
 }
 
 // The varint of z is written from `at` on, if it fits.
-pub fn write(out: &mut [u8], at: usize, z: i32) -> varint::Written
+pub fn write(out: &mut [u8], at: usize, z: i32) -> Result<usize, NoRoom>
     ensures { (result ≡ written_of out.old at (signed_bytes z)) × (out.new ≡ buffer_of out.old at (signed_bytes z)) }
 {
     varint::write(out, at, zigzag_of(z))

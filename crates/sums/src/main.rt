@@ -1,84 +1,81 @@
 // Runs sums of document 01 ("Sums to check by hand"), and document 02's table of lengths and broken messages, through the code and prints what comes of them.
 #![tactic(auto)]
 
+use base::Refusal;
+use message::{Body, Message};
+use plan::Plan;
 use std::io;
 
-fn number(rt: &impl Print, n: u64) -> io::Result<()> {
-    print!(rt; "{n} ")
-}
-
-fn line(rt: &impl Print) -> io::Result<()> {
-    println!(rt)
-}
-
 // The refusal's number and place, or 0.
-fn verdict(rt: &impl Print, r: plan::PlanRead) -> io::Result<()> {
-    let v = r.verdict;
-    match v {
-        base::Verdict::Accepted => number(rt, 0)?,
-        base::Verdict::Refused { number: k, place } => {
-            number(rt, k as u64)?;
-            number(rt, place as u64)?;
-        }
+fn verdict(rt: &impl Print, read: Result<Plan, Refusal>) -> io::Result<()> {
+    match read {
+        Ok(_) => println!(rt; "0 "),
+        Err(refusal) => println!(rt; "{} {} ", refusal.question.number(), refusal.place),
     }
-    line(rt)
 }
 
 // The first bytes of a buffer.
-fn bytes(rt: &impl Print, b: [u8; 8]) -> io::Result<()> {
-    number(rt, b[0] as u64)?;
-    number(rt, b[1] as u64)?;
-    number(rt, b[2] as u64)?;
-    number(rt, b[3] as u64)?;
-    line(rt)
+fn bytes(rt: &impl Print, buffer: [u8; 8]) -> io::Result<()> {
+    for b in &buffer[..4] {
+        print!(rt; "{b} ")?;
+    }
+    println!(rt)
 }
 
+// Three writers of three types of value: one function of them would take a closure, and a `requires` that it may be called, which is no plainer.
 fn varint_of(v: u32) -> [u8; 8] {
-    let mut b = [0u8; 8];
-    let _w = varint::write(&mut b, 0, v);
-    b
+    let mut buffer = [0; 8];
+    let _ = varint::write(&mut buffer, 0, v);
+    buffer
 }
 
 fn signed_of(z: i32) -> [u8; 8] {
-    let mut b = [0u8; 8];
-    let _w = signed::write(&mut b, 0, z);
-    b
+    let mut buffer = [0; 8];
+    let _ = signed::write(&mut buffer, 0, z);
+    buffer
 }
 
-fn message_of(m: message::Message) -> [u8; 8] {
-    let mut b = [0u8; 8];
-    let _w = message::write(&mut b, m);
-    b
+fn message_of(m: Message) -> [u8; 8] {
+    let mut buffer = [0; 8];
+    let _ = message::write(&mut buffer, m);
+    buffer
 }
 
 // A number, how many bytes its varint has, and how many the writer wrote.
 fn length_of(rt: &impl Print, v: u32) -> io::Result<()> {
-    number(rt, v as u64)?;
-    number(rt, varint::size(v) as u64)?;
-    let mut b = [0u8; 8];
-    match varint::write(&mut b, 0, v) {
-        varint::Written::Bytes(k) => number(rt, k as u64),
-        varint::Written::NoRoom => number(rt, 0),
-    }
+    let mut buffer = [0; 8];
+    let written = varint::write(&mut buffer, 0, v).unwrap_or(0);
+    print!(rt; "{v} {} {written} ", varint::size(v))
 }
 
-// A case of the table: its first number and its last.
-fn lengths(rt: &impl Print, first: u32, last: u32) -> io::Result<()> {
-    length_of(rt, first)?;
-    length_of(rt, last)?;
-    line(rt)
+// The table of lengths: each case by its first number and its last.
+fn table(rt: &impl Print) -> io::Result<()> {
+    for (first, last) in [
+        (0, 127),
+        (128, 16383),
+        (16384, 2097151),
+        (2097152, 268435455),
+        (268435456, 4294967295),
+    ] {
+        length_of(rt, first)?;
+        length_of(rt, last)?;
+        println!(rt)?;
+    }
+    Ok(())
 }
 
 // What is told of bytes that should be one message: the refusal's number and place, or 0.
-fn told(rt: &impl Print, s: &[u8]) -> io::Result<()> {
-    match message::read(s) {
-        message::Exactly::One(_) => number(rt, 0)?,
-        message::Exactly::Broken { fault, at } => {
-            number(rt, message::refusal_number(fault) as u64)?;
-            number(rt, at as u64)?;
+fn told(rt: &impl Print, bytes: &[u8]) -> io::Result<()> {
+    match message::read(bytes) {
+        Ok(_) => println!(rt; "0 "),
+        Err(failure) => {
+            println!(rt;
+                "{} {} ",
+                message::refusal_number(failure.fault),
+                failure.at
+            )
         }
     }
-    line(rt)
 }
 
 // A side's message, cut, with each group wrong, and with a byte behind it: README, "For the wire tester".
@@ -100,23 +97,23 @@ fn tellings(rt: &impl Print) -> io::Result<()> {
 // The bytes of a signed number and of a message.
 fn sent(rt: &impl Print) -> io::Result<()> {
     bytes(rt, signed_of(-5))?;
-    let echo = message::Body::SecondEcho(16);
-    let m = message::Message {
-        number: 7,
-        level: 2,
-        body: echo,
-    };
-    bytes(rt, message_of(m))
+    bytes(
+        rt,
+        message_of(Message {
+            number: 7,
+            level: 2,
+            body: Body::SecondEcho(16),
+        }),
+    )
 }
 
 // A plan, and its settings: good ones, and ones that are refused.
 fn settings(rt: &impl Print) -> io::Result<()> {
     verdict(rt, plan_reader::read(&[2, 9, 8]))?;
-    verdict(rt, plan_reader::settle(3, 1, 0, &[2, 9, 8]))?;
-    verdict(rt, plan_reader::settle(16, 5, 15, &[2, 9, 8]))?;
-    verdict(rt, plan_reader::settle(16, 6, 0, &[2, 9, 8]))?;
-    verdict(rt, plan_reader::settle(17, 5, 0, &[2, 9, 8]))?;
-    verdict(rt, plan_reader::settle(4, 1, 4, &[2, 9, 8]))
+    for (n, t, own) in [(3, 1, 0), (16, 5, 15), (16, 6, 0), (17, 5, 0), (4, 1, 4)] {
+        verdict(rt, plan_reader::settle(n, t, own, &[2, 9, 8]))?;
+    }
+    Ok(())
 }
 
 // Plans of ranges and of trees.
@@ -129,15 +126,6 @@ fn plans(rt: &impl Print) -> io::Result<()> {
     verdict(rt, plan_reader::read(&[1, 128, 2]))?;
     verdict(rt, plan_reader::read(&[3]))?;
     verdict(rt, plan_reader::read(&[1, 1, 0]))
-}
-
-// The table of lengths.
-fn table(rt: &impl Print) -> io::Result<()> {
-    lengths(rt, 0, 127)?;
-    lengths(rt, 128, 16383)?;
-    lengths(rt, 16384, 2097151)?;
-    lengths(rt, 2097152, 268435455)?;
-    lengths(rt, 268435456, 4294967295)
 }
 
 fn main(rt: HostRuntime) -> io::Result<()> {

@@ -2,41 +2,19 @@
 use mathlib.Core.Path.{◌≡◌, refl, sym, ap, ap₂, ◌∙◌}
 use mathlib.Core.List.{List}
 use mathlib.Core.Bool.{Bool, true, false, not, ◌&&◌, ◌||◌}
-use Prim.Native.Nat.{ℕ, ◌+◌, ◌≤◌, ◌<◌}
+use Prim.Native.Nat.{ℕ, ◌+◌, ◌<◌}
 use native.Mathlib.Decide.{ℕ_discrete}
 use native.Mathlib.Numerals.{add-one}
 use native.Mathlib.Omega.{arith}
 use lib.Dec.{eqb, leb, ltb, ltb→lt, lt→ltb}
 use lib.ListN.{length, get_or, set}
 use lib.Seq.{get_or-set_same, get_or-set_other}
-use borrow.Author.Tests.{eq-eqb, ne_eqb, lt-ltb, le-ltb, le-leb, lt-leb}
+use borrow.Author.Tests.{eq-eqb, ne_eqb, lt-ltb, le-ltb}
 use Rattle.base.specs.Pick.{pick}
 use Rattle.base.specs.Inner.{any_below}
 use Rattle.base.proofs.Bools.{T-ext}
 use Rattle.marks.specs.Marks.{marked}
 use Rattle.tree_levels.specs.Inner.{light_large, passed, first_large, outs}
-
--- ---- one position
-
--- what the step at x leaves
-abbrev pub Took : List ℕ → List ℕ → List ℕ → List ℕ → ℕ → Bool → Bool → List ℕ → List ℕ → Type 0
-Took alive labels sub light x any r alive' sub' =
-    (r ≡ (light_large labels sub light x || any))
-    × ((alive' ≡ pick (light_large labels sub light x) (set alive x 0) alive) × (sub' ≡ pick (light_large labels sub light x) (set sub (get_or labels x 0) 0) sub))
-
-module _ (alive labels sub light : List ℕ) (x : ℕ) (any : Bool) where
-  pub took_on : (l : ℕ) → get_or light x 0 ≡ 1 → l ≡ get_or labels x 0 → 3 ≤ get_or sub l 0 → Took alive labels sub light x any true (set alive x 0) (set sub l 0)
-  unfolding light_large marked
-  took_on l a e h = rw (← e, eq-eqb (get_or light x 0) 1 a, le-leb 3 (get_or sub l 0) h) (refl, (refl, refl))
-
-  pub took_small : (l : ℕ) → get_or light x 0 ≡ 1 → l ≡ get_or labels x 0 → get_or sub l 0 < 3 → Took alive labels sub light x any any alive sub
-  unfolding light_large marked
-  took_small l a e h =
-      rw (← e, eq-eqb (get_or light x 0) 1 a, lt-leb 3 (get_or sub l 0) h) (refl, (refl, refl))
-
-  pub took_off : (get_or light x 0 ≡ 1 → ⊥) → Took alive labels sub light x any any alive sub
-  unfolding light_large marked
-  took_off a = rw (ne_eqb (get_or light x 0) 1 a) (refl, (refl, refl))
 
 -- ---- the pass
 
@@ -113,9 +91,3 @@ module _ (labels sub₀ light : List ℕ) where
         go true false i (yes j) = rw (j, eq-eqb w w refl) (i ∙ and_false (leb 3 (get_or sub₀ w 0)))
         go true true i (no d) = rw (ne_eqb w l (λ k. d (sym k))) (ap (leb 3) (get_or-set_other sub w l 0 0 d) ∙ rest l)
         go true false i (no d) = rw (ne_eqb w l (λ k. d (sym k))) (rest l)
-
-  pub any_end : (x n : ℕ) → x ≡ n → (any : Bool) → any ≡ any_below x (outs labels sub₀ light) → any ≡ any_below n (outs labels sub₀ light)
-  any_end x n e any h = rw (← e) h
-
-  pub cut_end : (x n : ℕ) → x ≡ n → (alive₀ alive : List ℕ) → Cut labels sub₀ light alive₀ x alive → Cut labels sub₀ light alive₀ n alive
-  cut_end x n e alive₀ alive h = rw (← e) h

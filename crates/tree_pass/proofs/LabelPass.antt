@@ -16,33 +16,11 @@ use Rattle.tree.proofs.Growth.{label_new, label_old}
 use Rattle.edges.specs.Rows.{rows}
 use Rattle.marks.specs.Marks.{marked}
 use Rattle.tree_pass.specs.Inner.{Rows, handed}
-use Rattle.tree_pass.proofs.Rows.{row, below_row, grown_row, both, not_first, not_second}
+use Rattle.tree_pass.proofs.Rows.{row, below_row, grown_row}
 
 -- every position below x its own label
 abbrev pub Own : ℕ → List ℕ → Type 0
 Own x out = (y : ℕ) → y < x → get_or out y 0 ≡ y
-
-pub own_more : (x : ℕ) (out : List ℕ) → x < length out → Own x out → Own (x + 1) (set out x x)
-own_more x out l h y b = go (ℕ_discrete y x)
-  where
-    go : Dec (y ≡ x) → get_or (set out x x) y 0 ≡ y
-    go (yes e) = rw e (get_or-set_same out x x 0 l)
-    go (no d) = get_or-set_other out x y x 0 d ∙ h y (omega arith)
-
--- ---- one row
-
-module _ (ins out : List ℕ) (p v : ℕ) where
-  pub handed_both : get_or ins p 0 ≡ 1 → get_or ins v 0 ≡ 1 → set out v (get_or out p 0) ≡ handed ins out p v
-  unfolding handed
-  handed_both a b = rw (both ins p v a b)
-
-  pub handed_first : (get_or ins p 0 ≡ 1 → ⊥) → out ≡ handed ins out p v
-  unfolding handed
-  handed_first a = rw (not_first ins p v a)
-
-  pub handed_second : (get_or ins v 0 ≡ 1 → ⊥) → out ≡ handed ins out p v
-  unfolding handed
-  handed_second a = rw (not_second ins p v a)
 
 -- an edge that is not inside S changes no label
 label_out : (S : Set) (e : Edge) (F : Edges) (x : ℕ) → S e.one && S e.two ≡ false → label S (e ∷ F) x ≡ label S F x
@@ -85,6 +63,3 @@ labelled_more ps cs ins n m i out out' p v R l h a b q k x lx = rw (q, a, b, add
         rw i' (get_or-set_same out w (get_or out u 0) 0 (omega (arith, (below_row ps cs n m R i h).1)) ∙ k u (below_row ps cs n m R i h).0
         ∙ sym (label_new S e F (grown_row ps cs n m R i h) ∙ ap (λ (t : Bool). pick t (label S F u) w) j))
     go true j (no d) = get_or-set_other out w x (get_or out u 0) 0 d ∙ k x lx ∙ sym (label_old S e F (grown_row ps cs n m R i h) x d)
-
-pub labelled_end : (ps cs : List ℕ) (S : Set) (n i m : ℕ) (out : List ℕ) → i ≡ m → Labelled ps cs S n i out → Labelled ps cs S n m out
-labelled_end ps cs S n i m out e k = rw (← e) k

@@ -19,43 +19,6 @@ use Rattle.tree_pass.proofs.Rows.{row, below_row}
 
 -- ---- one row
 
-pub noted_on : (ins near : List ℕ) (w : ℕ) → get_or ins w 0 ≡ 1 → set near w 1 ≡ noted ins near w
-unfolding noted marked
-noted_on ins near w e = rw (eq-eqb (get_or ins w 0) 1 e)
-
-pub noted_off : (ins near : List ℕ) (w : ℕ) → (get_or ins w 0 ≡ 1 → ⊥) → near ≡ noted ins near w
-unfolding noted marked
-noted_off ins near w d = rw (ne_eqb (get_or ins w 0) 1 d)
-
--- c is not in the set
-module _ (ins near : List ℕ) (c p v : ℕ) (out : get_or ins c 0 ≡ 0) where
-  other : (x : ℕ) → get_or ins x 0 ≡ 1 → c ≡ x → ⊥
-  other x a e = omega (arith, ap (λ (z : ℕ). get_or ins z 0) e)
-
-  pub beside_both : get_or ins p 0 ≡ 1 → get_or ins v 0 ≡ 1 → near ≡ beside ins near c p v
-  unfolding beside
-  beside_both a b = rw (ne_eqb c p (other p a), ne_eqb c v (other v b))
-
-  pub beside_second : get_or ins p 0 ≡ 1 → c ≡ v → set near p 1 ≡ beside ins near c p v
-  unfolding beside
-  beside_second a e = rw (ne_eqb c p (other p a), eq-eqb c v e) (noted_on ins near p a)
-
-  pub beside_away : get_or ins p 0 ≡ 1 → (c ≡ v → ⊥) → near ≡ beside ins near c p v
-  unfolding beside
-  beside_away a d = rw (ne_eqb c p (other p a), ne_eqb c v d)
-
-  pub beside_first : c ≡ p → noted ins near v ≡ beside ins near c p v
-  unfolding beside
-  beside_first e = rw (eq-eqb c p e)
-
-  pub beside_none : (get_or ins p 0 ≡ 1 → ⊥) → (c ≡ p → ⊥) → near ≡ beside ins near c p v
-  unfolding beside
-  beside_none a d = rw (ne_eqb c p d) (go (ℕ_discrete c v))
-    where
-      go : Dec (c ≡ v) → near ≡ pick (eqb c v) (noted ins near p) near
-      go (yes e) = rw (eq-eqb c v e) (noted_off ins near p a)
-      go (no e) = rw (ne_eqb c v e)
-
 or_false : (a : Bool) → a ≡ a || false
 or_false true = refl
 or_false false = refl
@@ -135,6 +98,3 @@ near_more ps cs ins near₀ c n m i near near' p v R l h a b e k x =
     regroup false true false true = refl
     regroup false true false false = refl
     regroup false false a b = refl
-
-pub near_end : (ps cs ins near₀ : List ℕ) (c i m : ℕ) (near : List ℕ) → i ≡ m → Near ps cs ins near₀ c i near → Near ps cs ins near₀ c m near
-near_end ps cs ins near₀ c i m near e k = rw (← e) k

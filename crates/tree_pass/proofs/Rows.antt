@@ -1,13 +1,13 @@
 -- The first rows of two columns: what holds of all holds of them.
-use mathlib.Core.Path.{◌≡◌, refl, subst}
+use mathlib.Core.Path.{◌≡◌, subst}
 use mathlib.Core.List.{List, ◌∷◌}
-use mathlib.Core.Bool.{Bool, true, false, ◌&&◌}
+use mathlib.Core.Bool.{true, ◌&&◌}
 use Prim.Native.Nat.{ℕ, zero, suc, ◌≤◌, ◌<◌}
 use native.Mathlib.Decide.{ℕ_discrete}
 use native.Mathlib.Omega.{arith}
-use lib.Dec.{T, eqb}
+use lib.Dec.{T}
 use lib.ListN.{get_or}
-use borrow.Author.Tests.{eq-eqb, ne_eqb}
+use borrow.Author.Tests.{eq-eqb}
 use Rattle.tree.specs.Edges.{Edge, Edges, Below}
 use Rattle.tree.specs.Inner.{Grown}
 use Rattle.tree.specs.Growth.{reached}
@@ -66,15 +66,3 @@ module _ (ins : List ℕ) (p v : ℕ) where
   pub both : get_or ins p 0 ≡ 1 → get_or ins v 0 ≡ 1 → marked ins p && marked ins v ≡ true
   unfolding marked
   both a b = rw (eq-eqb (get_or ins p 0) 1 a, eq-eqb (get_or ins v 0) 1 b)
-
-  pub not_first : (get_or ins p 0 ≡ 1 → ⊥) → marked ins p && marked ins v ≡ false
-  unfolding marked
-  not_first a = rw (ne_eqb (get_or ins p 0) 1 a)
-
-  pub not_second : (get_or ins v 0 ≡ 1 → ⊥) → marked ins p && marked ins v ≡ false
-  unfolding marked
-  not_second a = rw (ne_eqb (get_or ins v 0) 1 a) (go (eqb (get_or ins p 0) 1))
-    where
-      go : (b : Bool) → b && false ≡ false
-      go true = refl
-      go false = refl

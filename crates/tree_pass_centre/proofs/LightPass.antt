@@ -7,7 +7,7 @@ use native.Mathlib.Decide.{ℕ_discrete}
 use native.Mathlib.Omega.{arith}
 use lib.Dec.{T, eqb, ltb, ltb→lt, lt→ltb}
 use lib.ListN.{length, get_or, set}
-use borrow.Author.Tests.{eq-eqb, ne_eqb, lt-ltb, le-ltb}
+use borrow.Author.Tests.{eq-eqb, ne_eqb}
 use Rattle.base.specs.Pick.{pick, smallest}
 use Rattle.base.specs.Sets.{Set, count}
 use Rattle.base.proofs.Bools.{T-ext}
@@ -19,31 +19,10 @@ use Rattle.marks.specs.Marks.{marked}
 use Rattle.marks.proofs.Marks.{marked_same, marked_other}
 use Rattle.tree_pass.specs.Inner.{Rows}
 use Rattle.tree_pass_centre.specs.Inner.{cleared}
-use Rattle.tree_pass.proofs.Rows.{row, below_row, both, not_first, not_second}
+use Rattle.tree_pass.proofs.Rows.{row, below_row}
 use Rattle.tree_pass_centre.proofs.SizePass.{Climbed, climbed_child, one_less}
 
 -- ---- one row
-
-module _ (ins sub light : List ℕ) (s p v : ℕ) where
-  pub cleared_over : get_or ins p 0 ≡ 1 → get_or ins v 0 ≡ 1 → (a : ℕ) → a ≡ get_or sub v 0 → s < a * 2 → set light p 0 ≡ cleared ins sub light s p v
-  unfolding cleared
-  cleared_over i j a e h = rw (both ins p v i j, ← e, lt-ltb s (a * 2) h)
-
-  pub cleared_under : get_or ins p 0 ≡ 1 → get_or ins v 0 ≡ 1 → (a : ℕ) → a ≡ get_or sub v 0 → a * 2 < s → set light v 0 ≡ cleared ins sub light s p v
-  unfolding cleared
-  cleared_under i j a e h = rw (both ins p v i j, ← e, le-ltb s (a * 2) (omega arith), lt-ltb (a * 2) s h)
-
-  pub cleared_half : get_or ins p 0 ≡ 1 → get_or ins v 0 ≡ 1 → (a : ℕ) → a ≡ get_or sub v 0 → a * 2 ≤ s → s ≤ a * 2 → light ≡ cleared ins sub light s p v
-  unfolding cleared
-  cleared_half i j a e h k = rw (both ins p v i j, ← e, le-ltb s (a * 2) h, le-ltb (a * 2) s k)
-
-  pub cleared_first : (get_or ins p 0 ≡ 1 → ⊥) → light ≡ cleared ins sub light s p v
-  unfolding cleared
-  cleared_first i = rw (not_first ins p v i)
-
-  pub cleared_second : (get_or ins v 0 ≡ 1 → ⊥) → light ≡ cleared ins sub light s p v
-  unfolding cleared
-  cleared_second i = rw (not_second ins p v i)
 
 pub and_true : (a : Bool) → a ≡ a && true
 and_true true = refl

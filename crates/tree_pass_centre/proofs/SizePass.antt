@@ -22,26 +22,13 @@ use Rattle.edges.specs.Rows.{rows}
 use Rattle.marks.specs.Marks.{marked}
 use Rattle.tree_pass.specs.Inner.{Rows}
 use Rattle.tree_pass_centre.specs.Inner.{raised, Room}
-use Rattle.tree_pass.proofs.Rows.{row, below_row, grown_row, reached_later, both, not_first, not_second}
+use Rattle.tree_pass.proofs.Rows.{row, below_row, grown_row, reached_later, both}
 
 -- below x every member counts one
 abbrev Ones : List ℕ → ℕ → List ℕ → Type 0
 Ones ins x sub = (y : ℕ) → y < x → get_or sub y 0 ≡ bit (marked ins y)
 
 -- ---- one row
-
-module _ (ins sub : List ℕ) (p v : ℕ) where
-  pub raised_both : get_or ins p 0 ≡ 1 → get_or ins v 0 ≡ 1 → set sub p (get_or sub p 0 + get_or sub v 0) ≡ raised ins sub p v
-  unfolding raised
-  raised_both a b = rw (both ins p v a b)
-
-  pub raised_first : (get_or ins p 0 ≡ 1 → ⊥) → sub ≡ raised ins sub p v
-  unfolding raised
-  raised_first a = rw (not_first ins p v a)
-
-  pub raised_second : (get_or ins v 0 ≡ 1 → ⊥) → sub ≡ raised ins sub p v
-  unfolding raised
-  raised_second a = rw (not_second ins p v a)
 
 -- it does to the array what `lift` does to what the positions hold
 raised_lift : (ins sub : List ℕ) (e : Edge) → e.one < length sub → (y : ℕ) → get_or (raised ins sub e.one e.two) y 0 ≡ lift (marked ins) e (λ z. get_or sub z 0) y

@@ -1,22 +1,25 @@
 -- The passes over a forest: the sizes of subtrees at the end of their pass, and the pass that clears the marks of members that are not light.
-use mathlib.Core.Path.{◌≡◌, refl, ap, ap₂, ◌∙◌, subst}
-use mathlib.Core.List.{List, [], ◌∷◌}
+use mathlib.Core.Path.{◌≡◌, refl, sym, ap, ap₂, ◌∙◌, subst}
+use mathlib.Core.List.{List, [], ◌∷◌, ◌++◌}
 use mathlib.Core.Bool.{Bool, true, false, not, ◌&&◌, ◌||◌}
-use Prim.Native.Nat.{ℕ, ◌+◌, ◌≤◌, ◌<◌}
-use native.Mathlib.Decide.{ℕ_discrete}
+use Prim.Native.Nat.{ℕ, ◌+◌, ◌-◌, ◌≤◌, ◌<◌}
+use native.Mathlib.Decide.{ℕ_discrete, dec_lt}
 use native.Mathlib.Numerals.{add-one}
 use native.Mathlib.Omega.{arith}
-use lib.Dec.{T, eqb}
-use lib.ListN.{length, get_or}
+use lib.Dec.{T, eqb, ltb}
+use lib.ListN.{length, get_or, take, drop, replicate, get_or-append}
+use borrow.Author.Tests.{lt-ltb, le-ltb, ltb-false}
+use Rattle.std.proofs.lemmas.List.{length-take-le, get_or-take, get_or-drop, get_or-append_right}
 use Rattle.base.specs.Pick.{pick}
-use Rattle.base.specs.Sets.{Set}
+use Rattle.base.specs.Sets.{Set, bit}
+use Rattle.base.proofs.Bools.{not-T→false}
 use Rattle.tree.specs.Edges.{Edges, Below, label}
 use Rattle.tree.specs.Inner.{up, subtree, shows}
 use Rattle.tree_rounds.specs.Inner.{bad_in}
 use Rattle.tree_rounds.proofs.BlockCentres.{shown_given}
 use Rattle.edges.specs.Rows.{rows}
 use Rattle.marks.specs.Marks.{marked}
-use Rattle.marks.proofs.Marks.{on}
+use Rattle.marks.proofs.Marks.{zeros, on, mark_bit}
 use Rattle.tree_pass.specs.Inner.{Rows}
 use Rattle.tree_pass.proofs.Rows.{row, below_row}
 use Rattle.tree_pass_centre.specs.Inner.{cleared}
@@ -65,9 +68,6 @@ left_more ps cs ins labels sub light₀ n m i light light' s p v R l h a b z e k
     regroup true false false = refl
     regroup false b c = refl
 
-pub left_end : (ps cs ins labels sub light₀ : List ℕ) (i m : ℕ) (light : List ℕ) → i ≡ m → Left ps cs ins labels sub light₀ i light → Left ps cs ins labels sub light₀ m light
-left_end ps cs ins labels sub light₀ i m light e k = rw (← e) k
-
 -- ---- what the passes read
 
 -- labels are positions
@@ -80,12 +80,41 @@ label_below n S (e ∷ F) b x l = go ((S e.one && S e.two) && eqb (label S F x) 
     go true h k = h
     go false h k = k
 
+-- the first n of some numbers, and 0 after them
+pub copied_part : (ins front : List ℕ) (n k : ℕ) → n ≤ length ins → front ≡ take n ins → (x : ℕ) → get_or (front ++ drop n (replicate k 0)) x 0 ≡ pick (ltb x n) (get_or ins x 0) 0
+copied_part ins front n k l e x = rw e (go (dec_lt x n))
+  where
+    rest : List ℕ
+    rest = drop n (replicate k 0)
+
+    m : length (take n ins) ≡ n
+    m = length-take-le n ins l
+
+    go : Dec (x < n) → get_or (take n ins ++ rest) x 0 ≡ pick (ltb x n) (get_or ins x 0) 0
+    go (yes h) = rw (lt-ltb x n h) (get_or-append (take n ins) rest 0 x (omega (arith, m)) ∙ get_or-take n ins x 0 h)
+    go (no d) =
+        let h : n ≤ x = omega arith in
+        rw (le-ltb x n h) (get_or-append_right (take n ins) rest n x 0 m h ∙ get_or-drop n (replicate k 0) (x - n) 0 ∙ zeros k (n + (x - n)))
+
+-- the marks of the first n positions are the set's, if it has no others
+module _ (ins copy : List ℕ) (n : ℕ) (e : (x : ℕ) → get_or copy x 0 ≡ pick (ltb x n) (get_or ins x 0) 0) where
+  pub copy_marked : ((x : ℕ) → T (marked ins x) → x < n) → (x : ℕ) → marked copy x ≡ marked ins x
+  unfolding marked
+  copy_marked below x = ap (λ (z : ℕ). eqb z 1) (e x) ∙ go (ltb x n) refl
+    where
+      go : (t : Bool) → ltb x n ≡ t → eqb (pick t (get_or ins x 0) 0) 1 ≡ eqb (get_or ins x 0) 1
+      go true k = refl
+      go false k = sym (not-T→false (eqb (get_or ins x 0) 1) (λ p. omega (arith, below x p, ltb-false x n k)))
+
+  pub copy_bit : ((x : ℕ) → get_or ins x 0 ≤ 1) → (x : ℕ) → x < n → get_or copy x 0 ≡ bit (marked ins x)
+  copy_bit h x l = e x ∙ ap (λ (t : Bool). pick t (get_or ins x 0) 0) (lt-ltb x n l) ∙ mark_bit ins x (h x)
+
 -- the marks that are left of the set's are the light members
-pub left_light : (ps cs ins labels sub light₀ light : List ℕ) (n m : ℕ) → Rows ps cs n m → ((x : ℕ) → T (marked ins x) → x < n) → light₀ ≡ ins → ((x : ℕ) → x < n → get_or labels x 0 ≡ label (marked ins) (rows ps cs m) x)
+pub left_light : (ps cs ins labels sub light₀ light : List ℕ) (n m : ℕ) → Rows ps cs n m → ((x : ℕ) → T (marked ins x) → x < n) → ((x : ℕ) → marked light₀ x ≡ marked ins x) → ((x : ℕ) → x < n → get_or labels x 0 ≡ label (marked ins) (rows ps cs m) x)
     → ((x : ℕ) → x < n → get_or sub x 0 ≡ subtree (marked ins) (rows ps cs m) x) → Left ps cs ins labels sub light₀ m light → (x : ℕ) → marked light x ≡ light_in (marked ins) (rows ps cs m) x
 unfolding light_in
 left_light ps cs ins labels sub light₀ light n m R below e h k q x =
-    q x ∙ ap₂ (λ (l : List ℕ) (t : Bool). marked l x && not t) e (shown_given A (λ y. get_or sub y 0) (subtree A F) (size_at labels sub) (size_by A F) (λ y p. k y (below y p)) size F x)
+    q x ∙ ap₂ (λ (s t : Bool). s && not t) (e x) (shown_given A (λ y. get_or sub y 0) (subtree A F) (size_at labels sub) (size_by A F) (λ y p. k y (below y p)) size F x)
   where
     A : Set
     A = marked ins

@@ -6,17 +6,15 @@ ghost use Rattle.base.specs.Limits.{max_vertices};
 ghost use Rattle.tree.specs.Edges.{Edges};
 ghost use Rattle.union_find.specs.Inner.{root, together, Rooted, Forest, Unions, Under};
 
-// Every position its own set.
+// Every position its own set. The arrays are lent, with a number for each position, since there is no heap.
 pub fn fresh(up: &mut [u16], weight: &mut [u16], n: usize)
     requires { (n ≤ length up.old) × (n ≤ length weight.old) × (n ≤ max_vertices) }
     ensures { Unions n [] up.new weight.new }
 {
-    let mut x = 0;
-    while x < n {
-        up[x] = x as u16;
-        weight[x] = 1;
-        x += 1;
+    for (x, above) in up[..n].iter_mut().enumerate() {
+        *above = x as u16;
     }
+    weight[..n].fill(1);
 }
 
 // The root of x's set.
@@ -25,10 +23,9 @@ pub fn root(up: &[u16], n: usize, x: usize) -> usize
     ensures { result ≡ root n up.now x }
 {
     let mut r = x;
-    let mut above = base::wide(up[r]);
-    while above != r {
-        r = above;
-        above = base::wide(up[r]);
+    // a `while`: how long the way up is shows only at its end
+    while usize::from(up[r]) != r {
+        r = usize::from(up[r]);
     }
     r
 }

@@ -1,7 +1,7 @@
 -- How many bytes a varint has: the fewest that hold its value.
-use mathlib.Core.Path.{◌≡◌, refl, ap, ◌∙◌}
+use mathlib.Core.Path.{◌≡◌, refl, sym, ap, ◌∙◌}
 use mathlib.Core.Logic.{◌⊎◌, inl, inr}
-use Prim.Native.Nat.{ℕ, zero, suc, ◌+◌, ◌-◌, ◌*◌, ◌/◌, ◌<◌, ◌≤◌, ◌^◌}
+use Prim.Native.Nat.{ℕ, zero, suc, ◌*◌, ◌/◌, ◌<◌, ◌≤◌, ◌^◌}
 use native.Mathlib.Omega.{arith}
 use native.Mathlib.Nat.{pow-suc}
 use native.Mathlib.Decide.{dec_lt}
@@ -49,6 +49,22 @@ length_exactly k v l (inr g) h = omega (arith, length_at_least k 4 v (omega arit
 pub length_limits : (v : ℕ) → (1 ≤ varint_length v) × (varint_length v ≤ 5)
 length_limits v = (pieces_pos 4 v, pieces_most 4 v)
 
+-- the table's five cases
+pub one_byte : (v : ℕ) → v ≤ 127 → 1 ≡ varint_length v
+one_byte v h = sym (length_exactly 0 v (omega arith) (inl refl) (omega arith))
+
+pub two_bytes : (v : ℕ) → 128 ≤ v → v ≤ 16383 → 2 ≡ varint_length v
+two_bytes v g h = sym (length_exactly 1 v (omega arith) (inr (omega arith)) (omega arith))
+
+pub three_bytes : (v : ℕ) → 16384 ≤ v → v ≤ 2097151 → 3 ≡ varint_length v
+three_bytes v g h = sym (length_exactly 2 v (omega arith) (inr (omega arith)) (omega arith))
+
+pub four_bytes : (v : ℕ) → 2097152 ≤ v → v ≤ 268435455 → 4 ≡ varint_length v
+four_bytes v g h = sym (length_exactly 3 v (omega arith) (inr (omega arith)) (omega arith))
+
+pub five_bytes : (v : ℕ) → 268435456 ≤ v → v < 2 ^ 32 → 5 ≡ varint_length v
+five_bytes v g h = sym (length_exactly 4 v (omega arith) (inr (omega arith)) (omega arith))
+
 -- what holds on either side of a border of the table
 by_border : {v border x y k : ℕ} → (v ≤ border → x ≡ k) → (border < v → y ≡ k) → pick (leb v border) x y ≡ k
 by_border {v} {border} {x} {y} {k} low high = go (dec_lt border v)
@@ -67,8 +83,8 @@ pub table_bytes : (v : ℕ) → v < 2 ^ 32 → table_length v ≡ varint_length 
 unfolding table_length
 table_bytes v h =
     by_cases v (varint_length v) refl
-    (λ q. omega (arith, length_exactly 0 v (omega arith) (inl refl) (omega arith)))
-    (λ p q. omega (arith, length_exactly 1 v (omega arith) (inr (omega arith)) (omega arith)))
-    (λ p q. omega (arith, length_exactly 2 v (omega arith) (inr (omega arith)) (omega arith)))
-    (λ p q. omega (arith, length_exactly 3 v (omega arith) (inr (omega arith)) (omega arith)))
-    (λ p. omega (arith, length_exactly 4 v (omega arith) (inr (omega arith)) (omega arith)))
+    (one_byte v)
+    (λ p q. two_bytes v (omega arith) q)
+    (λ p q. three_bytes v (omega arith) q)
+    (λ p q. four_bytes v (omega arith) q)
+    (λ p. five_bytes v (omega arith) h)

@@ -4,8 +4,8 @@ use Prim.Native.Nat.{ℕ, ◌+◌}
 use native.Mathlib.Omega.{arith}
 use lib.Dec.{leb}
 use lib.ListN.{length}
+use Rattle.std.specs.Prelude.{Ok, Err}
 use Rattle.base.specs.Pick.{pick}
-use Rattle.varint.specs.declared.Written.TheVariants.{Bytes, NoRoom}
 use Rattle.varint.specs.Statement.{Reads, Sizes}
 use Rattle.varint.proofs.RoundTrip.{varint_read, varint_was_written}
 use Rattle.varint.proofs.Bytes.{short_begins, short_least, none_begins, none_stands}
@@ -24,5 +24,5 @@ reads = record {
 pub sizes : Sizes
 sizes = record {
   bytes = λ v h. table_bytes v (omega arith);
-  written = λ l at v h. sym (ap (λ (k : ℕ). pick (leb (at + k) (length l)) (Bytes k) NoRoom) (table_bytes v (omega arith)));
+  written = λ l at v h. sym (ap (λ (k : ℕ). pick (leb (at + k) (length l)) (Ok k) (Err (record {}))) (table_bytes v (omega arith)));
 }

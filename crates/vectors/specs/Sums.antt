@@ -13,7 +13,7 @@ use Rattle.message.specs.declared.Body.TheVariants.{FirstEcho, FirstProposal, Se
 use Rattle.message.specs.declared.Message.{Message}
 use Rattle.message.specs.Message.{none_value, message_bytes}
 use Rattle.level.specs.declared.Context.{Context}
-use Rattle.level.specs.declared.Effect.TheVariants.{Nothing, Quiet, Send}
+use Rattle.level.specs.Rules.{Nothing, Quiet, Send}
 use Rattle.level.specs.Level.{Level, not_yet, no_output, blank_level, with_heard, with_first, with_result}
 use Rattle.level.specs.Counts.{may_propose}
 use Rattle.level.specs.Rules.{rule3, rule4, rule8, does, idle}

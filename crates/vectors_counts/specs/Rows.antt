@@ -1,11 +1,11 @@
 -- Document 02, Q-6: "A rounded step off the range, or a plan that is no range, is refused by 12. 25 when g is odd or out of its limits, asked before 13. The
 -- count answer's call, on a party, asks 19, 25, 12 as a start does, and gives none before an answer." A table of starts by count and of answers read as counts.
 -- proofs/Table.antt shows that every row holds.
-use Rattle.std.specs.Prelude.{◌≡◌, List, [], ◌∷◌, ℕ, ℤ, pos, replicate}
-use Rattle.base.specs.declared.Verdict.{Verdict}
+use Rattle.std.specs.Prelude.{◌≡◌, List, [], ◌∷◌, ℕ, ℤ, pos, replicate, Option, Some, None}
+use Rattle.base.specs.Verdict.{Verdict}
 use Rattle.base.specs.Found.{Found}
 use Rattle.party.specs.Party.{Party}
-use Rattle.board_calls.specs.declared.Answer.{Answer}
+use Rattle.board_calls.specs.Answers.{Answer}
 use Rattle.board_calls.specs.Calls.{Entry, set_up_of, start_questions, called_of, journal_after, outgoing_after}
 use Rattle.board_calls.specs.Counts.{start_count_questions, remainder_in, count_questions, count_gives}
 use Rattle.vectors_questions.specs.Rows.{damaged}
@@ -34,7 +34,7 @@ pub data Row : Type 0 where
 -- what a call gives: a start its verdict, the journal's used length, the journal and the remainder; of any start the verdict, the journal, the outgoing bytes
 -- and how many rules were applied; a reading its verdict and the answer
 pub data Gives : Type 0 where
-  started : (verdict : Verdict) (used : ℕ) (journal : List ℕ) (rest : ℤ) → Gives
+  started : (verdict : Verdict) (used : ℕ) (journal : List ℕ) (rest : Option ℤ) → Gives
   does : (verdict : Verdict) (journal outgoing : List ℕ) (rules : ℕ) → Gives
   read : (verdict : Verdict) (answer : Answer) → Gives
 
@@ -55,8 +55,8 @@ call_gives (read p g c) = read (count_gives (count_questions p g c)).verdict (co
 
 -- a refused start reports no remainder and leaves the journal; a refused reading gives no answer
 abbrev pub refusal : Call → ℕ → Gives
-refusal (start p g c room used out) question = started (Verdict.Refused question 0) used (lent room) (pos 0)
-refusal (read p g c) question = read (Verdict.Refused question 0) Answer.None
+refusal (start p g c room used out) question = started (Verdict.Refused question 0) used (lent room) None
+refusal (read p g c) question = read (Verdict.Refused question 0) None
 
 abbrev pub computed : Row → Gives
 computed (refuses call question) = call_gives call
@@ -67,10 +67,10 @@ computed (answers p g c a) = call_gives (read p g c)
 
 abbrev pub said : Row → Gives
 said (refuses call question) = refusal call question
-said (begins p g c room used out journal rest) = started Verdict.Accepted room journal rest
+said (begins p g c room used out journal rest) = started Verdict.Accepted room journal (Some rest)
 said (starts_as p g c reading) = start_does p (start_questions p reading 9 0 2640)
-said (waits p g c) = read Verdict.Accepted Answer.None
-said (answers p g c a) = read Verdict.Accepted (Answer.At a)
+said (waits p g c) = read Verdict.Accepted None
+said (answers p g c a) = read Verdict.Accepted (Some a)
 
 -- what a row claims
 abbrev pub Holds : Row → Type 0

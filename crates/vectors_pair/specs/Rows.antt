@@ -1,13 +1,11 @@
 -- Document 02, Q-13: "Its reading asks the first party's questions, the second's, then 27 for equal numbers and 12 for a plan that is no range." A table of
 -- readings of two parties as a pair. proofs/Table.antt shows that every row holds.
-use Rattle.std.specs.Prelude.{◌≡◌, List, [], ◌∷◌, ℕ, ℤ, pos, negsuc}
-use Rattle.base.specs.declared.Verdict.{Verdict}
+use Rattle.std.specs.Prelude.{◌≡◌, List, [], ◌∷◌, ℕ, ℤ, pos, negsuc, Some, None}
+use Rattle.base.specs.Verdict.{Verdict}
 use Rattle.party.specs.Party.{Party}
 use Rattle.board_calls.specs.Calls.{no_party, set_up_of, start_questions, called_of}
 use Rattle.board_calls.specs.Restore.{restore_questions, restored_of}
-use Rattle.board_pair.specs.declared.PairAnswer.{PairAnswer}
-use Rattle.board_pair.specs.declared.PairAnswered.{PairAnswered}
-use Rattle.board_pair.specs.Pair.{pair_questions, pair_gives}
+use Rattle.board_pair.specs.Pair.{pair_questions, pair_gives, PairAnswered}
 use Rattle.vectors_questions.specs.Rows.{range, damaged}
 
 -- what a row says of reading the first and the second party
@@ -25,9 +23,9 @@ reading p q = pair_gives (pair_questions p q)
 
 -- what a row claims
 abbrev pub Holds : Row → Type 0
-Holds (refuses p q question place) = reading p q ≡ record { verdict = Verdict.Refused question place; answer = PairAnswer.None }
-Holds (waits p q) = reading p q ≡ record { verdict = Verdict.Accepted; answer = PairAnswer.None }
-Holds (answers p q y z) = reading p q ≡ record { verdict = Verdict.Accepted; answer = PairAnswer.At y z }
+Holds (refuses p q question place) = reading p q ≡ record { verdict = Verdict.Refused question place; answer = None }
+Holds (waits p q) = reading p q ≡ record { verdict = Verdict.Accepted; answer = None }
+Holds (answers p q y z) = reading p q ≡ record { verdict = Verdict.Accepted; answer = Some (y, z) }
 
 -- ---- the parties: of a board alone, which has its answer from the start on where the plan has one or two positions; bytes are hexadecimal
 

@@ -9,7 +9,7 @@ use Rattle.base.specs.Pick.{smallest}
 use Rattle.base.specs.Found.{Found, found, refused}
 use Rattle.base.specs.Sets.{count}
 use Rattle.base.specs.Every.{Every}
-use Rattle.base.specs.declared.Verdict.{Verdict}
+use Rattle.base.specs.Verdict.{Verdict}
 use Rattle.base.proofs.Puts.{put_zero}
 use Rattle.varint.specs.Varint.{pieces}
 use Rattle.varint.specs.Reading.{pieces_at}

@@ -2,7 +2,7 @@
 -- restore hands over. proofs/Restores.antt shows that every row holds.
 use Rattle.std.specs.Prelude.{◌≡◌, List, [], ◌∷◌, ◌++◌, ℕ, length, drop}
 use Rattle.base.specs.Found.{Found}
-use Rattle.base.specs.declared.Verdict.{Verdict}
+use Rattle.base.specs.Verdict.{Verdict}
 use Rattle.board_calls.specs.Restore.{Replay, restore_questions, restored_of, restore_outgoing}
 use Rattle.vectors_questions.specs.Rows.{range, no_record}
 

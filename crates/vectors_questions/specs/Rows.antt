@@ -2,7 +2,7 @@
 -- stand in ladders: in each row every later question of the ladder fails as well, and the next row mends the one that answered. proofs/Table.antt shows
 -- that every row holds.
 use Rattle.std.specs.Prelude.{◌≡◌, List, [], ◌∷◌, ◌++◌, ℕ, ℤ, pos}
-use Rattle.base.specs.declared.Verdict.{Verdict}
+use Rattle.base.specs.Verdict.{Verdict}
 use Rattle.party.specs.Party.{Party}
 use Rattle.board_calls.specs.Calls.{set_up_of, start_questions, take_questions, called_of, answered_of}
 use Rattle.board_calls.specs.Restore.{restore_questions, restored_of}

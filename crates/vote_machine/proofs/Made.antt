@@ -13,8 +13,8 @@ use Rattle.message.specs.declared.Body.{Body}
 use Rattle.message.specs.declared.Message.{Message}
 use Rattle.message.specs.Message.{in_table, body_in_table, last_level}
 use Rattle.level.specs.declared.Context.{Context}
-use Rattle.level.specs.declared.Effect.{Effect}
-use Rattle.level.specs.declared.Effect.TheVariants.{Nothing, Quiet, Send, Enter, SendEnter}
+use Rattle.level.specs.Rules.{Effect}
+use Rattle.level.specs.Rules.{Nothing, Quiet, Send, Enter, SendEnter}
 use Rattle.level.specs.Level.{Level, with_entry}
 use Rattle.level.specs.Rules.{lowest_rule}
 use Rattle.level_laws.proofs.Law.{Same, untouched_entry}

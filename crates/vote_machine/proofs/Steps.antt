@@ -14,8 +14,8 @@ use Rattle.base.proofs.Bools.{T-right}
 use Rattle.component.specs.Component.{side_of}
 use Rattle.level.specs.Level.{Level}
 use Rattle.level.specs.declared.Context.{Context}
-use Rattle.level.specs.declared.Effect.{Effect}
-use Rattle.level.specs.declared.Effect.TheVariants.{Nothing, Quiet, Send, Enter, SendEnter}
+use Rattle.level.specs.Rules.{Effect}
+use Rattle.level.specs.Rules.{Nothing, Quiet, Send, Enter, SendEnter}
 use Rattle.level.specs.Rules.{Applied, applies, lowest_rule}
 use Rattle.level_laws.proofs.Grows.{Unmoved, lowest_unmoved}
 use Rattle.level_laws.proofs.Messages.{Valued, After, enters, Enters, by_sure, by_unsure, by_sides, Entry, lowest_enters}

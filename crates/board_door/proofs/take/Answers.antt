@@ -1,18 +1,25 @@
 -- `board_door::take` meets its contract: what its questions find is carried out.
-use mathlib.Core.Path.{◌≡◌}
+use mathlib.Core.Path.{◌≡◌, sym, subst}
 use lib.ListN.{length}
-use Rattle.base.specs.Limits.{max_rows, level_count}
-use Rattle.base.specs.Found.{Found}
-use Rattle.plan.specs.Tie.{shaped}
-use Rattle.party.specs.Party.{Party}
-use Rattle.party.specs.Tie.{party_in}
-use Rattle.board_calls.specs.Calls.{Entry, take_questions}
+use Rattle.base.specs.Limits.{max_rows, max_boards, level_count}
+use Rattle.plan.specs.Tie.{as_plan}
+use Rattle.party.specs.declared.Vote.{Vote}
+use Prim.Native.Nat.{◌≤◌}
+use Rattle.party.specs.Tie.{as_party}
+use Rattle.board_calls.specs.Calls.{take_questions}
 use Rattle.board_laws.proofs.Parts.{length_mapped}
-use Rattle.board_questions.specs.Inner.{Asks}
-use Rattle.board_door.proofs.Doors.{boards_most, carriable, call_gives_lem}
+use Rattle.board_laws.proofs.Questions.{shut_19, take_door}
+use Rattle.board_questions.specs.Inner.{Asks, AsksTake}
+use Rattle.board_door.proofs.Doors.{shut_call, boards_most, passed, readied, call_gives_lem}
 use borrow.Author.Rules.{rules}
-use Rattle.board_door.proofs.take.Goals.{After-ask_take-a, Start}
+use Rattle.board_door.proofs.take.Goals.{Start, After-ask_take-asked}
 use Rattle.board_door.proofs.take.Goals as goal
+
+pub returns-in_default : goal.returns-in_default
+returns-in_default c =
+    shut_call
+    (take_door (as_party c.args.p) c.args.sender c.args.bytes.now (length c.args.journal.now) c.args.used (length c.args.out.now) 19
+    (λ go. shut_19 (as_party c.args.p) (length c.args.journal.now) c.args.used (length c.args.out.now) go (sym c.in_default.ensures.passes))) c.into.ensures c.unchanged.ensures
 
 -- the lengths of a record's arrays
 rows : (s : Start) → (length s.args.p.plan.parent ≡ max_rows) × (length s.args.p.plan.child ≡ max_rows)
@@ -21,31 +28,29 @@ rows s = (search (rules, length_mapped), search (rules, length_mapped))
 levels : (s : Start) → length s.args.p.levels ≡ level_count
 levels s = search (rules, length_mapped)
 
-pub ask_take-a-requires : goal.ask_take-a-requires
-ask_take-a-requires c =
-    boards_most
-    (party_in c.vote-v.result (shaped c.shape-shape.result c.args.p.plan.parent c.args.p.plan.child) c.args.p.levels c.args.p.sets)
-    c.inspect-i.ensures.passes
+pub ask_take-asked-requires : goal.ask_take-asked-requires
+ask_take-asked-requires c = subst (λ (v : Vote). v.n ≤ max_boards) (sym c.vote.ensures) (boards_most c.args.p c.in-Some.ensures.passes)
 
 -- its questions were asked
-module _ (c : After-ask_take-a) where
-  abbrev asks : Party → Found Entry
-  asks p = take_questions p c.args.sender c.args.bytes.now (length c.args.journal.now) c.args.used (length c.args.out.now)
+asked : (c : After-ask_take-asked) → length c.args.p.levels ≡ level_count
+    → Asks (as_party c.args.p) (length c.args.journal.now) c.args.used (length c.args.out.now)
+    (take_questions (as_party c.args.p) c.args.sender c.args.bytes.now (length c.args.journal.now) c.args.used (length c.args.out.now)) c.ask_take-asked.result
+asked c full =
+    let a = c.args in
+    let h = subst (λ (v : Vote). AsksTake (record { room = length a.journal.now; used = a.used; out = length a.out.now }) v a.p.sets a.sender a.bytes.now c.ask_take-asked.result) c.vote.ensures c.ask_take-asked.ensures in
+    h.asks (as_plan a.p.plan) a.p.levels full (passed a.p c.in-Some.ensures.passes)
 
-  abbrev p : Party
-  p = party_in c.vote-v.result (shaped c.shape-shape.result c.args.p.plan.parent c.args.p.plan.child) c.args.p.levels c.args.p.sets
-
-  asked : length c.args.p.levels ≡ level_count → Asks p (length c.args.journal.now) c.args.used (length c.args.out.now) (asks p) c.ask_take-a.result
-  asked full = c.ask_take-a.ensures.asks _ _ full c.inspect-i.ensures.passes
-
-pub carry_out-g-requires : goal.carry_out-g-requires
-carry_out-g-requires c =
-    let s = (goal.at.carry_out-g-requires c).Start in
-    let b = (goal.at.carry_out-g-requires c).After-ask_take-a in
-    carriable c.args.p c.vote-v.ensures c.shape-shape.ensures (asked b (levels s)) c.inspect-i.ensures.passes c.inspect-i.ensures.charted (rows s).0 (rows s).1
+pub carry_out-requires : goal.carry_out-requires
+carry_out-requires c =
+    let s = (goal.at.carry_out-requires c).Start in
+    let b = (goal.at.carry_out-requires c).After-ask_take-asked in
+    record {
+      fits = (asked b (levels s)).fits;
+      ready = readied c.args.p c.in-Some.ensures.passes c.in-Some.ensures.charted (rows s).0 (rows s).1;
+    }
 
 pub returns : goal.returns
 returns c =
     let s = (goal.at.returns c).Start in
-    let b = (goal.at.returns c).After-ask_take-a in
-    call_gives_lem c.args.p c.vote-v.ensures c.shape-shape.ensures (asks b) _ _ (asked b (levels s)) c.carry_out-g.ensures
+    let b = (goal.at.returns c).After-ask_take-asked in
+    call_gives_lem (asked b (levels s)) c.carry_out.ensures

@@ -7,14 +7,6 @@ use Rattle.base.proofs.Puts.{then_put}
 use Rattle.varint.specs.Varint.{varint_bytes}
 use Rattle.journal.proofs.put_head.Goals as goal
 
-pub put-i-requires : goal.put-i-requires
-put-i-requires c = let a = c.args in omega (arith, length-append (varint_bytes a.tag) (varint_bytes a.number))
-
-pub put-requires : goal.put-requires
-put-requires c =
-    let a = c.args in
-    omega (arith, length-append (varint_bytes a.tag) (varint_bytes a.number))
-
 pub returns : goal.returns
 returns c =
     let a = c.args in

@@ -1,10 +1,13 @@
 -- `journal::read_message` meets its contract.
 use mathlib.Core.Path.{sym, ◌∙◌}
-use Rattle.journal.proofs.Laws.{read_taken, taken_broken}
+use Rattle.std.proofs.lemmas.Result.{err_from_is_err_and}
+use Rattle.journal.proofs.Laws.{taken_read, taken_fails}
 use Rattle.journal.proofs.read_message.Goals as goal
 
-pub returns-in-Read : goal.returns-in-Read
-returns-in-Read c = read_taken _ _ _ (sym c.read_at.ensures ∙ c.in-Read.is)
+pub returns-in_err-message : goal.returns-in_err-message
+returns-in_err-message c =
+    let p = err_from_is_err_and c.from_residual.result c.from_residual.ensures.1 in
+    rw (p.1, p.2) (taken_fails _ _ _ (sym c.read_at.ensures ∙ c.in_err-message.was))
 
-pub returns-in-Failed : goal.returns-in-Failed
-returns-in-Failed c = c.failing.ensures ∙ taken_broken _ _ _ (sym c.read_at.ensures ∙ c.in-Failed.is)
+pub returns : goal.returns
+returns c = taken_read _ _ _ (sym c.read_at.ensures ∙ c.in_ok-message.was)

@@ -1,23 +1,16 @@
--- Rule 6's choice.
-use native.Mathlib.Omega.{arith}
-use borrow.Author.Tests.{lt-ltb, le-ltb}
-use Rattle.level_counts.proofs.Candidates.{candidate_le}
+use Rattle.std.proofs.Common.{rules}
+use mathlib.Core.Path.{sym, ◌∙◌}
+use Rattle.level_counts.proofs.Candidates.{candidate_there, candidate_last}
+use Rattle.level_counts_second.specs.Inner.{unechoed}
 use Rattle.level_counts_second.proofs.echo.Goals as goal
 
-pub overflow_add-d : goal.overflow_add-d
-overflow_add-d c = omega arith
-
-pub returns-then-d-i : goal.returns-then-d-i
-returns-then-d-i c = (rw (← c.first_unechoed-i.ensures, le-ltb _ _ c.if-d-i.true), omega arith)
-
-pub overflow_cast-result : goal.overflow_cast-result
-overflow_cast-result c =
+pub returns-in-Some-clause-choice : goal.returns-in-Some-clause-choice
+returns-in-Some-clause-choice c =
     let a = c.args in
-    omega (arith, candidate_le a.degree c.first_unechoed-i.result (omega arith), c.candidate.ensures)
+    candidate_there (unechoed a.heard.now a.echoed.now a.c.t) a.c.degree _ c.in-Some.ensures
 
-pub returns : goal.returns
-returns c =
-    let a = c.args in (
-      rw (← c.first_unechoed-i.ensures, lt-ltb _ _ c.if-d-i.false, c.candidate.ensures),
-      omega (arith, candidate_le a.degree c.first_unechoed-i.result (omega arith), c.candidate.ensures),
-    )
+pub returns-clause-choice : goal.returns-clause-choice
+returns-clause-choice c =
+    let a = c.args in
+    c.then_some.ensures
+    ∙ candidate_last (unechoed a.heard.now a.echoed.now a.c.t) a.c.degree _ (sym c.in_default.is ∙ c.first_unechoed.ensures) (search rules)

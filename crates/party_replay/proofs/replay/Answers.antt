@@ -2,9 +2,8 @@
 use mathlib.Core.Path.{sym, subst}
 use lib.ListN.{length}
 use Rattle.base.proofs.Bools.{T→true, not-T→false}
-use Rattle.plan.specs.Tie.{shaped}
 use Rattle.party.specs.Party.{Party}
-use Rattle.party.specs.Tie.{party_in}
+use Rattle.party.specs.Tie.{as_party}
 use Rattle.party_life.specs.Life.{Fits}
 use Rattle.party_life.proofs.Fits.{fits_start, fits_taken}
 use Rattle.party_replay.proofs.Redone.{replayed_start, replayed_taken, gives_same, room_same}
@@ -12,7 +11,7 @@ use Rattle.party_replay.proofs.replay.Goals.{Start}
 use Rattle.party_replay.proofs.replay.Goals as goal
 
 abbrev first : Start → Party
-first s = party_in s.args.v (shaped s.args.shape s.args.ps.now s.args.cs.now) s.args.levels s.args.sets.now
+first s = as_party s.args.p.now
 
 pub start-requires : goal.start-requires
 start-requires c =

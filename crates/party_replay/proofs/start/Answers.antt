@@ -1,86 +1,56 @@
 -- `party_replay::start` meets its contract.
-use borrow.Author.Rules.{rules}
-use mathlib.Core.Path.{◌≡◌, sym, ◌∙◌}
-use Rattle.plan.specs.Plan.{Plan}
-use Rattle.plan.specs.Tie.{shaped}
-use Rattle.component.specs.Component.{whole_of}
-use Rattle.party.specs.Party.{Party}
-use Rattle.party.specs.Run.{run, starting}
-use Rattle.party.specs.Tie.{party_in}
-use Rattle.party_laws.proofs.Laws.{Formed}
-use Rattle.party_step.proofs.Typed.{levels_full, levels_echoes, chart_surveys}
-use Rattle.party_step.proofs.Entries.{holds_enters}
-use Rattle.party_step.specs.Inner.{Enters, chart_with}
-use Rattle.level.specs.Inner.{no_code_level}
+use native.Mathlib.Omega.{arith}
+use mathlib.Core.Path.{◌≡◌, refl, sym}
 use lib.ListN.{length, get_or, set}
-use Rattle.party_run.proofs.Parts.{sized_in, chart_more, chart_same}
+use Rattle.plan.specs.Tie.{as_plan}
+use Rattle.component.specs.Component.{whole_of}
+use Rattle.level.specs.Inner.{no_code_level}
+use Rattle.party.specs.Run.{run, starting}
+use Rattle.party.specs.Tie.{as_party}
+use Rattle.party_step.proofs.Entries.{side_enters}
+use Rattle.party_step.specs.Inner.{Enters}
+use Rattle.party_bounds.proofs.Laws.{Sized}
+use Rattle.party_run.proofs.Parts.{with_levels, sized_in}
 use Rattle.party_replay.proofs.Calls.{valid_plan, whole_enterable, start_ready, start_runs}
 use Rattle.party_replay.proofs.Redone.{gives_same, room_same}
-use Rattle.party_replay.proofs.start.Goals.{After-enter-e, Joined-e, Start, then-e, else-e}
+use Rattle.party_replay.proofs.start.Goals.{After-enter-l, Start}
 use Rattle.party_replay.proofs.start.Goals as goal
 
-abbrev plan : Start → Plan
-plan s = shaped s.args.shape s.args.ps.now s.args.cs.now
-
-abbrev first : Start → Party
-first s = party_in s.args.v (plan s) s.args.levels s.args.sets.now
-
-formed : (s : Start) → Formed (first s)
-formed s =
-    let a = s.args in
-    let t = s.well_formed.1.1.1.1.1.0 in
-    (sized_in a.v (plan s) a.levels a.sets.now s.requires.0.valid (levels_full a.levels _ t) (levels_echoes a.levels _ t)).formed
-
 -- level 0 is entered over the whole plan
-entered : (c : After-enter-e)
-    → let p = shaped c.args.shape c.args.ps.now c.args.cs.now in
-    Enters p (whole_of p) (get_or c.args.levels 0 no_code_level) 0 c.args.x c.enter-e.result c.enter-e.new.ports
+entered : (c : After-enter-l)
+    → let p = as_plan c.args.p.now.plan in
+    Enters p (whole_of p) (get_or c.args.p.now.levels 0 no_code_level) 0 c.args.x 0 c.args.chart.now c.enter-l.result c.enter-l.new.chart
 entered c =
     let a = c.args in
-    let p = shaped a.shape a.ps.now a.cs.now in
-    let h = c.whole-span in
-    holds_enters p h.result _ (whole_of p) h.ensures (get_or a.levels 0 no_code_level) 0 a.x c.enter-e.result c.enter-e.new.ports c.enter-e.ensures
+    let p = as_plan a.p.now.plan in
+    side_enters p (whole_of p) (get_or a.p.now.levels 0 no_code_level) 0 a.x 0 a.chart.now _ c.enter-l.result c.enter-l.new.chart c.enter_whole.ensures.is
+    (record { sending = refl; surveys = refl }) c.enter-l.ensures
 
-pub whole-span-requires : goal.whole-span-requires
-whole-span-requires c = let s = (goal.at.whole-span-requires c).Start in valid_plan (first s) s.requires.0.valid
+pub enter_whole-requires : goal.enter_whole-requires
+enter_whole-requires c = let s = (goal.at.enter_whole-requires c).Start in valid_plan (as_party s.args.p.now) s.requires.0.valid
 
-pub enter-e-requires : goal.enter-e-requires
-enter-e-requires c =
-    let s = (goal.at.enter-e-requires c).Start in
-    let h = c.whole-span in
-    whole_enterable (plan s) (valid_plan (first s) s.requires.0.valid) s.requires.0.rows h.result _ h.ensures s.args.x s.requires.3
+pub enter-l-requires : goal.enter-l-requires
+enter-l-requires c =
+    let s = (goal.at.enter-l-requires c).Start in
+    (whole_enterable (as_plan s.args.p.now.plan) (valid_plan (as_party s.args.p.now) s.requires.0.valid) s.requires.0.rows _ c.enter_whole.ensures s.args.x s.requires.3, omega arith)
 
--- the chart then
-charted : (c : Joined-e)
-    → c.if-e.d ≡ chart_with c.args.chart 0 c.enter-e.result
-charted c =
-    let chart = c.args.chart in
-    let e = c.enter-e.result in
-    elim c.if-e.branch [ then-e w ↦ w.d-is ∙ chart_more chart 0 e w.if-e.true | else-e w ↦ w.d-is ∙ chart_same chart 0 e w.if-e.false ]
+-- the party, as question 19 and the type of its levels have it
+sized : (c : After-enter-l) → Sized (as_party c.args.p.now)
+sized c = sized_in c.args.p.now c.requires.0.valid c.levels_full.ensures.0 c.levels_full.ensures.1
 
 -- rules are applied to the party that entered
-runs : (c : After-enter-e)
-    → let a = c.args in
-    let p = shaped a.shape a.ps.now a.cs.now in
-    starting (party_in a.v p a.levels a.sets.now) a.x ≡ run (party_in a.v p (set a.levels 0 c.enter-e.result.level) a.sets.now)
+runs : (c : After-enter-l) → starting (as_party c.args.p.now) c.args.x ≡ run (as_party (with_levels c.args.p.now (set c.args.p.now.levels 0 c.enter-l.result)))
 runs c =
     let a = c.args in
-    let p = shaped a.shape a.ps.now a.cs.now in
-    let t = c.well_formed.1.1.1.1.1.0 in
-    let f = (sized_in a.v p a.levels a.sets.now c.requires.0.valid (levels_full a.levels _ t) (levels_echoes a.levels _ t)).formed in
-    start_runs a.v p a.levels a.sets.now a.chart a.ports.now f c.requires.0.charts a.x c.requires.2 c.requires.3 c.enter-e.result
-    c.enter-e.new.ports (entered c)
+    start_runs a.p.now a.chart.now (sized c) c.requires.0 a.x c.requires.2 c.requires.3 c.enter-l.result c.enter-l.new.chart (entered c)
 
 pub run-requires : goal.run-requires
 run-requires c =
-    let d = (goal.at.run-requires c).Joined-e in
-    let e = (goal.at.run-requires c).After-enter-e in
-    let s = (goal.at.run-requires c).Start in
-    let a = s.args in (
-      start_ready a.v (plan s) a.levels a.sets.now a.chart a.ports.now (formed s) s.requires.0.charts a.x s.requires.2 s.requires.3 e.enter-e.result
-          e.enter-e.new.ports (entered e) (chart_surveys a.chart _ s.well_formed.1.1.1.1.1.1.0) d.if-e.d (charted d) s.requires.0.rows,
-      room_same (sym (runs e)) a.from (length a.out.now) s.requires.1,
+    let e = (goal.at.run-requires c).After-enter-l in
+    let a = e.args in (
+      start_ready a.p.now a.chart.now (sized e) e.requires.0 a.x e.requires.2 e.requires.3 e.enter-l.result e.enter-l.new.chart (entered e) e.surveys_full.ensures,
+      room_same (sym (runs e)) a.from (length a.out.now) e.requires.1,
     )
 
 pub returns : goal.returns
-returns c = let n = c in gives_same (runs (goal.at.returns c).After-enter-e) n.run.ensures
+returns c = gives_same (runs (goal.at.returns c).After-enter-l) c.run.ensures

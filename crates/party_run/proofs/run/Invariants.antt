@@ -3,14 +3,12 @@
 use borrow.Author.Rules.{rules}
 use Prim.Native.Nat.{◌+◌, ◌-◌, ◌*◌}
 use Rattle.base.specs.Limits.{level_count, max_rules}
-use Rattle.plan.specs.Tie.{shaped}
-use Rattle.party.specs.Tie.{party_in}
+use Rattle.party.specs.Tie.{as_party}
 use Rattle.party_run.proofs.Turns.{Between}
 use Rattle.party_run.proofs.run.Given as goal
 
 abbrev pub invariant-loop-i : goal.invariant-loop-i
-invariant-loop-i l =
-    Between l.v (shaped l.shape l.ps l.cs) l.sets (party_in l.v (shaped l.shape l.ps l.cs) l.initial.ls l.sets) l.from l.initial.out l.ls l.d l.ports l.out l.sent l.rules l.i
+invariant-loop-i l = Between (as_party l.initial.p) l.from l.initial.out l.p l.chart l.out l.sent l.rules l.i
 
 abbrev pub decreases-loop-i : goal.decreases-loop-i
 decreases-loop-i l = (level_count + 1) * (max_rules - l.rules) + (level_count - l.i)

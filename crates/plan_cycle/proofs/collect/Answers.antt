@@ -1,38 +1,30 @@
--- `plan_cycle::collect` meets its contract. The loop's invariant: the first i rows are the edges before the one whose groups stand at `first` and `second`.
+-- `plan_cycle::collect` meets its contract.
+use mathlib.Core.Path.{◌≡◌, ap, ◌∙◌}
 use native.Mathlib.Omega.{arith}
+use Rattle.plan_cycle.specs.Cycle.{value_at, past_at}
 use Rattle.plan_cycle.proofs.Collected.{collected_start, collected_room, collected_edge, collected_next, collected_end}
-use borrow.Author.Rules.{rules}
 use Rattle.plan_cycle.proofs.collect.Goals as goal
 
-pub loop-second-init : goal.loop-second-init
-loop-second-init c =
-    let s = c in
-    (search rules, search rules, collected_start c.past_at-count.ensures c.past_at-first.ensures c.past_at-second.ensures s.requires)
+pub loop-i-init : goal.loop-i-init
+loop-i-init c = collected_start c.varint_at-kind.ensures.1 c.varint_at-count.ensures.1 c.requires
 
-pub put_edge-requires : goal.put_edge-requires
-put_edge-requires c = collected_edge c.loop-second.invariant.2
+pub overflow_cast-one : goal.overflow_cast-one
+overflow_cast-one c = omega (arith, (collected_edge c.loop-i.invariant).0, c.varint_at-first.ensures.0)
 
-pub overflow_add-i : goal.overflow_add-i
-overflow_add-i c = omega (arith, collected_room c.loop-second.invariant.2)
+pub overflow_cast-two : goal.overflow_cast-two
+overflow_cast-two c =
+    let s = c.args.bytes.now in
+    let e : c.varint_at-second.result.value ≡ value_at s (past_at s c.loop-i.at) = c.varint_at-second.ensures.0 ∙ ap (value_at s) c.varint_at-first.ensures.1 in
+    omega (arith, (collected_edge c.loop-i.invariant).1, e)
 
-pub loop-second-smaller : goal.loop-second-smaller
-loop-second-smaller c = omega (arith, collected_room c.loop-second.invariant.2)
+pub returns-then-first-place : goal.returns-then-first-place
+returns-then-first-place c =
+    let h = c.loop-i.invariant in
+    (omega (arith, collected_room h), collected_end h c.varint_at-first.ensures.1 c.varint_at-first.ensures.0 c.varint_at-second.ensures.0 c.if-first-place.true)
 
-pub loop-second-preserved : goal.loop-second-preserved
-loop-second-preserved c =
-    let p = c in
-    let l = p in
-    (search rules, search rules, collected_next l.loop-second.invariant.2 p.put_edge.ensures.0 p.put_edge.ensures.1 c.past_at-first-in-loop-second.ensures c.past_at-second-in-loop-second.ensures l.loop-second-test.true)
+pub loop-i-preserved : goal.loop-i-preserved
+loop-i-preserved c =
+    collected_next c.loop-i.invariant c.varint_at-first.ensures.1 c.varint_at-first.ensures.0 c.varint_at-second.ensures.0 c.varint_at-second.ensures.1 c.if-first-place.false
 
-pub put_edge-requires-2 : goal.put_edge-requires-2
-put_edge-requires-2 c = collected_edge c.loop-second.invariant.2
-
-pub overflow_add-result : goal.overflow_add-result
-overflow_add-result c = omega (arith, collected_room c.loop-second.invariant.2)
-
-pub returns : goal.returns
-returns c =
-    let p = c in
-    let l = p in
-    let h = l.loop-second.invariant.2 in
-    (omega (arith, collected_room h), collected_end h p.put_edge-2.ensures.0 p.put_edge-2.ensures.1 l.loop-second-test.false)
+pub unreachable-requires : goal.unreachable-requires
+unreachable-requires c = omega (arith, collected_room c.loop-i.invariant, c.loop-i-test.false)

@@ -1,47 +1,34 @@
--- `plan_growth::grow` meets its contract. The loop's invariant: the columns hold the rows of the first i edges, which hang.
+-- `grow` meets its contract: one more edge is taken, and hangs.
+use mathlib.Core.Path.{◌≡◌, sym, ap, subst, ◌∙◌}
 use Prim.Native.Nat.{◌+◌}
 use native.Mathlib.Omega.{arith}
-use borrow.Author.Rules.{rules}
-use Rattle.base.specs.Limits.{max_vertices, max_rows}
-use Rattle.edges.proofs.Rows.{row_below, rows_below}
-use Rattle.plan_growth.proofs.Columns.{laid_named}
-use Rattle.plan_growth.proofs.Chains.{hung_none, hung_more, order_start, order_step, order_end}
+use Rattle.base.specs.Limits.{max_vertices}
+use Rattle.edges.specs.Rows.{rows}
+use Rattle.edges.proofs.Rows.{rows_length}
+use Rattle.plan_growth.specs.Inner.{Laid, Columns, Listed, rows_of}
+use Rattle.plan_growth.proofs.Chains.{order_start, order_step, order_end, next_fits}
 use Rattle.plan_growth.proofs.grow.Goals as goal
 
-pub loop-i-init : goal.loop-i-init
-loop-i-init c =
-    let s = c in
-    (search rules, search rules, search rules, search rules, search rules, search rules, search rules, order_start _ _ s.requires.0, hung_none s.args.v max_vertices max_rows _ _ s.requires.5)
+pub loop-init : goal.loop-init
+loop-init c = record { hung = c.new-hanging.ensures; rows = order_start _ _ c.new-list.ensures }
 
-pub take_edge-k-requires : goal.take_edge-k-requires
-take_edge-k-requires c =
-    let s = c in
-    let o = c.loop-i in
-    (laid_named o.invariant.7, o.invariant.8, rows_below s.args.v _ _ s.args.m (o.i + 1) (omega arith) s.requires.1, omega arith, omega arith)
+pub take_edge-requires : goal.take_edge-requires
+take_edge-requires c = let r = c.requires in rw c.loop.invariant.hung (next_fits _ _ c.args.m _ c.loop-test.true r.0 (r.1, r.2, r.3))
 
 pub hang-requires : goal.hang-requires
-hang-requires c =
-    let s = c in
-    let b = row_below s.args.v _ _ s.args.m c.loop-i.i c.loop-i-test.true s.requires.1 in
-    (omega (arith, b.0), omega (arith, b.1), omega arith, omega arith, omega arith)
+hang-requires c = let r = c.requires in rw c.loop.invariant.hung (next_fits _ _ c.args.m _ c.loop-test.true r.0 (r.1, r.2, r.3))
 
-pub loop-i-preserved : goal.loop-i-preserved
-loop-i-preserved c =
-    let s = c in
-    let o = c.loop-i in
-    let h = c.hang.ensures in
-    let t = c.loop-i-test.true in
-    let p = s.requires in (
-      omega arith,
-      search rules,
-      search rules,
-      search rules,
-      search rules,
-      search rules,
-      search rules,
-      order_step _ _ o.i (omega arith) o.invariant.7 c.take_edge-k.ensures,
-      hung_more o.invariant.8 (rows_below s.args.v _ _ s.args.m (o.i + 1) (omega arith) p.1) (omega arith, omega arith, omega arith, omega arith) h.0 h.1 h.2,
-    )
+pub loop-preserved : goal.loop-preserved
+loop-preserved c =
+    let o = c.loop.invariant in
+    let l = c.loop.list in
+    record {
+      hung = c.hang.ensures ∙ ap (λ (s : Columns). record { one = s.one; two = s.two; count = s.count + 1 }) o.hung;
+      rows = order_step _ _ c.loop.counter (omega arith) o.rows (sym (rows_length l.parent l.child l.count)) (rw o.hung at c.take_edge.ensures);
+    }
 
 pub returns : goal.returns
-returns c = let o = c.loop-i in order_end _ _ o.i _ (omega arith) o.invariant.7
+returns c =
+    let e : c.loop.counter ≡ c.args.m = omega arith in
+    order_end (rows c.args.one.now c.args.two.now c.args.m) (omega arith) c.requires.3 c.requires.0 (rw e at c.loop.invariant.rows)
+    (subst (λ (l : Listed). Laid max_vertices (rows_of l) l.parent l.child l.seen l.count) c.list.view_is c.list.invariant)

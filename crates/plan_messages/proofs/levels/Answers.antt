@@ -1,27 +1,19 @@
 -- `plan_messages::levels` meets its contract: a tree by its rounds, a range by halving.
 use native.Mathlib.Omega.{arith}
-use Rattle.plan.specs.Tie.{shaped}
+use Rattle.plan.specs.Tie.{as_plan}
 use Rattle.plan_messages.proofs.Laws.{tree_asks, tree_levels, positions_most, range_halves}
 use Rattle.plan_messages.proofs.levels.Goals as goal
 
-pub levels-requires : goal.levels-requires
-levels-requires c =
-    let a = c in
-    let p = shaped a.args.s a.args.ps.now a.args.cs.now in
-    tree_asks p a.requires c.if-s-eq1.true (omega arith) (omega arith)
+pub invariant_of-tree : goal.invariant_of-tree
+invariant_of-tree c =
+    let r = tree_asks (as_plan c.args.plan.now) c.requires c.if-plan-eq1.true (omega arith) (omega arith) in
+    record { grows = r.0; most = r.1 }
 
-pub returns-then-s-eq1 : goal.returns-then-s-eq1
-returns-then-s-eq1 c =
-    let a = c in
-    let p = shaped a.args.s a.args.ps.now a.args.cs.now in
-    tree_levels p a.requires c.if-s-eq1.true c.levels.result c.levels.ensures
+pub returns-then-plan-eq1 : goal.returns-then-plan-eq1
+returns-then-plan-eq1 c = tree_levels (as_plan c.args.plan.now) c.requires c.if-plan-eq1.true c.levels.result c.levels.ensures
 
 pub range_levels-requires : goal.range_levels-requires
-range_levels-requires c =
-    let a = c in
-    positions_most (shaped a.args.s a.args.ps.now a.args.cs.now) a.requires
+range_levels-requires c = positions_most (as_plan c.args.plan.now) c.requires
 
 pub returns : goal.returns
-returns c =
-    let a = c in
-    range_halves (shaped a.args.s a.args.ps.now a.args.cs.now) a.requires c.if-s-eq1.false c.range_levels.result c.range_levels.ensures
+returns c = range_halves (as_plan c.args.plan.now) c.requires c.if-plan-eq1.false c.range_levels.result c.range_levels.ensures

@@ -1,11 +1,6 @@
-use mathlib.Core.Path.{◌≡◌}
-use Prim.Native.Nat.{◌≤◌, ◌-◌}
-use lib.ListN.{length}
+-- The first i rows are passed.
 use Rattle.tree_pass_forest.proofs.ForestPass.{Left}
 use Rattle.tree_pass_forest.proofs.clear_shown.Given as goal
 
 abbrev pub invariant-loop-i : goal.invariant-loop-i
-invariant-loop-i l = (l.i ≤ l.m) × (length l.light ≡ length l.initial.light) × Left l.ps l.cs l.ins l.labels l.sub l.initial.light l.i l.light
-
-abbrev pub decreases-loop-i : goal.decreases-loop-i
-decreases-loop-i l = l.m - l.i
+invariant-loop-i l = Left l.tree.parents.now l.tree.children.now l.ins l.labels l.sub l.initial.light l.i l.light

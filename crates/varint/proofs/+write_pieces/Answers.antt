@@ -3,30 +3,21 @@ use native.Mathlib.Omega.{arith}
 use mathlib.Core.Path.{refl, sym, ap, ◌∙◌}
 use mathlib.Core.List.{List, ◌++◌}
 use lib.ListN.{length, length-set, length-drop, set, take, drop}
-use Rattle.base.proofs.Puts.{put_first, put_rest, put_zero, tail_lent, tail_back, tail_same}
+use Rattle.base.proofs.Puts.{put_first, put_rest, put_zero, tail_lent, tail_back}
 use Rattle.varint.specs.Varint.{pieces}
 use Rattle.varint.proofs.Laws.{pieces_none, pieces_last, pieces_more, pieces_pos}
 use Prim.Native.Nat.{ℕ, ◌+◌, ◌-◌, ◌/◌, ◌%◌}
 use Rattle.varint.proofs.+write_pieces.Goals as goal
-
-pub bounds-out-0 : goal.bounds-out-0
-bounds-out-0 t c = omega (arith, pieces_pos c.args.left c.args.v)
 
 pub returns-then-left-eq0 : goal.returns-then-left-eq0
 returns-then-left-eq0 t c =
     let a = c.args in
     rw (pieces_none a.left a.v c.if-left-eq0.true) (refl, put_first a.out.now _ (omega (arith, pieces_pos a.left a.v)) ∙ sym (put_zero a.out.now _))
 
-pub bounds-out-0-then-v-lt-PIECE : goal.bounds-out-0-then-v-lt-PIECE
-bounds-out-0-then-v-lt-PIECE t c = omega (arith, pieces_pos c.args.left c.args.v)
-
 pub returns-then-v-lt-PIECE : goal.returns-then-v-lt-PIECE
 returns-then-v-lt-PIECE t c =
     let a = c.args in
     rw (pieces_last a.left a.v (omega arith) (omega arith)) (refl, put_first a.out.now _ (omega (arith, pieces_pos a.left a.v)) ∙ sym (put_zero a.out.now _))
-
-pub bounds-out-0-2 : goal.bounds-out-0-2
-bounds-out-0-2 t c = omega (arith, pieces_pos c.args.left c.args.v)
 
 pub slice_bounds-write_pieces-count : goal.slice_bounds-write_pieces-count
 slice_bounds-write_pieces-count t c = simp length-set (omega (arith, pieces_pos c.args.left c.args.v))
@@ -34,23 +25,14 @@ slice_bounds-write_pieces-count t c = simp length-set (omega (arith, pieces_pos 
 pub slice_bounds-write_pieces-start : goal.slice_bounds-write_pieces-start
 slice_bounds-write_pieces-start t c = simp length-set (omega (arith, pieces_pos c.args.left c.args.v))
 
+pub overflow_add-result : goal.overflow_add-result
+overflow_add-result t c = omega (arith, ap length (pieces_more c.args.left c.args.v (omega arith) (omega arith)))
+
 pub write_pieces-requires : goal.write_pieces-requires
 write_pieces-requires t c =
     let a = c.args in
     let e = ap length (pieces_more a.left a.v (omega arith) (omega arith)) in
     (omega arith, rw (tail_lent) (simp (length-drop, length-set) (omega (arith, e))))
-
-pub overflow_add-result : goal.overflow_add-result
-overflow_add-result t c =
-    let a = c.args in
-    let e = ap length (pieces_more a.left a.v (omega arith) (omega arith)) in
-    omega (arith, e)
-
-pub shape_of-out : goal.shape_of-out
-shape_of-out t c =
-    let a = c.args in
-    let l : List ℕ = set a.out.now 0 (a.v % 128 + 128) in
-    tail_same 1 l c.write_pieces.new.out c.write_pieces.auto.out ∙ length-set a.out.now 0 (a.v % 128 + 128)
 
 pub returns : goal.returns
 returns t c =

@@ -1,9 +1,0 @@
--- `random_plans_draw::order::turn_some` is safe, and ends: each turn is one nearer to the end.
-use Prim.Native.Nat.{◌≤◌, ◌-◌}
-use Rattle.random_plans_draw.proofs.order.turn_some.Given as goal
-
-abbrev pub invariant-loop-i : goal.invariant-loop-i
-invariant-loop-i l = 0 ≤ l.i
-
-abbrev pub decreases-loop-i : goal.decreases-loop-i
-decreases-loop-i l = l.count - l.i

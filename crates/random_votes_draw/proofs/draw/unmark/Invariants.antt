@@ -1,9 +1,0 @@
--- `random_votes_draw::draw::unmark` is safe and ends: each turn takes the loop one nearer to its end.
-use Prim.Native.Nat.{◌≤◌, ◌-◌}
-use Rattle.random_votes_draw.proofs.draw.unmark.Given as goal
-
-abbrev pub invariant-loop : goal.invariant-loop
-invariant-loop l = 0 ≤ l.counter
-
-abbrev pub decreases-loop : goal.decreases-loop
-decreases-loop l = l.so_many - l.counter

@@ -1,9 +1,0 @@
--- `random_votes_judge::demand::conclude` is safe and ends: each turn takes the loop one nearer to its end.
-use Prim.Native.Nat.{◌≤◌, ◌-◌}
-use Rattle.random_votes_judge.proofs.demand.conclude.Given as goal
-
-abbrev pub invariant-loop-b : goal.invariant-loop-b
-invariant-loop-b l = 0 ≤ l.b
-
-abbrev pub decreases-loop-b : goal.decreases-loop-b
-decreases-loop-b l = 16 - l.b

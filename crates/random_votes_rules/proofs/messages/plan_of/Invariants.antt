@@ -1,9 +1,0 @@
--- `random_votes_rules::messages::plan_of` is safe and ends: each turn takes the loop one nearer to its end.
-use Prim.Native.Nat.{◌≤◌, ◌-◌}
-use Rattle.random_votes_rules.proofs.messages.plan_of.Given as goal
-
-abbrev pub invariant-loop-i : goal.invariant-loop-i
-invariant-loop-i l = 0 ≤ l.i
-
-abbrev pub decreases-loop-i : goal.decreases-loop-i
-decreases-loop-i l = l.length - l.i

@@ -1,9 +1,0 @@
--- `random_votes_state::put::varint` is safe and ends: each turn takes the loop one nearer to its end.
-use Prim.Native.Nat.{◌≤◌, ◌-◌}
-use Rattle.random_votes_state.proofs.put.varint.Given as goal
-
-abbrev pub invariant-loop : goal.invariant-loop
-invariant-loop l = 0 ≤ l.counter
-
-abbrev pub decreases-loop : goal.decreases-loop
-decreases-loop l = 4 - l.counter

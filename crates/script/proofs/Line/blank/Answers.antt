@@ -1,5 +1,0 @@
--- `script::Line::blank` meets its contract.
-use Rattle.script.proofs.Line.blank.Goals as goal
-
-pub returns : goal.returns
-returns c = rw (c.blank-k.ensures, c.blank-x.ensures)

@@ -1,9 +1,0 @@
--- `script_numbers::is_digit` meets its contract.
-use borrow.Author.Tests.{lt-leb, le-leb}
-use Rattle.script_numbers.proofs.is_digit.Goals as goal
-
-pub returns-then-b-lt48 : goal.returns-then-b-lt48
-returns-then-b-lt48 c = rw (lt-leb 48 c.args.b c.if-b-lt48.true)
-
-pub returns : goal.returns
-returns c = rw (le-leb 48 c.args.b c.if-b-lt48.false)

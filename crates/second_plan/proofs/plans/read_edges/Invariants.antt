@@ -1,9 +1,0 @@
--- `second_plan::plans::read_edges` is safe, and ends: each turn is one nearer to the end.
-use Prim.Native.Nat.{◌≤◌, ◌-◌}
-use Rattle.second_plan.proofs.plans.read_edges.Given as goal
-
-abbrev pub invariant-loop : goal.invariant-loop
-invariant-loop l = 0 ≤ l.counter
-
-abbrev pub decreases-loop : goal.decreases-loop
-decreases-loop l = l.vertices - l.counter

@@ -1,9 +1,0 @@
--- `second_plan::trees::list_joined` is safe, and ends: each turn is one nearer to the end.
-use Prim.Native.Nat.{◌≤◌, ◌-◌}
-use Rattle.second_plan.proofs.trees.list_joined.Given as goal
-
-abbrev pub invariant-loop-w : goal.invariant-loop-w
-invariant-loop-w l = 0 ≤ l.w
-
-abbrev pub decreases-loop-w : goal.decreases-loop-w
-decreases-loop-w l = 255 - l.w

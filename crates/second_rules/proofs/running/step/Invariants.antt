@@ -1,9 +1,0 @@
--- `second_rules::running::step` is safe, and ends: each turn is one nearer to the end.
-use Prim.Native.Nat.{◌≤◌, ◌-◌}
-use Rattle.second_rules.proofs.running.step.Given as goal
-
-abbrev pub invariant-loop-level : goal.invariant-loop-level
-invariant-loop-level l = 0 ≤ l.level
-
-abbrev pub decreases-loop-level : goal.decreases-loop-level
-decreases-loop-level l = 15 - l.level

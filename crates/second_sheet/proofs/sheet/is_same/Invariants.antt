@@ -1,9 +1,0 @@
--- `second_sheet::sheet::is_same` is safe, and ends: each turn is one nearer to the end.
-use Prim.Native.Nat.{◌≤◌, ◌-◌}
-use Rattle.second_sheet.proofs.sheet.is_same.Given as goal
-
-abbrev pub invariant-loop-i : goal.invariant-loop-i
-invariant-loop-i l = 0 ≤ l.i
-
-abbrev pub decreases-loop-i : goal.decreases-loop-i
-decreases-loop-i l = 3228 - l.i

@@ -1,9 +1,0 @@
--- `second_wire::group::read` is safe, and ends: each turn is one nearer to the end.
-use Prim.Native.Nat.{◌≤◌, ◌-◌}
-use Rattle.second_wire.proofs.group.read.Given as goal
-
-abbrev pub invariant-loop : goal.invariant-loop
-invariant-loop l = 0 ≤ l.counter
-
-abbrev pub decreases-loop : goal.decreases-loop
-decreases-loop l = 6 - l.counter
