@@ -9,15 +9,21 @@ use std::io;
 
 const BOARDS: usize = base::MAX_BOARDS as usize;
 
-// The settings, the parties of the boards (none while a setting is missing), whether a start was accepted, and the messages handed over. It has the outgoing
-// buffer that every call is lent.
+// The settings, the parties of the boards, whether a start was accepted, and the messages handed over. It has the outgoing buffer that every call is lent.
+// No Options of parties: while a setting is missing they are records of no party, which fail 19, so that every call is made and refused by it. With
+// Options, which the compiler fills with zeros wherever one is moved, README's vote takes half as many instructions again.
 #[derive(Drop)]
 pub struct Vote {
     settings: Settings,
-    parties: [Option<Party>; BOARDS],
+    parties: [Party; BOARDS],
     started: bool,
     wire: Wire,
     out: [u8; level_limits::OUTGOING],
+}
+
+// A record of no party.
+fn no_party() -> Party {
+    Party::new(0, 0, 0, 0, plan::no_plan())
 }
 
 impl Vote {
@@ -25,7 +31,7 @@ impl Vote {
     pub fn new() -> Vote {
         Vote {
             settings: Settings::default(),
-            parties: [None; BOARDS],
+            parties: [no_party(); BOARDS],
             started: false,
             wire: Wire::new(),
             out: [0; level_limits::OUTGOING],
@@ -38,14 +44,18 @@ impl Vote {
             return;
         }
         self.settings = settings;
+        let nobody = no_party();
         for (own, party) in (0..base::MAX_BOARDS).zip(self.parties.iter_mut()) {
-            *party = settings.set_up(own);
+            match settings.set_up(own) {
+                Some(made) => *party = made,
+                None => *party = nobody,
+            }
         }
     }
 
-    // A call on board b. The messages of an accepted one are handed over; a board that is not set up refuses every call.
+    // A call on board b. The messages of an accepted one are handed over.
     fn call(&mut self, b: u32, call: Call) {
-        let Some(Some(party)) = self.parties.get_mut(b as usize) else {
+        let Some(party) = self.parties.get_mut(b as usize) else {
             return;
         };
         let called = call.make(*party, &mut self.out);

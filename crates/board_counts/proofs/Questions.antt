@@ -63,6 +63,9 @@ module _ (p : Party) {a : Answered} (e : a ≡ answered_of p) where
       go true = refl
       go false = refl
 
+  pub valid_accepted : a.verdict ≡ Verdict.Accepted → true ≡ party_valid p
+  valid_accepted h = sym (ap is_accepted h) ∙ valid_told
+
   pub valid_read : a.verdict ≡ Verdict.Accepted → T (party_valid p)
   valid_read h = true→T (sym valid_told ∙ ap is_accepted h)
 
@@ -87,12 +90,12 @@ module _ (p : Party) (room used out : ℕ) where
           let m : 0 ≡ x.place = cc in
           shut_19 p room used out (refused 25 0) v ∙ told n m
 
-module _ (d : Door) (p : Party) (v : T (party_valid p)) where
+module _ (d : Door) (p : Party) (v : d.valid ≡ party_valid p) where
   pub shut_door : (q : Question) → AtDoor d (Err q) → {r : Refusal} → RefusesAtZero q r → RefusedBy p d.room d.used d.out (Err r)
   shut_door q h z = h p v (refused 25 0) ∙ ap (λ (y : Refusal). refused (number_of y.question) y.place) (sym z)
 
   pub shut_25 : AtDoor d (Ok tt) → {r : Refusal} → RefusesAtZero StepSize r → RefusedBy p d.room d.used d.out (Err r)
-  shut_25 h z = door_yes p d.room d.used d.out (refused 25 0) v h.0 h.1 ∙ ap (λ (y : Refusal). refused (number_of y.question) y.place) (sym z)
+  shut_25 h z = door_yes p d.room d.used d.out (refused 25 0) (true→T (sym v ∙ h.0)) h.1 h.2 ∙ ap (λ (y : Refusal). refused (number_of y.question) y.place) (sym z)
 
 -- the remainder of a start that was asked
 remainder_told : (p : Party) (g : ℕ) (c : ℤ) (used : ℕ) (q : Found Entry) (v : Result (Unit {0}) Refusal) → as_verdict v ≡ (called_of p used q).verdict

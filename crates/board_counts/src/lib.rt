@@ -41,7 +41,13 @@ fn refuse_size(p: Party, room: usize, used: usize, out: usize) -> base::Verdict
     ensures { RefusedBy (as_party p) room used out result }
 {
     let _answer = board_ends::read_answer(p)?;
-    let door = Door { room, used, out };
+    // the reading asked 19
+    let door = Door {
+        valid: true,
+        room,
+        used,
+        out,
+    };
     door.ask()?;
     Err(Question::StepSize.into())
 }

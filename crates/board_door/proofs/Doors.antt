@@ -36,7 +36,8 @@ use Rattle.board_calls.specs.Tie.{as_position}
 use Rattle.board_calls.specs.Results.{CallGives}
 use Rattle.board_laws.proofs.Replays.{outgoing_most}
 use Rattle.board_questions.specs.Inner.{found_by, Recordable, Asks, start_from}
-use Rattle.board_door.specs.Inner.{Carriable}
+use Rattle.board_door.specs.declared.Carried.{Carried}
+use Rattle.board_door.specs.Inner.{Carriable, carried_by}
 
 -- ---- what was found is carried out
 
@@ -81,7 +82,12 @@ shut_call {p} {q} {used} {j} {out} {r} {c} e z i =
     subst (λ (x : Found Entry). CallGives x p used j out c j out) (sym e)
     (record { result = i ∙ ap (λ (x : Refusal). called_of p used (refused (number_of x.question) x.place)) z; journal = refl; outgoing = refl })
 
--- and the call gives what was carried out
+-- the call gives what was carried out, with the party as it is then
+pub call_carried : {p : Party} {q : Found Entry} {used : ℕ} {j out j_end out_end j_then out_then : List ℕ} {c d : Code.Party} {g h : Carried} {r : Called} → r ≡ carried_by (as_party c) g
+    → c ≡ d → g ≡ h → j_end ≡ j_then → out_end ≡ out_then → CallGives q p used j out (carried_by (as_party d) h) j_then out_then → CallGives q p used j out r j_end out_end
+call_carried e i k l m w = record { result = e ∙ (λ z. carried_by (as_party (i z)) (k z)) ∙ w.result; journal = l ∙ w.journal; outgoing = m ∙ w.outgoing }
+
+-- which is what its questions find
 pub call_gives_lem : {p : Party} {q : Found Entry} {room used out_room : ℕ} {a : Result (Option Record) Refusal} {j out jThen out_then : List ℕ} {r : Called}
     → Asks p room used out_room q a → CallGives (found_by p a) p used j out r jThen out_then → CallGives q p used j out r jThen out_then
 call_gives_lem {p} {used = used} {j = j} {out = out} {jThen = jThen} {out_then = out_then} {r = r} h w =

@@ -63,6 +63,10 @@ module _ {p : Party} {room used out : ℕ} {q : Found Entry} where
       → Asks p room used out q (Ok (Some r))
   recorded_asks r v o f e h = record { finds = e ∙ has_room room used r (replayed p r) h; fits = (v, o, f, h) }
 
+-- a party for which the door is open
+opened : (d : Door) → AtDoor d (Ok tt) → (p : Party) → d.valid ≡ party_valid p → T (party_valid p)
+opened d h p e = true→T (sym e ∙ h.0)
+
 -- ---- a start
 
 module _ (d : Door) (agreement : ℕ) (begun : Bool) (x : Option ℕ) {a : Result (Option Record) Refusal} where
@@ -71,23 +75,23 @@ module _ (d : Door) (agreement : ℕ) (begun : Bool) (x : Option ℕ) {a : Resul
 
 module _ (d : Door) (agreement : ℕ) (begun : Bool) (x : Option ℕ) (h : AtDoor d (Ok tt)) where
   pub start_13 : begun ≡ true → {r : Refusal} → RefusesAtZero NotStarted r → AsksStart d agreement begun x (Err r)
-  start_13 b z = record { asks = λ p g s n e. refused_asks NotStarted (start_again p (as_position x) d.room d.used d.out e h.0 h.1 (s ∙ b)) z }
+  start_13 b z = record { asks = λ p g s n e. refused_asks NotStarted (start_again p (as_position x) d.room d.used d.out (opened d h p e) h.1 h.2 (s ∙ b)) z }
 
   module _ (b : begun ≡ false) where
     pub start_12 : x ≡ None → {r : Refusal} → RefusesAtZero OnPlan r → AsksStart d agreement begun x (Err r)
     start_12 k z = record {
-      asks = λ p g s n e. refused_asks OnPlan (start_off p (as_position x) d.room d.used d.out e h.0 h.1 (s ∙ b) (ap as_position k)) z;
+      asks = λ p g s n e. refused_asks OnPlan (start_off p (as_position x) d.room d.used d.out (opened d h p e) h.1 h.2 (s ∙ b) (ap as_position k)) z;
     }
 
     module _ (y : ℕ) (k : x ≡ Some y) where
-      module _ (p : Party) (g : p.agreement ≡ agreement) (s : started p ≡ begun) (n : IfSome x (λ z. z < p.plan.count)) (e : T (party_valid p)) where
+      module _ (p : Party) (g : p.agreement ≡ agreement) (s : started p ≡ begun) (n : IfSome x (λ z. z < p.plan.count)) (e : d.valid ≡ party_valid p) where
         on : y < p.plan.count
         on = subst (λ (z : Option ℕ). IfSome z (λ w. w < p.plan.count)) k n
 
         -- only 17 is left
         left : start_from p x d.room d.used d.out ≡ fitting d.room d.used (Start agreement y) (replayed p (Start agreement y))
         left =
-            start_left p (as_position x) d.room d.used d.out e h.0 h.1 (s ∙ b) (λ i. no_none p e y on (sym (ap as_position k) ∙ i))
+            start_left p (as_position x) d.room d.used d.out (opened d h p e) h.1 h.2 (s ∙ b) (λ i. no_none p (opened d h p e) y on (sym (ap as_position k) ∙ i))
             ∙ ap (λ (r : Record). fitting d.room d.used r (replayed p r)) (λ i. Start (g i) (ap as_position k i))
 
       pub start_17 : (q : Question) → Fitting d (Start agreement y) (Err q) → {a : Result (Option Record) Refusal} → IsErrAnd a (RefusesAtZero q) → AsksStart d agreement begun x a
@@ -96,7 +100,7 @@ module _ (d : Door) (agreement : ℕ) (begun : Bool) (x : Option ℕ) (h : AtDoo
       pub start_found : Fitting d (Start agreement y) (Ok tt) → AsksStart d agreement begun x (Ok (Some (Start agreement y)))
       start_found f = record {
         asks = λ p g s n e.
-            recorded_asks (Start agreement y) e h.0 (fitting_start p agreement y (sym g, false→not-T (s ∙ b), on p g s n e)) (left p g s n e) f;
+            recorded_asks (Start agreement y) (opened d h p e) h.1 (fitting_start p agreement y (sym g, false→not-T (s ∙ b), on p g s n e)) (left p g s n e) f;
       }
 
 -- ---- a take
@@ -111,7 +115,7 @@ module _ (d : Door) (v : Vote) (sets : List ℕ) (s : ℕ) (bytes : List ℕ) wh
     pub take_14 : v.n ≤ s → {r : Refusal} → RefusesAtZero Sender r → AsksTake d v sets s bytes (Err r)
     take_14 l z = record {
       asks = λ plan ls w e.
-          refused_asks Sender (take_sender (party_in v plan ls sets) s bytes d.room d.used d.out e h.0 h.1 l) z;
+          refused_asks Sender (take_sender (party_in v plan ls sets) s bytes d.room d.used d.out (opened d h (party_in v plan ls sets) e) h.1 h.2 l) z;
     }
 
     module _ (l : s < v.n) where
@@ -120,7 +124,7 @@ module _ (d : Door) (v : Vote) (sets : List ℕ) (s : ℕ) (bytes : List ℕ) wh
         asks = λ plan ls w e.
             let n : refusal_number x.fault ≡ number_of r.question = cc in
             let at : x.at ≡ r.place = cc in record {
-              finds = take_broken (party_in v plan ls sets) s bytes d.room d.used d.out e h.0 h.1 l x.fault x.at i ∙ (λ z. refused (n z) (at z));
+              finds = take_broken (party_in v plan ls sets) s bytes d.room d.used d.out (opened d h (party_in v plan ls sets) e) h.1 h.2 l x.fault x.at i ∙ (λ z. refused (n z) (at z));
               fits = tt;
             };
       }
@@ -129,7 +133,7 @@ module _ (d : Door) (v : Vote) (sets : List ℕ) (s : ℕ) (bytes : List ℕ) wh
         pub take_16 : (m.number ≡ v.agreement → ⊥) → {r : Refusal} → RefusesAtZero Agreement r → AsksTake d v sets s bytes (Err r)
         take_16 k z = record {
           asks = λ plan ls w e.
-              refused_asks Agreement (take_number (party_in v plan ls sets) s bytes d.room d.used d.out e h.0 h.1 l m i k) z;
+              refused_asks Agreement (take_number (party_in v plan ls sets) s bytes d.room d.used d.out (opened d h (party_in v plan ls sets) e) h.1 h.2 l m i k) z;
         }
 
         module _ (o : m.number ≡ v.agreement) (t : in_table m ≡ true) {k : ℕ} (f : k ≡ slot_count * m.level + slot m.body) {b : Bool} (j : b ≡ is_in (get_or sets k 0) s) where
@@ -141,17 +145,17 @@ module _ (d : Door) (v : Vote) (sets : List ℕ) (s : ℕ) (bytes : List ℕ) wh
           pub take_again : b ≡ true → AsksTake d v sets s bytes (Ok None)
           take_again g = record {
             asks = λ plan ls w e. record {
-              finds = take_held (party_in v plan ls sets) s bytes d.room d.used d.out e h.0 h.1 l m i o (held plan ls w ∙ g);
+              finds = take_held (party_in v plan ls sets) s bytes d.room d.used d.out (opened d h (party_in v plan ls sets) e) h.1 h.2 l m i o (held plan ls w ∙ g);
               fits = tt;
             };
           }
 
           module _ (g : b ≡ false) where
             -- only 17 is left
-            left_new : (plan : Plan) (ls : List CodeLevel.Level) → length ls ≡ level_count → T (party_valid (party_in v plan ls sets))
+            left_new : (plan : Plan) (ls : List CodeLevel.Level) → length ls ≡ level_count → d.valid ≡ party_valid (party_in v plan ls sets)
                 → take_questions (party_in v plan ls sets) s bytes d.room d.used d.out ≡ fitting d.room d.used (Taken s m) (replayed (party_in v plan ls sets) (Taken s m))
             left_new plan ls w e =
-                take_left (party_in v plan ls sets) s bytes d.room d.used d.out e h.0 h.1 l m i o (held plan ls w ∙ g)
+                take_left (party_in v plan ls sets) s bytes d.room d.used d.out (opened d h (party_in v plan ls sets) e) h.1 h.2 l m i o (held plan ls w ∙ g)
 
             pub take_17 : (q : Question) → Fitting d (Taken s m) (Err q) → {a : Result (Option Record) Refusal} → IsErrAnd a (RefusesAtZero q) → AsksTake d v sets s bytes a
             take_17 q n z = record { asks = λ plan ls w e. passed_on q (left_new plan ls w e ∙ n (replayed (party_in v plan ls sets) (Taken s m))) z }
@@ -159,7 +163,7 @@ module _ (d : Door) (v : Vote) (sets : List ℕ) (s : ℕ) (bytes : List ℕ) wh
             pub take_found : Fitting d (Taken s m) (Ok tt) → AsksTake d v sets s bytes (Ok (Some (Taken s m)))
             take_found n = record {
               asks = λ plan ls w e.
-                  recorded_asks (Taken s m) e h.0 (fitting_taken (party_in v plan ls sets) s m (o, l, true→T t)) (left_new plan ls w e) n;
+                  recorded_asks (Taken s m) (opened d h (party_in v plan ls sets) e) h.1 (fitting_taken (party_in v plan ls sets) s m (o, l, true→T t)) (left_new plan ls w e) n;
             }
 
 -- the set of senders of a message of the table is one of the party's

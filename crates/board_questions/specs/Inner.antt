@@ -1,5 +1,5 @@
 -- What asking the questions of a start or take promises the calls.
-use Rattle.std.specs.Prelude.{◌≡◌, Bool, List, ℕ, ◌+◌, ◌≤◌, ◌<◌, T, length, Option, Some, None, IfSome, Result, Ok, Err}
+use Rattle.std.specs.Prelude.{◌≡◌, Bool, true, List, ℕ, ◌+◌, ◌≤◌, ◌<◌, T, length, Option, Some, None, IfSome, Result, Ok, Err}
 use Rattle.base.specs.Limits.{level_count, outgoing_size}
 use Rattle.base.specs.Found.{Found, found, refused}
 use Rattle.base.specs.Question.{number_of}
@@ -19,10 +19,10 @@ use Rattle.board_calls.specs.Calls.{Entry, again, fresh, at_door, fitting, start
 use Rattle.board_calls.specs.Tie.{as_position}
 use Rattle.board_questions.specs.declared.Door.{Door}
 
--- questions 18 and 20 of a party that passes 19: both pass, or the first that fails
+-- questions 19, 18 and 20, where 19 passes or not: all pass, or the first that fails
 abbrev pub AtDoor : Door → Result (Unit {0}) Question → Type 0
-AtDoor d (Ok u) = (outgoing_size ≤ d.out) × (d.used ≤ d.room)
-AtDoor d (Err q) = (p : Party) → T (party_valid p) → (go : Found Entry) → at_door p d.room d.used d.out go ≡ refused (number_of q) 0
+AtDoor d (Ok u) = (d.valid ≡ true) × (outgoing_size ≤ d.out) × (d.used ≤ d.room)
+AtDoor d (Err q) = (p : Party) → d.valid ≡ party_valid p → (go : Found Entry) → at_door p d.room d.used d.out go ≡ refused (number_of q) 0
 
 -- question 17
 abbrev pub Fitting : Door → Record → Result (Unit {0}) Question → Type 0
@@ -50,12 +50,12 @@ pub record Asks (p : Party) (room used out : ℕ) (q : Found Entry) (a : Result 
 abbrev pub start_from : Party → Option ℕ → ℕ → ℕ → ℕ → Found Entry
 start_from p x room used out = at_door p room used out (start_at p (as_position x) room used)
 
--- of every party with this agreement number that has started or not and passes 19
+-- of every party with this agreement number that has started or not, and passes 19 or not as the door says
 pub record AsksStart (d : Door) (agreement : ℕ) (begun : Bool) (x : Option ℕ) (a : Result (Option Record) Refusal) : Type 0 where
-  pub asks : (p : Party) → p.agreement ≡ agreement → started p ≡ begun → IfSome x (λ y. y < p.plan.count) → T (party_valid p)
+  pub asks : (p : Party) → p.agreement ≡ agreement → started p ≡ begun → IfSome x (λ y. y < p.plan.count) → d.valid ≡ party_valid p
       → Asks p d.room d.used d.out (start_from p x d.room d.used d.out) a
 
--- the questions of a take, of every party with these parts that passes 19
+-- the questions of a take, of every party with these parts that passes 19 or not as the door says
 pub record AsksTake (d : Door) (v : Vote) (sets : List ℕ) (sender : ℕ) (bytes : List ℕ) (a : Result (Option Record) Refusal) : Type 0 where
-  pub asks : (plan : Plan) (levels : List CodeLevel.Level) → length levels ≡ level_count → T (party_valid (party_in v plan levels sets))
+  pub asks : (plan : Plan) (levels : List CodeLevel.Level) → length levels ≡ level_count → d.valid ≡ party_valid (party_in v plan levels sets)
       → Asks (party_in v plan levels sets) d.room d.used d.out (take_questions (party_in v plan levels sets) sender bytes d.room d.used d.out) a

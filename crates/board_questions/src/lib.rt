@@ -1,26 +1,32 @@
 // The questions of a start and a take: what they find, and the record to write.
 #![tactic(auto)]
 
-ghost use Rattle.std.specs.Prelude.{◌≤◌};
+ghost use Rattle.std.specs.Prelude.{◌≡◌, true, ◌≤◌};
 ghost use Rattle.base.specs.Limits.{max_boards};
 ghost use Rattle.board_questions.specs.Inner.{AtDoor, Fitting, AsksStart, AsksTake};
 
 use base::{Question, Refusal};
 use journal::Record;
 
-// What a call on a party that passes 19 is lent: the lengths of the journal, of its used part and of the outgoing buffer.
+// What a call is asked at the door: whether the party's record passes 19, which was found before, and the lengths of the lent journal, of its used part and of
+// the outgoing buffer.
 #[derive(Clone, Copy)]
 pub struct Door {
+    pub valid: bool,
     pub room: usize,
     pub used: usize,
     pub out: usize,
 }
 
 impl Door {
-    // "Start, take, restore: Has the outgoing buffer 2,640 bytes (15 × 22 × 8)? 18. Start, take: Is the used length within the lent journal? 20."
+    // "Every call on a party: .. 19. Start, take, restore: Has the outgoing buffer 2,640 bytes (15 × 22 × 8)? 18. Start, take: Is the used length within the
+    // lent journal? 20."
     pub fn ask(self) -> Result<(), Question>
         ensures { AtDoor self result }
     {
+        if !self.valid {
+            return Err(Question::PartyRecord);
+        }
         if self.out < level_limits::OUTGOING {
             return Err(Question::OutgoingRoom);
         }
@@ -75,7 +81,7 @@ pub fn ask_take(
     sender: u32,
     bytes: &[u8],
 ) -> Result<Option<Record>, Refusal>
-    requires { v.n ≤ max_boards }
+    requires { door.valid ≡ true → v.n ≤ max_boards }
     ensures { AsksTake door v sets.now sender bytes.now result }
 {
     door.ask()?;

@@ -14,7 +14,7 @@ struct Begun {
 }
 
 // How many lines and drawings there are, and the drawing that is being read, with its edges.
-#[derive(Drop)]
+#[derive(Clone, Copy)]
 pub struct Sheet {
     lines: u64,
     drawings: u64,

@@ -106,6 +106,13 @@ impl EdgeList {
     {
         self.vertices
     }
+
+    // How many edges.
+    pub fn len(&self) -> usize
+        ensures { result ≡ length self.now.edges }
+    {
+        self.count
+    }
 }
 
 // One more edge at a and at b.

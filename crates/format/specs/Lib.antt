@@ -1,3 +1,4 @@
 pub mod Format
+pub mod Results
 pub mod Reading
 pub mod Statement

@@ -1,23 +1,12 @@
 -- Reading by a format, left to right: the first field that fails decides, and its first byte is the place.
-use Rattle.std.specs.Prelude.{List, ℕ, ltb, Result, Ok, Err}
+use Rattle.std.specs.Prelude.{List, ℕ, ltb, Ok, Err}
 use Rattle.base.specs.Pick.{pick}
-use Rattle.varint.specs.declared.Parsed.{Parsed}
 use Rattle.varint.specs.declared.VarintError.{VarintError}
 use Rattle.varint.specs.declared.VarintError.TheVariants.{Short, Malformed}
 use Rattle.varint.specs.Reading.{VarintRead, varint_at}
 use Rattle.format.specs.declared.Fault.{Fault}
-use Rattle.format.specs.declared.Failure.{Failure}
 use Rattle.format.specs.Format.{Format, says, field}
-
--- what is read: what the fields say and the place past them, or the fault and its place
-abbrev pub Read : Type 0 → Type 0
-Read A = Result (Parsed A) Failure
-
-abbrev pub whole : {A : Type 0} → A → ℕ → Read A
-whole a next = Ok (record { value = a; next = next })
-
-abbrev pub failed : {A : Type 0} → Fault → ℕ → Read A
-failed fault at = Err (record { fault = fault; at = at })
+pub use Rattle.format.specs.Results.{Read, whole, failed}
 
 -- Document 02, Q-2: "The reading of a single group must say whether the bytes ended or the group was malformed": a field is that reading, held to its limits.
 abbrev pub fault_of : ℕ → VarintError → Fault

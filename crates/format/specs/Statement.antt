@@ -5,7 +5,8 @@ use Rattle.varint.specs.Varint.{AllBytes, piece_size, varint_bytes}
 use Rattle.varint.specs.Statement.{BytesAt, Beginning}
 use Rattle.format.specs.declared.Fault.{Fault}
 use Rattle.format.specs.Format.{Format, says, field, Spells}
-use Rattle.format.specs.Reading.{whole, failed, read_at}
+use Rattle.format.specs.Results.{whole, failed}
+use Rattle.format.specs.Reading.{read_at}
 
 -- of every field that is reached the least value has one byte and is not above the largest, which a varint holds
 abbrev pub Sensible : {A : Type 0} → Format A → Type 0

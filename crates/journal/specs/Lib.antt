@@ -1,5 +1,6 @@
 pub mod Journal
 pub mod Records
 pub mod Format
+pub mod Results
 pub mod Reading
 pub mod Statement

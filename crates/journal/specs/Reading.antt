@@ -1,6 +1,5 @@
 -- Reading a record by its format, and the records of given bytes. `Reads` (Statement.antt) says what is found, so that nobody needs to believe these definitions.
-use Rattle.std.specs.Prelude.{◌≡◌, List, [], ◌∷◌, ℕ, zero, suc, length, Result, Ok, Err}
-use Rattle.varint.specs.declared.Parsed.{Parsed}
+use Rattle.std.specs.Prelude.{◌≡◌, List, [], ◌∷◌, ℕ, zero, suc, length, Ok, Err}
 use Rattle.format.specs.declared.Fault.{Fault}
 use Rattle.format.specs.declared.Failure.{Failure}
 use Rattle.format.specs.Reading.{Read, read_at}
@@ -8,6 +7,7 @@ use Rattle.journal.specs.declared.Record.{Record}
 use Rattle.journal.specs.declared.RecordError.{RecordError}
 use Rattle.journal.specs.declared.RecordError.TheVariants.{Torn, Bad}
 use Rattle.journal.specs.Format.{record_format}
+pub use Rattle.journal.specs.Results.{RecordRead, whole_record}
 
 -- "A torn last record, one that only further bytes could make whole": the fault decides, and not a refusal's number
 abbrev pub fails_as : Fault → RecordError
@@ -20,10 +20,6 @@ fails_as Fault.Spare = Bad
 abbrev pub FailsAs : Failure → RecordError → Type 0
 FailsAs x e = e ≡ fails_as x.fault
 
--- what reading a record finds: it and the place past it, or why there is none
-abbrev pub RecordRead : Type 0
-RecordRead = Result (Parsed Record) RecordError
-
 -- what the format finds, as the reader answers it
 abbrev pub as_read : Read Record → RecordRead
 as_read (Ok r) = Ok r
@@ -32,10 +28,6 @@ as_read (Err x) = Err (fails_as x.fault)
 -- the record that stands at `at`
 unfoldable pub record_at : List ℕ → ℕ → RecordRead
 record_at s at = as_read (read_at record_format s at)
-
--- read: the record, and the place past it
-abbrev pub whole_record : Record → ℕ → RecordRead
-whole_record r next = Ok (record { value = r; next = next })
 
 abbrev pub with_record : RecordRead → List Record → (Record → ℕ → List Record) → List Record
 with_record (Ok r) rs more = more r.value r.next

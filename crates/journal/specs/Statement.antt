@@ -6,7 +6,8 @@ use Rattle.journal.specs.declared.Record.{Record}
 use Rattle.journal.specs.declared.RecordError.TheVariants.{Torn, Bad}
 use Rattle.journal.specs.Journal.{record_bytes}
 use Rattle.journal.specs.Records.{InLimits, AllInLimits, ProperBeginning, journal_bytes}
-use Rattle.journal.specs.Reading.{whole_record, record_at, records_in}
+use Rattle.journal.specs.Results.{whole_record}
+use Rattle.journal.specs.Reading.{record_at, records_in}
 
 -- The bytes j begin with the records rs, and what stands after them is torn, which nothing at all is too, or bad.
 pub record Begins (j : List ℕ) (rs : List Record) : Type 0 where

@@ -4,7 +4,7 @@
 ghost use Rattle.std.specs.Prelude.{◌≡◌, ◌+◌, ◌-◌, ◌*◌, ◌≤◌, ◌<◌};
 ghost use Rattle.base.specs.Limits.{max_degree, max_boards};
 ghost use Rattle.base.specs.Sets.{count};
-ghost use Rattle.level_counts.specs.Places.{second_proposals};
+ghost use Rattle.level_counts.specs.Places.{second_proposals, slot_count};
 ghost use Rattle.level_counts.specs.Inner.{places_of};
 ghost use Rattle.level_counts.specs.Choice.{reached, first_value, first_candidate};
 
@@ -116,7 +116,7 @@ impl Counting {
 
     // The smallest of the values 0 to d that has k senders, the sets of these values being those from `from` on. (`find` was tried and did not prove.)
     pub fn first_value(self, heard: &Heard, from: usize, k: u32) -> Option<u8>
-        requires { from ≤ second_proposals }
+        requires { from + self.degree < slot_count }
         ensures { result ≡ first_value self.degree (reached heard.now from k) }
     {
         for v in 0..=self.degree {
@@ -129,7 +129,7 @@ impl Counting {
 
     // How many of the values 0 to d have k senders.
     pub fn count_values(self, heard: &Heard, from: usize, k: u32) -> usize
-        requires { from ≤ second_proposals }
+        requires { from + self.degree < slot_count }
         ensures { result ≡ count (self.degree + 1) (reached heard.now from k) }
     {
         let degree = usize::from(self.degree);

@@ -10,13 +10,14 @@ use lib.Dec.{T, eqb, eqb→eq}
 use lib.ListN.{length, get_or, set, take, replicate, length-replicate, get_or-replicate, get_or-eq_default}
 use lib.Seq.{get_or-set_same, get_or-set_other}
 use borrow.Author.Tests.{eq-eqb, ne_eqb, lt-ltb, le-ltb}
-use Rattle.std.specs.Prelude.{count_by, position, unwrap_or}
+use Rattle.std.specs.Prelude.{position, unwrap_or}
 use Rattle.std.specs.List.{position_or_len}
 use Rattle.std.proofs.lemmas.List.{length-take-le, get_or-take}
-use Rattle.std.proofs.lemmas.List.Sums.{count_by_more_yes, count_by_more_no, prefix_len_is, prefix_len-le-length}
+use Rattle.std.proofs.lemmas.List.Sums.{prefix_len_is, prefix_len-le-length}
 use Rattle.base.specs.Pick.{smallest}
 use Rattle.base.specs.Sets.{bit, count}
 use Rattle.base.proofs.Bools.{T→true, not-T→false}
+use Rattle.base.proofs.Counts.{count_le}
 use Rattle.base.proofs.Smallest.{Sought, sought}
 use Rattle.marks.specs.Marks.{marked, numbered}
 
@@ -80,15 +81,22 @@ module _ (l : List ℕ) (x : ℕ) (m : get_or l x 0 ≤ 1) where
 
 -- ---- marks counted and searched
 
--- as many of the first n elements are 1 as positions below n are marked
-pub count_marks : (m : List ℕ) (n : ℕ) → n ≤ length m → count_by (λ (x : ℕ). eqb x 1) (take n m) ≡ count n (marked m)
+bit_le : (b : Bool) → bit b ≤ 1
+bit_le true = omega arith
+bit_le false = omega arith
+
+pub count_start : (m : List ℕ) → 0 ≡ count 0 (marked m)
+unfolding count
+count_start m = refl
+
+-- r marks before x and one there if b
+pub count_step : (m : List ℕ) (x r b : ℕ) → r ≡ count x (marked m) → b ≡ bit (eqb (get_or m x 0) 1) → r + b ≡ count (x + 1) (marked m)
 unfolding count marked
-count_marks m zero l = refl
-count_marks m (suc n) l = go (eqb (get_or m n 0) 1) refl (count_marks m n (omega arith))
-  where
-    go : (b : Bool) → eqb (get_or m n 0) 1 ≡ b → count_by (λ (x : ℕ). eqb x 1) (take n m) ≡ count n (marked m) → count_by (λ (x : ℕ). eqb x 1) (take (suc n) m) ≡ bit b + count n (marked m)
-    go true e h = let k = rw add-one at (count_by_more_yes (λ (x : ℕ). eqb x 1) m n 0 l e) in omega arith
-    go false e h = let k = rw add-one at (count_by_more_no (λ (x : ℕ). eqb x 1) m n 0 l e) in omega arith
+count_step m x r b e i = rw (add-one x) (omega arith)
+
+-- so few that they fit
+pub count_few : (m : List ℕ) (x r b : ℕ) → r ≡ count x (marked m) → b ≡ bit (eqb (get_or m x 0) 1) → r + b ≤ x + 1
+count_few m x r b e i = omega (arith, count_le x (marked m), bit_le (eqb (get_or m x 0) 1))
 
 -- the place that `position` gives, or the length
 position_is : (p : ℕ → Bool) (xs : List ℕ) (n : ℕ) → length xs ≡ n → unwrap_or (position p xs) n ≡ position_or_len p xs

@@ -16,12 +16,16 @@ pub fn has_number(m: &[u8], x: usize) -> bool
     x < m.len() && m[x] != 0
 }
 
-// How many of the first n positions are members.
+// How many of the first n positions are members. They are counted in a byte.
 pub fn count(m: &[u8], n: usize) -> usize
     requires { (n ≤ length m.now) × (n ≤ max_vertices) }
     ensures { result ≡ count n (marked m.now) }
 {
-    m[..n].iter().filter(|&&mark| mark == 1).count()
+    let mut r: u8 = 0;
+    for x in 0..n {
+        r += u8::from(m[x] == 1);
+    }
+    usize::from(r)
 }
 
 // The smallest member, or n where there is none below n, as `smallest` gives it: component, which asks, knows that there is one.

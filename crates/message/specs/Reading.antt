@@ -1,22 +1,15 @@
 -- Reading a message by its format. `Reads` and `Refuses` (Statement.antt) say what is found; the calls and demand 3 need no more.
-use Rattle.std.specs.Prelude.{List, ℕ, eqb, length, Result, Ok, Err}
+use Rattle.std.specs.Prelude.{List, ℕ, eqb, length, Ok, Err}
 use Rattle.base.specs.Pick.{pick}
 use Rattle.format.specs.declared.Fault.{Fault}
-use Rattle.format.specs.declared.Failure.{Failure}
 use Rattle.format.specs.Reading.{Read, read_at}
 use Rattle.message.specs.declared.Message.{Message}
 use Rattle.message.specs.Format.{message_format}
+pub use Rattle.message.specs.Results.{Exactly, broken}
 
 -- the message that stands at `at`
 unfoldable pub message_at : List ℕ → ℕ → Read Message
 message_at s at = read_at message_format s at
-
--- bytes as exactly one message, or what is wrong with them, and where
-abbrev pub Exactly : Type 0
-Exactly = Result Message Failure
-
-abbrev pub broken : Fault → ℕ → Exactly
-broken fault at = Err (record { fault = fault; at = at })
 
 -- "Bytes exactly one message?" Document 02, Q-2: "for 24 the first spare byte"
 abbrev pub exactly : List ℕ → Read Message → Exactly

@@ -3,12 +3,13 @@ use Rattle.std.specs.Prelude.{◌≡◌, List, ◌++◌, ℕ, ◌+◌, ◌<◌, 
 use Rattle.varint.specs.Varint.{AllBytes}
 use Rattle.varint.specs.Statement.{BytesAt, Beginning}
 use Rattle.format.specs.declared.Fault.{Fault}
-use Rattle.format.specs.Reading.{whole, failed}
+use Rattle.format.specs.Results.{whole, failed}
 use Rattle.format.specs.Statement.{Fails}
 use Rattle.message.specs.declared.Message.{Message}
 use Rattle.message.specs.Message.{InLimits, message_bytes}
 use Rattle.message.specs.Format.{message_format}
-use Rattle.message.specs.Reading.{broken, message_at, exact_message}
+use Rattle.message.specs.Results.{broken}
+use Rattle.message.specs.Reading.{message_at, exact_message}
 
 pub record Reads : Type 0 where
   -- "Groups: agreement number, level (0 to 14), kind, value": such a message is read back wherever it stands

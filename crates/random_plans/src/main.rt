@@ -38,23 +38,23 @@ fn try_plan(bytes: &[u8], tally: &mut Tally) {
 }
 
 // A run of plans from a seed.
-fn run(rt: &(impl Print + AllocGlobal), seed: usize) -> io::Result<()> {
-    let mut drawing = Drawing::new(rt.alloc(), seed);
+fn run(rt: &impl Print, seed: usize) -> io::Result<()> {
+    let mut drawing = Drawing::new(seed);
     let mut tally = Tally::new();
     println!(rt; "seed {seed}")?;
     for _ in 0..PLANS {
-        try_plan(drawing.plan()?.as_slice(), &mut tally);
+        try_plan(drawing.plan().as_slice(), &mut tally);
     }
     report::write(rt, &tally)
 }
 
 // A run of plans of a kind that pass.
-fn run_passing(rt: &(impl Print + AllocGlobal), kind: PlanKind, name: &str) -> io::Result<()> {
-    let mut drawing = Drawing::new(rt.alloc(), SEED);
+fn run_passing(rt: &impl Print, kind: PlanKind, name: &str) -> io::Result<()> {
+    let mut drawing = Drawing::new(SEED);
     let mut tally = Tally::new();
     println!(rt; "seed {SEED}")?;
     for _ in 0..PASSING {
-        try_plan(drawing.passing_plan(kind)?.as_slice(), &mut tally);
+        try_plan(drawing.passing_plan(kind).as_slice(), &mut tally);
     }
     report::write_passing(rt, &tally, name)
 }

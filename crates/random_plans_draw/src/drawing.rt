@@ -1,26 +1,29 @@
 // What is drawn: the pseudo-random numbers, and the tree or forest of the plan.
 use random_numbers::Random;
 use second_plan::table::Edge;
-use std::alloc::{AllocError, Global};
+use second_wire::list::List;
+
+// How many edges and how many names there is room for.
+const ROOM: usize = 512;
 
 // The numbers; the last tree or forest drawn: how many vertices, which are drawn as 0, 1 and so on, its
 // edges, and the vertices' names, which are their numbers in the plan.
-#[derive(Drop)]
+#[derive(Clone, Copy)]
 pub struct Drawing {
     pub random: Random,
     pub vertices: usize,
-    pub edges: Vec<Edge>,
-    pub names: Vec<usize>,
+    pub edges: List<Edge, ROOM>,
+    pub names: List<usize, ROOM>,
 }
 
 impl Drawing {
     // Nothing drawn yet.
-    pub fn new(alloc: Global, seed: usize) -> Drawing {
+    pub fn new(seed: usize) -> Drawing {
         Drawing {
             random: Random::new(seed),
             vertices: 0,
-            edges: Vec::new(alloc),
-            names: Vec::new(alloc),
+            edges: List::new(),
+            names: List::new(),
         }
     }
 
@@ -30,10 +33,9 @@ impl Drawing {
         self.edges.clear();
     }
 
-    // One more edge, after the others.
-    pub fn add(&mut self, a: usize, b: usize) -> Result<(), AllocError> {
-        self.edges.push(Edge { a, b })?;
-        Ok(())
+    // One more edge, after the others, if there is room for it.
+    pub fn add(&mut self, a: usize, b: usize) {
+        self.edges.push(Edge { a, b });
     }
 
     // Any of the edges, if there are any.

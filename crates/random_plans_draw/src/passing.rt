@@ -5,7 +5,6 @@ use crate::{plans, shape, write};
 use random_numbers::Random;
 use second_plan::table::PlanKind;
 use second_wire::room::Room;
-use std::alloc::AllocError;
 
 // How many vertices: any number, few more often than many.
 fn vertices(random: &mut Random) -> usize {
@@ -23,11 +22,11 @@ fn any_shape(random: &mut Random) -> Shape {
 }
 
 // A tree.
-fn tree(d: &mut Drawing) -> Result<Room, AllocError> {
+fn tree(d: &mut Drawing) -> Room {
     let count = vertices(&mut d.random);
     d.begin(count);
     let drawn = any_shape(&mut d.random);
-    shape::grow(d, drawn, Parts::None)?;
+    shape::grow(d, drawn, Parts::None);
     plans::spell(d)
 }
 
@@ -59,10 +58,10 @@ fn range(random: &mut Random) -> Room {
 
 impl Drawing {
     // A plan of a kind that passes.
-    pub fn passing_plan(&mut self, kind: PlanKind) -> Result<Room, AllocError> {
+    pub fn passing_plan(&mut self, kind: PlanKind) -> Room {
         match kind {
             PlanKind::Tree => tree(self),
-            PlanKind::Range => Ok(range(&mut self.random)),
+            PlanKind::Range => range(&mut self.random),
         }
     }
 }

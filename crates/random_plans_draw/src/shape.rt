@@ -2,7 +2,6 @@
 use crate::drawing::Drawing;
 use random_numbers::Random;
 use second_plan::table::Edge;
-use std::alloc::AllocError;
 
 // A path; each vertex joined near to the one before; any tree; two at each; fifteen edges at each; a
 // star; a broom, whose last vertex but fifteen has all that follow.
@@ -82,57 +81,56 @@ fn is_first(d: &mut Drawing, parts: Parts, k: usize) -> bool {
 }
 
 // Joins vertex k, unless it begins a part.
-fn join(d: &mut Drawing, shape: Shape, parts: Parts, k: usize) -> Result<(), AllocError> {
+fn join(d: &mut Drawing, shape: Shape, parts: Parts, k: usize) {
     let is_first = is_first(d, parts, k);
     let to = parent(d, shape, k);
-    if is_first { Ok(()) } else { d.add(to, k) }
+    if !is_first {
+        d.add(to, k);
+    }
 }
 
 // A tree or a forest.
-pub fn grow(d: &mut Drawing, shape: Shape, parts: Parts) -> Result<(), AllocError> {
+pub fn grow(d: &mut Drawing, shape: Shape, parts: Parts) {
     for k in 1..d.vertices {
-        join(d, shape, parts, k)?;
+        join(d, shape, parts, k);
     }
-    Ok(())
 }
 
 // An edge that is there is given again, if there is one.
-fn add_again(d: &mut Drawing) -> Result<(), AllocError> {
-    match d.any_edge() {
-        Some(Edge { a, b }) => d.add(a, b),
-        None => Ok(()),
+fn add_again(d: &mut Drawing) {
+    if let Some(Edge { a, b }) = d.any_edge() {
+        d.add(a, b);
     }
 }
 
 // An edge of any two vertices, seldom the same.
-fn add_any(d: &mut Drawing) -> Result<(), AllocError> {
+fn add_any(d: &mut Drawing) {
     let one = d.random.below(d.vertices);
     let two = d.random.below(d.vertices);
-    d.add(one, two)
+    d.add(one, two);
 }
 
 // An edge between vertices drawn soon after each other.
-fn add_near(d: &mut Drawing) -> Result<(), AllocError> {
+fn add_near(d: &mut Drawing) {
     let one = d.random.below(d.vertices);
     let back = d.random.below(12).saturating_add(1);
-    d.add(one, one.saturating_sub(back))
+    d.add(one, one.saturating_sub(back));
 }
 
 // An edge of the first and of one of the last two vertices.
-pub fn add_closing(d: &mut Drawing) -> Result<(), AllocError> {
+pub fn add_closing(d: &mut Drawing) {
     let back = d.random.below(2).saturating_add(1);
-    d.add(0, d.vertices.saturating_sub(back))
+    d.add(0, d.vertices.saturating_sub(back));
 }
 
 // So many further edges.
-pub fn add_some(d: &mut Drawing, count: usize) -> Result<(), AllocError> {
+pub fn add_some(d: &mut Drawing, count: usize) {
     for _ in 0..count {
         match d.random.below(5) {
-            0 => add_again(d)?,
-            1 => add_near(d)?,
-            2 => add_closing(d)?,
-            _ => add_any(d)?,
+            0 => add_again(d),
+            1 => add_near(d),
+            2 => add_closing(d),
+            _ => add_any(d),
         }
     }
-    Ok(())
 }

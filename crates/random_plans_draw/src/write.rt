@@ -10,7 +10,7 @@ pub fn tree(d: &Drawing) -> Room {
     let mut room = Room::new();
     group::write(&mut room, PlanKind::Tree.number());
     group::write(&mut room, d.vertices);
-    for edge in &d.edges {
+    for edge in d.edges.as_slice() {
         group::write(&mut room, d.name(edge.a));
         group::write(&mut room, d.name(edge.b));
     }
@@ -51,7 +51,7 @@ pub fn any(random: &mut Random) -> Room {
 
 // A byte becomes another, if it is there.
 fn replace(room: &mut Room, at: usize, value: usize) {
-    if let Some(cell) = room.get_mut(at) {
+    if let Some(cell) = room.as_mut_slice().get_mut(at) {
         *cell = byte(value);
     }
 }

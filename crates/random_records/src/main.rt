@@ -18,7 +18,6 @@ use random_records_draw::{lead, plans};
 use random_report::count;
 use second::Settings;
 use second_plan::table::Table;
-use std::alloc::AllocError;
 use std::io;
 use tally::Tally;
 use trial::Run;
@@ -42,17 +41,11 @@ impl Run {
     }
 
     // The next call of the vote; the messages made are kept.
-    fn step(
-        &mut self,
-        p: Party,
-        t: &mut Table,
-        i: usize,
-        both: &mut Both,
-    ) -> Result<Party, AllocError> {
+    fn step(&mut self, p: Party, t: &mut Table, i: usize, both: &mut Both) -> Party {
         let call = lead::draw_call(&mut self.vote, t, i);
         let (next, outcome) = self.call(p, t, Ok(()), &call, both);
-        lead::keep_sent(&mut self.vote, part(&both.first.out, 0, outcome.sent))?;
-        Ok(next)
+        lead::keep_sent(&mut self.vote, part(&both.first.out, 0, outcome.sent));
+        next
     }
 
     // Now and then the record is compared as a whole, changed and tried.
@@ -65,50 +58,46 @@ impl Run {
     }
 
     // One vote from a party before its start, on a table of its own.
-    fn lead(&mut self, p: Party, t: &mut Table, both: &mut Both) -> Result<(), AllocError> {
+    fn lead(&mut self, p: Party, t: &mut Table, both: &mut Both) {
         let mut p = p;
         for i in 0..self.vote.steps {
-            p = self.step(p, t, i, both)?;
+            p = self.step(p, t, i, both);
             self.look(&p, t, both);
         }
         count(&mut self.tally.votes);
-        Ok(())
     }
 
     // One vote; that both accept its settings and its plan is compared.
-    fn vote(&mut self, plan: &[u8], both: &mut Both) -> Result<(), AllocError> {
+    fn vote(&mut self, plan: &[u8], both: &mut Both) {
         let s = self.settings();
         let mut t = Table::new();
         let second = second::set_up(&mut t, &s, plan);
         match board::set_up(s.boards, s.faults, s.own, s.number, plan) {
             Ok(p) if second.is_ok() => self.lead(p, &mut t, both),
-            _ => {
-                self.tally.compare(false);
-                Ok(())
-            }
+            _ => self.tally.compare(false),
         }
     }
 
     // A vote is drawn and run, after a set-up and a restore that may be refused.
-    fn run_one(&mut self, both: &mut Both) -> Result<(), AllocError> {
+    fn run_one(&mut self, both: &mut Both) {
         lead::draw_settings(&mut self.vote);
         let plan = plans::draw(&mut self.vote);
         let spoilt = self.spoilt(plan.as_slice());
         self.set_up(&spoilt, both);
         self.restore(&spoilt, both);
-        self.vote(plan.as_slice(), both)
+        self.vote(plan.as_slice(), both);
     }
 }
 
 // A run of votes from a seed.
-fn run(rt: &(impl Print + AllocGlobal), seed: usize, both: &mut Both) -> io::Result<()> {
+fn run(rt: &impl Print, seed: usize, both: &mut Both) -> io::Result<()> {
     let mut run = Run {
-        vote: Vote::new(rt.alloc(), seed),
+        vote: Vote::new(seed),
         tally: Tally::new(),
     };
     println!(rt; "seed {seed}")?;
     for _ in 0..VOTES {
-        run.run_one(both)?;
+        run.run_one(both);
     }
     report::write(rt, &run.tally)
 }

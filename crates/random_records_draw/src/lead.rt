@@ -8,10 +8,6 @@ use second_wire::reader::Reader;
 use second_wire::room::OUTGOING;
 use second_wire::wire;
 use second_wire::wire::{Kind, Message};
-use std::alloc::AllocError;
-
-// The most messages of the board that are kept.
-const MADE: usize = 500;
 
 // How many boards: four, few, or any number.
 fn boards(random: &mut Random) -> usize {
@@ -166,15 +162,14 @@ pub fn draw_other(vote: &mut Vote, t: &Table, number: usize) -> Call {
 }
 
 // The messages of a call are kept, as many as there is place for.
-pub fn keep_sent(vote: &mut Vote, sent: &[u8]) -> Result<(), AllocError> {
+pub fn keep_sent(vote: &mut Vote, sent: &[u8]) {
     let mut reader = Reader::new(sent, 0);
     for _ in sent {
-        if reader.is_at_end() || MADE <= vote.made.len() {
+        if reader.is_at_end() {
             break;
         }
         if let Ok(message) = wire::read_message(&mut reader) {
-            vote.made.push(message)?;
+            vote.made.push(message);
         }
     }
-    Ok(())
 }

@@ -1,8 +1,11 @@
 // A vote through which a board is led, and the calls on it.
 use random_buffers::Lent;
 use random_numbers::Random;
-use second_wire::wire::Message;
-use std::alloc::Global;
+use second_wire::list::List;
+use second_wire::wire::{Kind, Message};
+
+// The most messages of the board that are kept.
+const MADE: usize = 500;
 
 // A start at a position of the plan, by its reading as readings are kept; or a message taken from a
 // sender.
@@ -21,7 +24,7 @@ pub struct Call {
 }
 
 // The pseudo-random numbers of a run, and its vote.
-#[derive(Drop)]
+#[derive(Clone, Copy)]
 pub struct Vote {
     pub random: Random,
     // Boards, faults and agreement number; the plan's last position and low reading.
@@ -36,7 +39,7 @@ pub struct Vote {
     pub steps: usize,
     pub start_at: usize,
     // The messages that the board made, and how many of them were given back to it, from each board.
-    pub made: Vec<Message>,
+    pub made: List<Message, MADE>,
     pub given: usize,
     // How many levels the board has entered.
     pub depth: usize,
@@ -46,7 +49,13 @@ pub struct Vote {
 
 impl Vote {
     // Before the first vote of a run.
-    pub fn new(alloc: Global, seed: usize) -> Vote {
+    pub fn new(seed: usize) -> Vote {
+        let unused = Message {
+            number: 0,
+            level: 0,
+            kind: Kind::Centre,
+            value: 0,
+        };
         Vote {
             random: Random::new(seed),
             boards: 0,
@@ -57,7 +66,7 @@ impl Vote {
             is_deep: false,
             steps: 0,
             start_at: 0,
-            made: Vec::new(alloc),
+            made: List::blank(unused),
             given: 0,
             depth: 0,
             used: 0,

@@ -4,8 +4,12 @@ use random_votes_pairs::read::Member;
 use random_votes_state::both::{Journal, Outgoing};
 use random_votes_state::call::{Call, Request};
 use random_votes_state::outcome::Outcome;
+use random_votes_state::seats::SEATS;
 use random_votes_state::vote::Vote;
 use second_plan::table::Table;
+
+// The members of all seats of a vote, the bench's last.
+pub type Members = [Member; SEATS];
 
 // What a seat has before it is set up.
 pub fn nobody() -> Member {

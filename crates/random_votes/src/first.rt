@@ -1,4 +1,6 @@
 // The calls on the library.
+ghost use Rattle.std.specs.Prelude.{◌≡◌};
+
 use board::{Called, Restored};
 use party::Party;
 use random_votes_state::call::{Call, Request, Settings, Start, Take};
@@ -34,26 +36,37 @@ fn read(party: &Party) -> Outcome {
     }
 }
 
-// The answer that an accepted call leaves.
-fn answer(party: &Party) -> Option<i64> {
-    read(party).answer
+// What a call gave, with the verdict and the answer of a reading.
+fn with_reading(outcome: Outcome, reading: Outcome) -> Outcome
+    ensures verdict { result.verdict ≡ reading.verdict }
+    ensures answer { result.answer ≡ reading.answer }
+{
+    Outcome {
+        verdict: reading.verdict,
+        answer: reading.answer,
+        ..outcome
+    }
+}
+
+// What a call gave; where it was accepted, the party is read after it, and the reading's verdict counts.
+fn answered(party: &Party, outcome: Outcome) -> Outcome {
+    if outcome.verdict.is_err() {
+        return outcome;
+    }
+    with_reading(outcome, read(party))
 }
 
 // What a start or take gave; where it was accepted, the answer is read.
 fn called(party: &mut Party, called: Called, remainder: Option<i64>) -> Outcome {
     *party = called.party;
-    Outcome {
-        verdict: called.verdict.map_err(Refused::from),
+    let outcome = Outcome {
         used: called.used,
         sent: called.sent,
         rules: called.rules as usize,
-        answer: if called.verdict.is_ok() {
-            answer(party)
-        } else {
-            None
-        },
         remainder,
-    }
+        ..Outcome::new(called.verdict.map_err(Refused::from))
+    };
+    answered(party, outcome)
 }
 
 // A start, by an input or by a count.
@@ -95,14 +108,13 @@ fn restored(party: &mut Party, restored: Result<Restored, base::Refusal>) -> Out
     match restored {
         Ok(new) => {
             *party = new.party;
-            Outcome {
-                verdict: Ok(()),
+            let outcome = Outcome {
                 used: new.used,
                 sent: new.sent,
                 rules: new.rules as usize,
-                answer: answer(party),
-                remainder: None,
-            }
+                ..Outcome::new(Ok(()))
+            };
+            answered(party, outcome)
         }
         Err(refusal) => Outcome::new(Err(Refused::from(refusal))),
     }

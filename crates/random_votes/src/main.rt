@@ -9,10 +9,12 @@ mod limits;
 mod report;
 mod run;
 
+use random_votes_state::both::{Journal, Outgoing};
 use random_votes_state::random::Random;
+use random_votes_state::seats::SEATS;
 use random_votes_state::totals::Totals;
 use random_votes_state::vote::Vote;
-use run::{Run, Side};
+use run::Run;
 use std::io;
 
 // How many votes are run from each seed, and the states of the pseudo-random numbers before the first of them; and of those by which pairs are read.
@@ -33,19 +35,31 @@ fn write_seeds(rt: &impl Print) -> io::Result<()> {
 
 // The cases at the limits, the votes, and what they came to: the votes of the first seed and, side by side with them and numbered on, those of the second.
 fn main(rt: HostRuntime) -> io::Result<()> {
-    let mut first = Vote::new(rt.alloc(), Random::new(0), 0)?;
+    let mut first = Vote::new(Random::new(0), 0);
     limits::write(&rt, &mut first)?;
     first.random = Random::new(SEED);
-    let second = Vote::new(rt.alloc(), Random::new(OTHER_SEED), VOTES)?;
+    let mut second = Vote::new(Random::new(OTHER_SEED), VOTES);
     write_seeds(&rt)?;
+    let nobody = calls::nobody();
+    let mut members = [nobody; SEATS];
+    let mut other_members = [nobody; SEATS];
+    let journal = Journal::filled(7);
+    let mut journals = [journal; SEATS];
+    let mut other_journals = [journal; SEATS];
     let mut run = Run {
         random: Random::new(PAIR_SEED),
         totals: Totals::default(),
-        first: Side::new(rt.alloc(), first)?,
-        second: Side::new(rt.alloc(), second)?,
+        out: Outgoing::filled(0),
     };
     for _ in 0..VOTES {
-        run.run_two();
+        run.run_two(
+            &mut first,
+            &mut members,
+            &mut journals,
+            &mut second,
+            &mut other_members,
+            &mut other_journals,
+        );
     }
-    report::write(&rt, &run)
+    report::write(&rt, &run.totals, &first.firsts, &second.firsts)
 }

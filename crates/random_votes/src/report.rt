@@ -1,6 +1,5 @@
 // What the run came to, in lines.
 // The functions that write rows are alike in form alone: each has its own texts and counts.
-use crate::run::Run;
 use random_report::Row;
 use random_votes_state::totals::{Broken, Cuts, Lengths, Rules, Totals};
 use random_votes_state::vote::{Firsts, Noted};
@@ -180,8 +179,7 @@ fn write_faults(
 }
 
 // The run.
-pub fn write(rt: &impl Print, run: &Run) -> io::Result<()> {
-    let totals = &run.totals;
+pub fn write(rt: &impl Print, totals: &Totals, first: &Firsts, second: &Firsts) -> io::Result<()> {
     write_calls(rt, totals)?;
     write_broken(rt, &totals.broken)?;
     write_outside(rt, &totals.broken)?;
@@ -193,5 +191,5 @@ pub fn write(rt: &impl Print, run: &Run) -> io::Result<()> {
     write_ends(rt, totals)?;
     random_votes_pairs::results::write(rt, &totals.pairs)?;
     random_votes_counts::results::write(rt, &totals.counts)?;
-    write_faults(rt, totals, &run.first.vote.firsts, &run.second.vote.firsts)
+    write_faults(rt, totals, first, second)
 }

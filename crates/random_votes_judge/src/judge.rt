@@ -1,12 +1,12 @@
 // What a call did is compared, and what it leaves is kept.
 use crate::{broken, demand, records};
 use random_votes_seats::cuts;
-use random_votes_state::both::{Journal, OUTGOING, Outgoing};
+use random_votes_state::both::{Journal, Journals, OUTGOING, Outgoing};
 use random_votes_state::call::{Call, Origin, Request, Start, Take};
 use random_votes_state::message::Fields;
 use random_votes_state::outcome::Outcome;
 use random_votes_state::pool::Messages;
-use random_votes_state::seats::{Seat, Seats};
+use random_votes_state::seats::Seat;
 use random_votes_state::totals;
 use random_votes_state::totals::Totals;
 use random_votes_state::vote::{Phase, Stage, Started, Telling, Vote, key, note};
@@ -211,7 +211,7 @@ fn is_same(
 pub fn judge(
     v: &mut Vote,
     totals: &mut Totals,
-    journals: &Seats<Journal>,
+    journals: &Journals,
     out: &Outgoing,
     call: &Call,
     first: &Outcome,
@@ -219,7 +219,7 @@ pub fn judge(
 ) {
     v.calls = v.calls.saturating_add(1);
     totals::count(&mut totals.calls);
-    let journal = journals.at(call.seat);
+    let journal = &journals[call.seat.place()];
     if !is_same(call, journal, out, first, second) {
         difference(v, totals);
     }

@@ -1,4 +1,7 @@
 // Which pair is read of two votes that run side by side.
+ghost use Rattle.std.specs.Prelude.{◌<◌, IfSome};
+ghost use Rattle.random_votes_state.specs.Seats.{board_of};
+
 use random_votes_state::random::Random;
 use random_votes_state::seats::Seat;
 use random_votes_state::vote::{Phase, Vote};
@@ -29,16 +32,18 @@ fn often(first: &Vote, second: &Vote, seat: Seat) -> usize {
     }
 }
 
-// The seat whose pair is read in this turn, if one is: that of the first or the second vote's call, or where there is none the bench.
+// The seat whose pair is read in this turn, if one is: that of the first or the second vote's call, or where there is none, or its board is none, the bench.
 pub fn seat(
     random: &mut Random,
     first: &Vote,
     second: &Vote,
     called: (Option<Seat>, Option<Seat>),
-) -> Option<Seat> {
+) -> Option<Seat>
+    ensures { IfSome result (λ seat. board_of seat < 16) }
+{
     let (one, other) = called;
     let called = if random.below(2) == 0 { one } else { other };
-    let seat = called.unwrap_or(Seat::Bench);
+    let seat = called.unwrap_or(Seat::Bench).within();
     if random.below(often(first, second, seat)) == 0 {
         Some(seat)
     } else {

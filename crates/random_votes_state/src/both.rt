@@ -1,4 +1,5 @@
 // Bytes that both implementations are lent: the first's and the second's.
+use crate::seats::SEATS;
 
 #[derive(Clone, Copy)]
 pub struct Both<const N: usize> {
@@ -10,6 +11,9 @@ pub struct Both<const N: usize> {
 pub const JOURNAL: usize = 24576;
 
 pub type Journal = Both<JOURNAL>;
+
+// The journals of all seats of a vote, the bench's last.
+pub type Journals = [Journal; SEATS];
 
 // An outgoing buffer, with more bytes than a call asks for.
 pub const OUTGOING: usize = 2700;

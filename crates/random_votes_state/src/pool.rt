@@ -4,18 +4,19 @@ ghost use Rattle.std.specs.Iterator.{at_most};
 
 use crate::message::{Kind, Message};
 use crate::seats::BOARDS;
-use std::alloc::{AllocError, Global};
+use arrayvec::ArrayVec;
 
 // The most messages that a vote keeps.
 const MOST: usize = 2048;
 
-// A message handed over, its sender, whether the sender's wire module forgot it since, and for each board that took it the used length after the call that did.
-#[derive(Drop)]
+// A message handed over, its sender, whether the sender's wire module forgot it since, and for each board that took it the used length after the call that did,
+// which is at most JOURNAL.
+#[derive(Drop, Default)]
 pub struct Handed {
     pub message: Message,
     pub sender: usize,
     pub is_gone: bool,
-    taken: [Option<usize>; BOARDS],
+    taken: [Option<u16>; BOARDS],
 }
 
 impl Handed {
@@ -35,7 +36,7 @@ impl Handed {
     }
 
     // The used length after the call in which a board took it.
-    fn taken_at(&self, b: usize) -> Option<usize> {
+    fn taken_at(&self, b: usize) -> Option<u16> {
         self.taken.get(b).copied().flatten()
     }
 
@@ -51,13 +52,14 @@ impl Handed {
 // All of them, with room for the most.
 #[derive(Drop)]
 pub struct Pool {
-    handed: Vec<Handed>,
+    handed: ArrayVec<Handed, MOST>,
 }
 
 impl Pool {
-    pub fn new(alloc: Global) -> Result<Pool, AllocError> {
-        let handed = Vec::with_capacity(alloc, MOST)?;
-        Ok(Pool { handed })
+    pub fn new() -> Pool {
+        Pool {
+            handed: ArrayVec::new(),
+        }
     }
 
     pub fn clear(&mut self) {
@@ -89,9 +91,7 @@ impl Pool {
                 return;
             }
         }
-        if self.len() < MOST {
-            let _ = self.handed.push(Handed::new(message, sender));
-        }
+        let _ = self.handed.try_push(Handed::new(message, sender));
     }
 
     // A board took the i-th message, in a call that left this used length, or had taken it before.
@@ -99,7 +99,7 @@ impl Pool {
         if let Some(handed) = self.handed.get_mut(i) {
             if !handed.is_taken(b) {
                 if let Some(taken) = handed.taken.get_mut(b) {
-                    *taken = Some(used);
+                    *taken = Some(u16::try_from(used).unwrap_or(u16::MAX));
                 }
             }
         }
@@ -109,7 +109,7 @@ impl Pool {
     pub fn lose_taken(&mut self, b: usize, left: usize) {
         for handed in self.handed.iter_mut() {
             if let Some(taken) = handed.taken.get_mut(b) {
-                *taken = taken.filter(|used| *used <= left);
+                *taken = taken.filter(|used| usize::from(*used) <= left);
             }
         }
     }

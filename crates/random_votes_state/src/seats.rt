@@ -1,5 +1,6 @@
 // The seats of a vote: its boards, and the bench.
-use std::alloc::{AllocError, Global};
+ghost use Rattle.std.specs.Prelude.{◌≡◌, ◌<◌};
+ghost use Rattle.random_votes_state.specs.Seats.{board_of, place_of};
 
 // A seat. On the bench damaged plans, journals and settings are tried, and messages from all boards; it is no board.
 #[derive(Clone, Copy, PartialEq, Eq)]
@@ -11,21 +12,47 @@ pub enum Seat {
 // The most boards.
 pub const BOARDS: usize = 16;
 
+// How many seats there are: after the boards comes the bench.
+pub const SEATS: usize = BOARDS + 1;
+
+impl Seat {
+    // The same seat; a board beyond the most is none, and the bench stands for it.
+    pub fn within(self) -> Seat
+        ensures is_seat { board_of result < 16 }
+        ensures kept { board_of self < 16 → result ≡ self }
+    {
+        match self {
+            Seat::Board(b) if b < BOARDS => self,
+            _ => Seat::Bench,
+        }
+    }
+
+    // Its place in a row of all seats, where the bench is the last.
+    pub fn place(self) -> usize
+        ensures below { result < 17 }
+        ensures own { board_of self < 16 → result ≡ place_of self }
+    {
+        match self {
+            Seat::Board(b) if b < BOARDS => b,
+            _ => BOARDS,
+        }
+    }
+}
+
 // Something of each seat.
 #[derive(Drop)]
 pub struct Seats<T> {
-    boards: Vec<T>,
+    boards: [T; BOARDS],
     bench: T,
 }
 
 impl<T: Copy> Seats<T> {
     // The same of each.
-    pub fn new(alloc: Global, each: T) -> Result<Seats<T>, AllocError> {
-        let boards = vec![in alloc; each; BOARDS]?;
-        Ok(Seats {
-            boards,
+    pub fn new(each: T) -> Seats<T> {
+        Seats {
+            boards: [each; BOARDS],
             bench: each,
-        })
+        }
     }
 
     // All become the same.
@@ -49,7 +76,7 @@ impl<T> Seats<T> {
     // The same, to be changed.
     pub fn at_mut(&mut self, seat: Seat) -> &mut T {
         if let Seat::Board(b) = seat {
-            if b < self.boards.len() {
+            if b < BOARDS {
                 return &mut self.boards[b];
             }
         }
@@ -68,6 +95,6 @@ impl<T> Seats<T> {
 
     // Those of all boards.
     pub fn boards(&self) -> &[T] {
-        self.boards.as_slice()
+        &self.boards
     }
 }

@@ -1,11 +1,11 @@
 // Varints of numbers, as they are written into plans and messages.
-use arrayvec::ArrayVec;
 use second_wire::group;
+use second_wire::list::List;
 
 // The most bytes that one is written in.
 const MOST: usize = 7;
 
-pub type Varint = ArrayVec<u8, MOST>;
+pub type Varint = List<u8, MOST>;
 
 // A piece of a number with the top bit, which says that another follows.
 fn open(piece: usize) -> u8 {
@@ -24,10 +24,10 @@ pub fn in_bytes(value: usize, count: usize) -> Varint {
     let mut bytes = Varint::new();
     let mut rest = value;
     for _ in 1..count {
-        let _ = bytes.try_push(open(rest));
+        bytes.push(open(rest));
         rest /= 128;
     }
-    let _ = bytes.try_push((rest % 128) as u8);
+    bytes.push((rest % 128) as u8);
     bytes
 }
 

@@ -8,7 +8,6 @@ use crate::span::Span;
 use crate::totals;
 use random_calls::word;
 use second_wire::group;
-use std::alloc::{AllocError, Global};
 
 // What a vote is doing: set-ups; random steps; last deliveries, until every board has taken every message; readings.
 #[derive(Clone, Copy, PartialEq, Eq)]
@@ -179,9 +178,10 @@ pub struct Vote {
 }
 
 impl Vote {
-    // What is before the first vote, with a stream of pseudo-random numbers, and the number that the first has.
-    pub fn new(alloc: Global, random: Random, number: usize) -> Result<Vote, AllocError> {
-        Ok(Vote {
+    // What is before the first vote, with a stream of pseudo-random numbers, and the number that the first has. Its parts are put together in a frame of its own.
+    #[inline(never)]
+    pub fn new(random: Random, number: usize) -> Vote {
+        Vote {
             random,
             number,
             calls: 0,
@@ -202,8 +202,8 @@ impl Vote {
             slow: Slow::default(),
             is_divided: false,
             off: [false; BOARDS],
-            seats: Seats::new(alloc, SeatState::default())?,
-            pool: Pool::new(alloc)?,
+            seats: Seats::new(SeatState::default()),
+            pool: Pool::new(),
             top: 0,
             told: [None; TELLINGS],
             round: Round::default(),
@@ -214,9 +214,9 @@ impl Vote {
             pair_answers: None,
             size: None,
             count_answers: None,
-            counts: Seats::new(alloc, i64::MIN)?,
+            counts: Seats::new(i64::MIN),
             was_restore: false,
-        })
+        }
     }
 
     // How many bytes the varint of the agreement number has.

@@ -1,11 +1,11 @@
 // The bench: spoilt settings, plans and journals, and a party that takes messages from all boards.
 use random_votes_seats::{calls, damage, lies};
-use random_votes_state::both::Journal;
+use random_votes_state::both::Journals;
 use random_votes_state::call::{Call, Origin, Request, Settings, Terms};
 use random_votes_state::message::{Kind, Message, Said};
 use random_votes_state::plan::{Edge, Spelled};
 use random_votes_state::random::Random;
-use random_votes_state::seats::{Seat, Seats};
+use random_votes_state::seats::Seat;
 use random_votes_state::vote::Vote;
 use random_votes_state::{message, random};
 
@@ -97,10 +97,10 @@ fn restore(v: &mut Vote, settings: Settings, length: usize) -> Call {
 }
 
 // A restore from a board's journal, damaged.
-fn restore_damaged(v: &mut Vote, journals: &mut Seats<Journal>, board: usize) -> Call {
+fn restore_damaged(v: &mut Vote, journals: &mut Journals, board: usize) -> Call {
     let used = v.seats.board(board).used;
-    let journal = *journals.board(board);
-    let copy = journals.at_mut(Seat::Bench);
+    let journal = journals[Seat::Board(board).place()];
+    let copy = &mut journals[Seat::Bench.place()];
     copy.copy_from(&journal, used);
     let length = damage::damage(&mut v.random, copy, used);
     restore(v, v.settings(board), length)
@@ -156,7 +156,7 @@ pub fn call(v: &mut Vote) -> Option<Call> {
 }
 
 // A call of the bench.
-pub fn any_call(v: &mut Vote, journals: &mut Seats<Journal>, board: usize) -> Option<Call> {
+pub fn any_call(v: &mut Vote, journals: &mut Journals, board: usize) -> Option<Call> {
     match v.random.below(8) {
         0..3 => Some(set_up(v, board)),
         3 | 4 => Some(restore_damaged(v, journals, board)),

@@ -1,10 +1,10 @@
 // The next call of a vote.
 use crate::{bench, deliver};
 use random_votes_seats::{bad, calls, cuts, lies};
-use random_votes_state::both::Journal;
+use random_votes_state::both::Journals;
 use random_votes_state::call::{Call, Origin, Request};
 use random_votes_state::message::Message;
-use random_votes_state::seats::{Seat, Seats};
+use random_votes_state::seats::Seat;
 use random_votes_state::totals::Totals;
 use random_votes_state::vote::{Phase, Vote};
 
@@ -77,7 +77,7 @@ fn play_board(v: &mut Vote, totals: &mut Totals, b: usize) -> Option<Call> {
 }
 
 // A random step of a board or of the bench.
-fn play(v: &mut Vote, totals: &mut Totals, journals: &mut Seats<Journal>) -> Option<Call> {
+fn play(v: &mut Vote, totals: &mut Totals, journals: &mut Journals) -> Option<Call> {
     let b = v.random.below(v.boards);
     if v.is_flooded {
         if v.random.once_in(4) {
@@ -114,12 +114,7 @@ fn turns(v: &Vote) -> usize {
 }
 
 // The call of a turn of the phase, if there is one.
-fn step(
-    v: &mut Vote,
-    totals: &mut Totals,
-    turn: usize,
-    journals: &mut Seats<Journal>,
-) -> Option<Call> {
+fn step(v: &mut Vote, totals: &mut Totals, turn: usize, journals: &mut Journals) -> Option<Call> {
     match v.phase {
         Phase::SettingUp => set_up(v, turn),
         Phase::Playing => play(v, totals, journals),
@@ -147,7 +142,7 @@ fn go_on(v: &mut Vote) {
 }
 
 // The next turn's call, if it has one.
-fn next(v: &mut Vote, totals: &mut Totals, journals: &mut Seats<Journal>) -> Option<Call> {
+fn next(v: &mut Vote, totals: &mut Totals, journals: &mut Journals) -> Option<Call> {
     let turn = v.turn;
     if turn < turns(v) {
         v.turn = turn + 1;
@@ -158,7 +153,7 @@ fn next(v: &mut Vote, totals: &mut Totals, journals: &mut Seats<Journal>) -> Opt
 }
 
 // The next call, or none at the end of the vote.
-pub fn seek(v: &mut Vote, totals: &mut Totals, journals: &mut Seats<Journal>) -> Option<Call> {
+pub fn seek(v: &mut Vote, totals: &mut Totals, journals: &mut Journals) -> Option<Call> {
     for _ in 0..100000 {
         if v.phase == Phase::Done {
             break;

@@ -1,2 +1,2 @@
-mod Lines
-mod Examples
+pub mod Lines
+pub mod Examples

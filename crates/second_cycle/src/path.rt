@@ -40,11 +40,6 @@ fn edge_after(bytes: &[u8], edges: usize) -> Option<Edge> {
     read_edge(&mut reader)
 }
 
-// Lists an edge.
-fn list(cycle: &mut Cycle, number: usize, ends: Edge) {
-    let _ = cycle.try_push(PlanEdge { number, ends });
-}
-
 // The cycle that the edge after those of the table closes.
 fn closed_cycle(bytes: &[u8], t: &Table) -> Cycle {
     let mut cycle = Cycle::new();
@@ -53,10 +48,16 @@ fn closed_cycle(bytes: &[u8], t: &Table) -> Cycle {
         let d = Distances::of(t);
         for (number, edge) in t.edges().iter().flatten().enumerate() {
             if is_on_path(&d, rejected, *edge) {
-                list(&mut cycle, number, *edge);
+                cycle.push(PlanEdge {
+                    number,
+                    ends: *edge,
+                });
             }
         }
-        list(&mut cycle, edges, rejected);
+        cycle.push(PlanEdge {
+            number: edges,
+            ends: rejected,
+        });
     }
     cycle
 }

@@ -145,10 +145,10 @@ impl Kinds {
 }
 
 // For each vertex on which side of a level's centre it lies, 0 at the centre; none where it is not in
-// the level's component.
+// the level's component. A side is at most 15: in bytes, since a table is copied.
 #[derive(Clone, Copy, PartialEq, Eq)]
 struct Sides {
-    of: [Option<usize>; VERTICES],
+    of: [Option<u8>; VERTICES],
 }
 
 impl Sides {
@@ -235,7 +235,8 @@ impl Table {
     // On which side of the level's centre vertex v lies, 0 at the centre; none where v is not in the
     // level's component.
     pub fn side_of(&self, level: usize, v: usize) -> Option<usize> {
-        *self.sides.get(level)?.of.get(v)?
+        let side = *self.sides.get(level)?.of.get(v)?;
+        side.map(usize::from)
     }
 
     // Whether v is in the level's component.
@@ -248,7 +249,7 @@ impl Table {
         if let Some(sides) = self.sides.get_mut(level)
             && let Some(cell) = sides.of.get_mut(v)
         {
-            *cell = side;
+            *cell = side.and_then(|k| u8::try_from(k).ok());
         }
     }
 

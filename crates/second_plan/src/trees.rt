@@ -2,12 +2,20 @@
 // that are on u's side of the edge between them.
 use crate::table;
 use crate::table::{Edge, Table, VERTICES};
+use second_wire::list::List;
 
 // The distance of two vertices that are not joined: above every other.
 const APART: u8 = u8::MAX;
 
 // The distances of one vertex from all.
 type Row = [u8; VERTICES];
+
+// A vertex that another is joined with, and how far it is from that.
+#[derive(Clone, Copy, Default)]
+struct Joined {
+    vertex: usize,
+    length: u8,
+}
 
 // A distance for each two vertices: how many edges their path has.
 #[derive(Clone, Copy)]
@@ -73,26 +81,37 @@ impl Distances {
         }
     }
 
-    // Joins v with the vertices that a row is joined with, over the row's vertex, which is `length`
-    // away from v.
-    fn join_all(&mut self, v: usize, row: &Row, length: u8) {
-        for (w, x) in row.iter().enumerate() {
+    // The vertices that v is joined with.
+    fn joined(&self, v: usize) -> List<Joined, VERTICES> {
+        let mut list = List::new();
+        for (w, x) in self.row(v).iter().enumerate() {
             if *x < APART {
-                let sum = length.saturating_add(*x);
-                self.set(v, w, sum);
-                self.set(w, v, sum);
+                list.push(Joined {
+                    vertex: w,
+                    length: *x,
+                });
             }
+        }
+        list
+    }
+
+    // Joins v with the listed vertices, over the one that they are listed of, which is `length` away
+    // from v.
+    fn join_all(&mut self, v: usize, listed: &[Joined], length: u8) {
+        for other in listed {
+            let sum = length.saturating_add(other.length);
+            self.set(v, other.vertex, sum);
+            self.set(other.vertex, v, sum);
         }
     }
 
-    // An edge joins all vertices joined with one end and all joined with the other.
+    // An edge joins all vertices joined with one end and all joined with the other. These are listed
+    // first: a walk along a whole row for each of the others would take the cube of the vertices.
     pub fn join(&mut self, edge: Edge) {
-        let left = self.row(edge.a);
-        let right = self.row(edge.b);
-        for (v, x) in left.iter().enumerate() {
-            if *x < APART {
-                self.join_all(v, &right, x.saturating_add(1));
-            }
+        let left = self.joined(edge.a);
+        let right = self.joined(edge.b);
+        for one in left.as_slice() {
+            self.join_all(one.vertex, right.as_slice(), one.length.saturating_add(1));
         }
     }
 

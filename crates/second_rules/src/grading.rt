@@ -17,7 +17,7 @@ pub fn rule_1(t: &mut Table, level: usize) -> Option<Effect> {
 fn is_contested(t: &Table, level: usize) -> bool {
     let port = t.at(level, table::PORT);
     let d = t.at(level, table::DEGREE);
-    heard::enough(
+    heard::enough_where(
         t,
         level,
         Kind::FirstEcho,
@@ -38,7 +38,7 @@ pub fn rule_2(t: &mut Table, level: usize) -> Option<Effect> {
 fn may_propose(t: &Table, level: usize, v: usize) -> bool {
     let or_none = |w| w == v || w == wire::NONE;
     heard::reached(t, level, Kind::FirstEcho, v, table::FEW)
-        && heard::enough(t, level, Kind::FirstEcho, or_none, table::MANY)
+        && heard::enough_where(t, level, Kind::FirstEcho, or_none, table::MANY)
 }
 
 // The smallest such v.
@@ -66,7 +66,7 @@ fn bit(v: usize, place: usize) -> usize {
 fn has_side(t: &Table, level: usize, place: usize, is: usize) -> bool {
     let d = t.at(level, table::DEGREE);
     let wanted = |v| v == wire::NONE || v <= d && bit(v, place) == is;
-    heard::enough(t, level, Kind::FirstEcho, wanted, table::FEW)
+    heard::enough_where(t, level, Kind::FirstEcho, wanted, table::FEW)
 }
 
 // Whether at some bit place of 0 to 3 there are t+1 for bit 0 and t+1 for bit 1.

@@ -1,6 +1,6 @@
 // Counting the boards that said something. Values above the level's d are never counted; none is.
 use second_plan::table;
-use second_plan::table::{Said, Table};
+use second_plan::table::{Said, Table, VALUES};
 use second_wire::wire;
 use second_wire::wire::Kind;
 
@@ -22,7 +22,7 @@ fn senders<F: Fn(usize) -> bool>(said: &Said, wanted: &F) -> usize
 }
 
 // Whether as many boards as a column of the vote's row says said a wanted value.
-pub fn enough<F: Fn(usize) -> bool>(
+pub(crate) fn enough_where<F: Fn(usize) -> bool>(
     t: &Table,
     level: usize,
     kind: Kind,
@@ -38,9 +38,15 @@ pub fn enough<F: Fn(usize) -> bool>(
     t.at(table::VOTE, column) <= wanted_by
 }
 
+// The same, where the values are flags: for each value whether it is wanted, none the last.
+pub fn enough(t: &Table, level: usize, kind: Kind, wanted: &[bool; VALUES], column: usize) -> bool {
+    let is_wanted = |v: usize| wanted.get(v).is_some_and(|is| *is);
+    enough_where(t, level, kind, is_wanted, column)
+}
+
 // Whether so many boards said v.
 pub fn reached(t: &Table, level: usize, kind: Kind, v: usize, column: usize) -> bool {
-    enough(t, level, kind, |w| w == v, column)
+    enough_where(t, level, kind, |w| w == v, column)
 }
 
 // The smallest value from `from` to d that so many boards said.

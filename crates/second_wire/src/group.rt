@@ -1,7 +1,7 @@
 // Groups: seven-bit pieces, low piece first, the top bit set on every byte but the last, in the
 // fewest bytes, at most 4,294,967,295.
+use crate::list::List;
 use crate::room;
-use arrayvec::ArrayVec;
 
 // The most bytes of a group.
 const MOST_BYTES: usize = 5;
@@ -97,7 +97,7 @@ pub fn size(value: usize) -> usize {
 }
 
 // Writes the group of a value.
-pub fn write<const N: usize>(room: &mut ArrayVec<u8, N>, value: usize) {
+pub fn write<const N: usize>(room: &mut List<u8, N>, value: usize) {
     let mut rest = value;
     for _ in 1..MOST_BYTES {
         if rest < 128 {

@@ -3,6 +3,7 @@
 #![tactic(auto)]
 
 pub mod group;
+pub mod list;
 pub mod reader;
 pub mod room;
 pub mod wire;

@@ -1,5 +1,6 @@
 pub mod Varint
 pub mod Table
 pub mod Writing
+pub mod Results
 pub mod Reading
 pub mod Statement

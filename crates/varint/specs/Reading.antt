@@ -1,23 +1,15 @@
 -- Reading a varint. `Reads` (Statement.antt) says what it finds, and what it says where it finds no value; the calls and demand 3 need no more.
-use Rattle.std.specs.Prelude.{List, ℕ, zero, suc, ◌+◌, ◌-◌, ◌*◌, ◌/◌, max, ltb, eqb, length, get_or, Result, Ok, Err}
+use Rattle.std.specs.Prelude.{List, ℕ, zero, suc, ◌+◌, ◌-◌, ◌*◌, ◌/◌, max, ltb, eqb, length, get_or, Ok, Err}
 use Rattle.base.specs.Pick.{pick}
 use Rattle.base.specs.Limits.{max_number}
-use Rattle.varint.specs.declared.Parsed.{Parsed}
 use Rattle.varint.specs.declared.VarintError.{VarintError}
 use Rattle.varint.specs.declared.VarintError.TheVariants.{Short, Malformed}
 use Rattle.varint.specs.Varint.{piece_size, max_pieces}
+pub use Rattle.varint.specs.Results.{VarintRead, value}
 
 -- what stands above the lowest piece is at most 33,554,431
 abbrev pub max_rest : ℕ
 max_rest = max_number / piece_size
-
--- what reading a varint finds
-abbrev pub VarintRead : Type 0
-VarintRead = Result (Parsed ℕ) VarintError
-
--- read: the value, and the place past it
-abbrev pub value : ℕ → ℕ → VarintRead
-value v next = Ok (record { value = v; next = next })
 
 -- The piece of byte b, 128 or more, before a rest. A rest of value 0 is not in the fewest bytes, so a rest still to come has at least value 1.
 abbrev pub prefixed_error : ℕ → VarintError → VarintError

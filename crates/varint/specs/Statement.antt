@@ -5,7 +5,8 @@ use Rattle.base.specs.Limits.{max_number}
 use Rattle.varint.specs.declared.VarintError.TheVariants.{Short, Malformed}
 use Rattle.varint.specs.Varint.{AllBytes, varint_bytes}
 use Rattle.varint.specs.Table.{table_length}
-use Rattle.varint.specs.Reading.{value, varint_at}
+use Rattle.varint.specs.Results.{value}
+use Rattle.varint.specs.Reading.{varint_at}
 use Rattle.varint.specs.Writing.{written_of}
 
 -- the bytes of s from `at` up to `next` are bs
