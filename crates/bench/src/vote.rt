@@ -10,8 +10,7 @@ use std::io;
 const BOARDS: usize = base::MAX_BOARDS as usize;
 
 // The settings, the parties of the boards, whether a start was accepted, and the messages handed over. It has the outgoing buffer that every call is lent.
-// No Options of parties: while a setting is missing they are records of no party, which fail 19, so that every call is made and refused by it. With
-// Options, which the compiler fills with zeros wherever one is moved, README's vote takes half as many instructions again.
+// While a setting is missing the parties are records of no party, which fail 19, so that every call is made and refused by it.
 #[derive(Drop)]
 pub struct Vote {
     settings: Settings,
