@@ -2,6 +2,7 @@
 #![tactic(auto)]
 
 ghost use Rattle.std.specs.Prelude.{◌≡◌, ◌<◌, IfSome, length};
+ghost use Rattle.party.specs.Typed.{Typed};
 ghost use Rattle.party.specs.Tie.{as_party};
 ghost use Rattle.board_calls.specs.Calls.{start_questions, take_questions};
 ghost use Rattle.board_calls.specs.Results.{CallGives};
@@ -61,7 +62,7 @@ fn carry_out(
     used: usize,
     out: &mut [u8],
 ) -> Carried
-    requires { Carriable (as_party party.old) chart.old (length journal.old) used (length out.old) asked }
+    requires { Carriable (as_party party.old) chart.old (length journal.old) used (length out.old) asked × Typed (as_party party.old) }
     ensures { CallGives (found_by (as_party party.old) asked) (as_party party.old) used journal.old out.old (carried_by (as_party party.new) result) journal.new out.new }
 {
     match asked {

@@ -1,1 +1,2 @@
+pub mod Pool
 pub mod Seats

@@ -1,6 +1,7 @@
 // The messages that were handed over.
-ghost use Rattle.std.specs.Prelude.{length};
+ghost use Rattle.std.specs.Prelude.{◌≡◌, ℕ, ◌+◌, ◌≤◌, ◌<◌, IfSome, None, length};
 ghost use Rattle.std.specs.Iterator.{at_most};
+ghost use Rattle.random_votes_state.specs.Pool.{kept_of};
 
 use crate::message::{Kind, Message};
 use crate::seats::BOARDS;
@@ -9,14 +10,43 @@ use arrayvec::ArrayVec;
 // The most messages that a vote keeps.
 const MOST: usize = 2048;
 
-// A message handed over, its sender, whether the sender's wire module forgot it since, and for each board that took it the used length after the call that did,
-// which is at most JOURNAL.
+// The used length after the call in which a board took a message, or none where it did not, in four bytes, since memory is fixed: it is kept as one more, and 0
+// is none. A used length of 4,294,967,295 or more stands as 4,294,967,294.
+#[derive(Clone, Copy, Default)]
+struct Taken {
+    kept: u32,
+}
+
+impl Taken {
+    // A board took it, in a call that left this used length.
+    fn at(used: usize) -> Taken
+        ensures exact { used < 4294967295 → result.kept ≡ used + 1 }
+        ensures longest { 4294967295 ≤ used → result.kept ≡ 4294967295 }
+    {
+        if used < u32::MAX as usize {
+            Taken {
+                kept: (used + 1) as u32,
+            }
+        } else {
+            Taken { kept: u32::MAX }
+        }
+    }
+
+    fn used(self) -> Option<usize>
+        ensures used { IfSome result (λ used. self.kept ≡ used + 1) }
+        ensures none { result ≡ None → self.kept ≡ 0 }
+    {
+        (self.kept as usize).checked_sub(1)
+    }
+}
+
+// A message handed over, its sender, whether the sender's wire module forgot it since, and for each board whether and when it took it.
 #[derive(Drop, Default)]
 pub struct Handed {
     pub message: Message,
     pub sender: usize,
     pub is_gone: bool,
-    taken: [Option<u16>; BOARDS],
+    taken: [Taken; BOARDS],
 }
 
 impl Handed {
@@ -26,7 +56,7 @@ impl Handed {
             message: Message::from(message),
             sender,
             is_gone: false,
-            taken: [None; BOARDS],
+            taken: [Taken::default(); BOARDS],
         }
     }
 
@@ -36,8 +66,31 @@ impl Handed {
     }
 
     // The used length after the call in which a board took it.
-    fn taken_at(&self, b: usize) -> Option<u16> {
-        self.taken.get(b).copied().flatten()
+    fn taken_at(&self, b: usize) -> Option<usize> {
+        self.taken.get(b)?.used()
+    }
+
+    // A board took it, in a call that left this used length, or had taken it before.
+    fn take(&mut self, b: usize, used: usize)
+        ensures exact { b < 16 → kept_of self.old b ≡ 0 → used < 4294967295 → kept_of self.new b ≡ used + 1 }
+        ensures longest { b < 16 → kept_of self.old b ≡ 0 → 4294967295 ≤ used → kept_of self.new b ≡ 4294967295 }
+        ensures before { 0 < kept_of self.old b → self.new ≡ self.old }
+        ensures others { (c : ℕ) → (c ≡ b → ⊥) → kept_of self.new c ≡ kept_of self.old c }
+    {
+        if b < BOARDS && self.taken[b].used().is_none() {
+            self.taken[b] = Taken::at(used);
+        }
+    }
+
+    // A cut left so many bytes of a board's journal: if its record is not in them, the board did not take it.
+    fn lose(&mut self, b: usize, left: usize)
+        ensures lost { b < 16 → left + 1 < kept_of self.old b → kept_of self.new b ≡ 0 }
+        ensures stays { kept_of self.old b ≤ left + 1 → self.new ≡ self.old }
+        ensures others { (c : ℕ) → (c ≡ b → ⊥) → kept_of self.new c ≡ kept_of self.old c }
+    {
+        if b < BOARDS && self.taken[b].used().is_some_and(|used| left < used) {
+            self.taken[b] = Taken::default();
+        }
     }
 
     // Whether a sound board has not taken it.
@@ -45,7 +98,7 @@ impl Handed {
         self.taken
             .iter()
             .zip(sound)
-            .any(|(taken, is_sound)| *is_sound && taken.is_none())
+            .any(|(taken, is_sound)| *is_sound && taken.used().is_none())
     }
 }
 
@@ -97,20 +150,14 @@ impl Pool {
     // A board took the i-th message, in a call that left this used length, or had taken it before.
     pub fn take(&mut self, b: usize, i: usize, used: usize) {
         if let Some(handed) = self.handed.get_mut(i) {
-            if !handed.is_taken(b) {
-                if let Some(taken) = handed.taken.get_mut(b) {
-                    *taken = Some(u16::try_from(used).unwrap_or(u16::MAX));
-                }
-            }
+            handed.take(b, used);
         }
     }
 
     // A cut left so many bytes of a board's journal: takes whose records are not in them are lost.
     pub fn lose_taken(&mut self, b: usize, left: usize) {
         for handed in self.handed.iter_mut() {
-            if let Some(taken) = handed.taken.get_mut(b) {
-                *taken = taken.filter(|used| usize::from(*used) <= left);
-            }
+            handed.lose(b, left);
         }
     }
 
@@ -167,5 +214,31 @@ impl<'a> Iterator for Messages<'a> {
         let (message, rest) = self.rest.split_at(length);
         self.rest = rest;
         Some(message)
+    }
+}
+
+#[cfg(test)]
+mod tests {
+    use super::*;
+
+    // Whether a cut that leaves so many bytes keeps the take of a message that left this used length.
+    fn is_kept(used: usize, left: usize) -> bool {
+        let mut pool = Pool::new();
+        pool.keep(&[1, 2, 3], 0);
+        pool.take(4, 0, used);
+        pool.lose_taken(4, left);
+        pool.get(0).is_some_and(|handed| handed.is_taken(4))
+    }
+
+    // A take is lost just where less is left, though its used length be longer than any journal's.
+    #[test]
+    fn loses_takes(rt: HostRuntime) {
+        for used in [1, 24576, 65536, 70000, 4294967294] {
+            assert!(rt; is_kept(used, used));
+            assert!(rt; !is_kept(used, used - 1));
+        }
+        assert!(rt; is_kept(0, 0));
+        assert!(rt; is_kept(usize::MAX, 4294967294));
+        assert!(rt; !is_kept(usize::MAX, 4294967293));
     }
 }

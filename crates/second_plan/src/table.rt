@@ -3,6 +3,9 @@
 //
 // Rows and columns are numbers, and no structs with named fields: that is how this implementation is
 // to differ from the library (docs/DECISIONS.md).
+ghost use Rattle.std.specs.Prelude.{◌≡◌, ℕ, ◌+◌, ◌≤◌, ◌<◌, IfSome, None};
+ghost use Rattle.second_plan.specs.Sides.{kept_of, kept_at};
+
 use crate::cells::Cells;
 use crate::question::Question;
 use second_wire::wire;
@@ -144,18 +147,60 @@ impl Kinds {
     }
 }
 
+// A vertex's side, or none, in two bytes, since a table is copied: it is kept as one more, and 0 is none.
+// A side is at most 15, so each is held.
+#[derive(Clone, Copy, PartialEq, Eq)]
+struct Side {
+    kept: u16,
+}
+
+impl Side {
+    // One of 65,535 or more is not held: none is kept then.
+    fn of(side: Option<usize>) -> Side
+        ensures side { IfSome side (λ k. k < 65535 → result.kept ≡ k + 1) }
+        ensures beyond { IfSome side (λ k. 65535 ≤ k → result.kept ≡ 0) }
+        ensures none { side ≡ None → result.kept ≡ 0 }
+    {
+        match side {
+            Some(k) if k < u16::MAX as usize => Side {
+                kept: (k + 1) as u16,
+            },
+            _ => Side { kept: 0 },
+        }
+    }
+
+    fn get(self) -> Option<usize>
+        ensures side { IfSome result (λ k. self.kept ≡ k + 1) }
+        ensures none { result ≡ None → self.kept ≡ 0 }
+    {
+        usize::from(self.kept).checked_sub(1)
+    }
+}
+
 // For each vertex on which side of a level's centre it lies, 0 at the centre; none where it is not in
-// the level's component. A side is at most 15: in bytes, since a table is copied.
+// the level's component.
 #[derive(Clone, Copy, PartialEq, Eq)]
 struct Sides {
-    of: [Option<u8>; VERTICES],
+    of: [Side; VERTICES],
 }
 
 impl Sides {
     // No vertex is in the component.
     fn none() -> Sides {
         Sides {
-            of: [None; VERTICES],
+            of: [Side::of(None); VERTICES],
+        }
+    }
+
+    // Sets the side of vertex v.
+    fn set(&mut self, v: usize, side: Option<usize>)
+        ensures side { v < 255 → IfSome side (λ k. k < 65535 → kept_of self.new v ≡ k + 1) }
+        ensures beyond { v < 255 → IfSome side (λ k. 65535 ≤ k → kept_of self.new v ≡ 0) }
+        ensures none { v < 255 → side ≡ None → kept_of self.new v ≡ 0 }
+        ensures others { (w : ℕ) → (w ≡ v → ⊥) → kept_of self.new w ≡ kept_of self.old w }
+    {
+        if v < VERTICES {
+            self.of[v] = Side::of(side);
         }
     }
 }
@@ -234,9 +279,15 @@ impl Table {
 
     // On which side of the level's centre vertex v lies, 0 at the centre; none where v is not in the
     // level's component.
-    pub fn side_of(&self, level: usize, v: usize) -> Option<usize> {
-        let side = *self.sides.get(level)?.of.get(v)?;
-        side.map(usize::from)
+    pub fn side_of(&self, level: usize, v: usize) -> Option<usize>
+        ensures side { IfSome result (λ k. kept_at self.now.sides level v ≡ k + 1) }
+        ensures none { level < 16 → v < 255 → result ≡ None → kept_at self.now.sides level v ≡ 0 }
+    {
+        if level < LEVELS && v < VERTICES {
+            self.sides[level].of[v].get()
+        } else {
+            None
+        }
     }
 
     // Whether v is in the level's component.
@@ -244,12 +295,16 @@ impl Table {
         self.side_of(level, v).is_some()
     }
 
-    // Sets the side of vertex v.
-    pub fn set_side(&mut self, level: usize, v: usize, side: Option<usize>) {
-        if let Some(sides) = self.sides.get_mut(level)
-            && let Some(cell) = sides.of.get_mut(v)
-        {
-            *cell = side.and_then(|k| u8::try_from(k).ok());
+    // Sets the side of vertex v. One of 65,535 or more is not held: v has none then.
+    pub fn set_side(&mut self, level: usize, v: usize, side: Option<usize>)
+        ensures side { level < 16 → v < 255 → IfSome side (λ k. k < 65535 → kept_at self.new.sides level v ≡ k + 1) }
+        ensures beyond { level < 16 → v < 255 → IfSome side (λ k. 65535 ≤ k → kept_at self.new.sides level v ≡ 0) }
+        ensures none { level < 16 → v < 255 → side ≡ None → kept_at self.new.sides level v ≡ 0 }
+        ensures vertices { (w : ℕ) → (w ≡ v → ⊥) → kept_at self.new.sides level w ≡ kept_at self.old.sides level w }
+        ensures levels { (i w : ℕ) → (i ≡ level → ⊥) → kept_at self.new.sides i w ≡ kept_at self.old.sides i w }
+    {
+        if level < LEVELS {
+            self.sides[level].set(v, side);
         }
     }
 
@@ -281,4 +336,23 @@ impl Table {
 // The place of a message's kind among all.
 fn place(kind: Kind) -> usize {
     kind.number().saturating_sub(1)
+}
+
+#[cfg(test)]
+mod tests {
+    use super::*;
+
+    // Sides that no level has are kept as well.
+    #[test]
+    fn keeps_sides(rt: HostRuntime) {
+        let mut t = Table::new();
+        for side in [Some(0), Some(15), Some(16), Some(256), Some(65534), None] {
+            t.set_side(3, 7, side);
+            assert_eq!(rt; t.side_of(3, 7), side);
+        }
+        for side in [65535, usize::MAX] {
+            t.set_side(3, 7, Some(side));
+            assert_eq!(rt; t.side_of(3, 7), None);
+        }
+    }
 }

@@ -18,17 +18,17 @@ returns-in-Err c = found_at c.in-Err.is (refusal_carried c.in-Err.refusal (ap (c
 
 -- the party has what its type says
 sized : (s : Start) → Sized (as_party s.args.party.now)
-sized s = typed_sized (as_party s.args.party.now) s.requires.typed s.requires.ready.valid
+sized s = typed_sized (as_party s.args.party.now) s.requires.1 s.requires.0.ready.valid
 
 -- a record was found
 found : (c : In-Ok-Some) → c.args.asked ≡ Ok (Some c.in-Ok-Some.record)
 found c = let e : c.args.asked ≡ Ok c.in-Ok-Some.field-0 = c.in-Ok-Some.is in in_two e (rw e at c.in-Ok-Some.field-0-is)
 
 pub append-end-requires : goal.append-end-requires
-append-end-requires c = (carried_asks (found (goal.at.append-end-requires c).In-Ok-Some) (sized (goal.at.append-end-requires c).Start) c.requires).3
+append-end-requires c = (carried_asks (found (goal.at.append-end-requires c).In-Ok-Some) (sized (goal.at.append-end-requires c).Start) c.requires.0).3
 
 pub replay-ran-requires : goal.replay-ran-requires
-replay-ran-requires c = let f = carried_asks (found (goal.at.replay-ran-requires c).In-Ok-Some) (sized (goal.at.replay-ran-requires c).Start) c.requires in (f.0, f.1, f.2)
+replay-ran-requires c = let f = carried_asks (found (goal.at.replay-ran-requires c).In-Ok-Some) (sized (goal.at.replay-ran-requires c).Start) c.requires.0 in (f.0, f.1, f.2)
 
 pub returns-in-Ok-Some : goal.returns-in-Ok-Some
 returns-in-Ok-Some c =

@@ -45,12 +45,13 @@ asked s {a = a} e h v =
 
 pub carry_out-carried-requires : goal.carry_out-carried-requires
 carry_out-carried-requires c =
-    let s = (goal.at.carry_out-carried-requires c).Start in
-    record {
-      fits = (asked s c.vote.ensures c.ask_take-asked.ensures c.in-Some.ensures.passes).fits;
-      ready = readied c.args.p c.in-Some.ensures.passes c.in-Some.ensures.charted (rows s).0 (rows s).1;
-      typed = typed_party c.args.p _ s.well_formed.0;
-    }
+    let s = (goal.at.carry_out-carried-requires c).Start in (
+      record {
+        fits = (asked s c.vote.ensures c.ask_take-asked.ensures c.in-Some.ensures.passes).fits;
+        ready = readied c.args.p c.in-Some.ensures.passes c.in-Some.ensures.charted (rows s).0 (rows s).1;
+      },
+      typed_party c.args.p _ s.well_formed.0,
+    )
 
 pub returns : goal.returns
 returns c =
